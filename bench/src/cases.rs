@@ -1,0 +1,112 @@
+//! What is timed: in each case both sides take the same passes.
+use embassy_sync::blocking_mutex::raw::NoopRawMutex;
+
+use crate::host_mutex::HostMutex;
+use crate::{ours, upstream, Pass};
+
+pub enum Ours {
+    /// An export of the static library: a state form, with no lock.
+    Export(Pass),
+    /// A case of the Rattle program over the shared forms, with a lock.
+    Program(&'static str),
+}
+
+pub struct Case {
+    pub name: &'static str,
+    pub ours: Ours,
+    pub upstream: Pass,
+}
+
+const fn state(name: &'static str, ours: Pass, upstream: Pass) -> Case {
+    Case {
+        name,
+        ours: Ours::Export(ours),
+        upstream,
+    }
+}
+
+const fn shared(name: &'static str, case: &'static str, upstream: Pass) -> Case {
+    Case {
+        name,
+        ours: Ours::Program(case),
+        upstream,
+    }
+}
+
+pub const CASES: [Case; 15] = [
+    state(
+        "channel_ping_pong_4",
+        ours::ping_pong_4,
+        upstream::ping_pong::<NoopRawMutex, 4>,
+    ),
+    state(
+        "channel_ping_pong_64",
+        ours::ping_pong_64,
+        upstream::ping_pong::<NoopRawMutex, 64>,
+    ),
+    state(
+        "channel_ping_pong_1024",
+        ours::ping_pong_1024,
+        upstream::ping_pong::<NoopRawMutex, 1024>,
+    ),
+    state(
+        "channel_ping_pong_4096",
+        ours::ping_pong_4096,
+        upstream::ping_pong::<NoopRawMutex, 4096>,
+    ),
+    state(
+        "channel_fill_drain_4",
+        ours::fill_drain_4,
+        upstream::fill_drain::<NoopRawMutex, 4>,
+    ),
+    state(
+        "channel_fill_drain_64",
+        ours::fill_drain_64,
+        upstream::fill_drain::<NoopRawMutex, 64>,
+    ),
+    state(
+        "channel_fill_drain_1024",
+        ours::fill_drain_1024,
+        upstream::fill_drain::<NoopRawMutex, 1024>,
+    ),
+    state(
+        "channel_fill_drain_4096",
+        ours::fill_drain_4096,
+        upstream::fill_drain::<NoopRawMutex, 4096>,
+    ),
+    state(
+        "channel_wait_and_wake",
+        ours::wait_and_wake,
+        upstream::wait_and_wake::<NoopRawMutex>,
+    ),
+    state(
+        "priority_fill_drain_64",
+        ours::priority_fill_drain_64,
+        upstream::priority_fill_drain::<NoopRawMutex>,
+    ),
+    state(
+        "priority_steady_64",
+        ours::priority_steady_64,
+        upstream::priority_steady::<NoopRawMutex>,
+    ),
+    state(
+        "signal_take",
+        ours::signal_take,
+        upstream::signal_take::<NoopRawMutex>,
+    ),
+    shared(
+        "shared_ping_pong_4",
+        "ping_pong",
+        upstream::ping_pong::<HostMutex, 4>,
+    ),
+    shared(
+        "shared_wait_and_wake",
+        "wait_and_wake",
+        upstream::wait_and_wake::<HostMutex>,
+    ),
+    shared(
+        "shared_signal_take",
+        "signal_take",
+        upstream::signal_take::<HostMutex>,
+    ),
+];

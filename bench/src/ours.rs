@@ -1,0 +1,73 @@
+//! Our side: one call takes a whole pass over the messages.
+use std::path::Path;
+use std::process::Command;
+use std::time::Duration;
+
+use crate::Answer;
+
+/// How the static library's exports are called: a slice is a pointer and then a length.
+type Export = unsafe extern "C" fn(*const u32, usize, *mut u64, usize) -> u64;
+
+macro_rules! exports {
+    ($($name:ident = $export:ident;)*) => {
+        extern "C" {
+            $(fn $export(messages: *const u32, count: usize, woken: *mut u64, tasks: usize) -> u64;)*
+        }
+
+        $(pub fn $name(messages: &[u32]) -> Answer {
+            pass($export, messages)
+        })*
+    };
+}
+
+exports! {
+    ping_pong_4 = esync_bench_channel_ping_pong_4;
+    ping_pong_64 = esync_bench_channel_ping_pong_64;
+    ping_pong_1024 = esync_bench_channel_ping_pong_1024;
+    ping_pong_4096 = esync_bench_channel_ping_pong_4096;
+    fill_drain_4 = esync_bench_channel_fill_drain_4;
+    fill_drain_64 = esync_bench_channel_fill_drain_64;
+    fill_drain_1024 = esync_bench_channel_fill_drain_1024;
+    fill_drain_4096 = esync_bench_channel_fill_drain_4096;
+    wait_and_wake = esync_bench_channel_wait_and_wake;
+    priority_fill_drain_64 = esync_bench_priority_fill_drain_64;
+    priority_steady_64 = esync_bench_priority_steady_64;
+    signal_take = esync_bench_signal_take;
+}
+
+fn pass(export: Export, messages: &[u32]) -> Answer {
+    let mut woken = [0];
+    // An export requires nothing but two slices that nobody else writes.
+    let total = unsafe {
+        export(
+            messages.as_ptr(),
+            messages.len(),
+            woken.as_mut_ptr(),
+            woken.len(),
+        )
+    };
+    Answer {
+        total,
+        woken: woken[0],
+    }
+}
+
+/// Runs the Rattle program over the shared forms: what its last pass answered, and the time of its fastest.
+pub fn run_shared(case: &str, passes: usize) -> (Answer, Duration) {
+    let program = Path::new(env!("CARGO_MANIFEST_DIR"))
+        .join("../crates/esync_bench_shared/out/esync_bench_shared");
+    let output = Command::new(program)
+        .args([case, &passes.to_string(), "time"])
+        .output()
+        .expect("the program over the shared forms is built");
+    assert!(output.status.success(), "{output:?}");
+    let text = String::from_utf8(output.stdout).expect("it prints numbers");
+    let numbers: Vec<u64> = text
+        .split_whitespace()
+        .map(|word| word.parse().expect("it prints numbers"))
+        .collect();
+    let &[total, woken, nanoseconds] = numbers.as_slice() else {
+        panic!("it prints three numbers: {text}");
+    };
+    (Answer { total, woken }, Duration::from_nanos(nanoseconds))
+}

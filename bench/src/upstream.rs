@@ -1,0 +1,222 @@
+//! The same passes over embassy-sync, in the same shapes.
+use std::cell::Cell;
+use std::future::Future;
+use std::pin::pin;
+use std::sync::atomic::{AtomicU64, Ordering};
+use std::task::{Context, Poll, RawWaker, RawWakerVTable, Waker};
+
+use embassy_sync::blocking_mutex::raw::RawMutex;
+use embassy_sync::channel::Channel;
+use embassy_sync::priority_channel::{Max, PriorityChannel};
+use embassy_sync::signal::Signal;
+
+use crate::Answer;
+
+/// A word that is read between two calls, as in the static library.
+struct Turn(AtomicU64);
+
+impl Turn {
+    fn new() -> Self {
+        Turn(AtomicU64::new(0))
+    }
+
+    fn next(&self) {
+        let _ = self.0.load(Ordering::SeqCst);
+    }
+}
+
+/// The cheapest waker that counts: a pointer to the count, which a clone copies and a drop leaves alone.
+const COUNTING: RawWakerVTable = RawWakerVTable::new(
+    |count| RawWaker::new(count, &COUNTING),
+    |count| add_wake(count),
+    |count| add_wake(count),
+    |_| (),
+);
+
+fn add_wake(count: *const ()) {
+    // Only `counted` makes such a waker, and its count outlives the pass.
+    let count = unsafe { &*count.cast::<Cell<u64>>() };
+    count.set(count.get().wrapping_add(1));
+}
+
+fn counted(count: &Cell<u64>) -> Waker {
+    let count: *const Cell<u64> = count;
+    // The table does what a waker's table has to do.
+    unsafe { Waker::from_raw(RawWaker::new(count.cast(), &COUNTING)) }
+}
+
+fn answer(total: u64, woken: u64) -> Answer {
+    Answer { total, woken }
+}
+
+#[inline(never)]
+fn ping_pong_through<M: RawMutex, const N: usize>(
+    channel: &Channel<M, u32, N>,
+    messages: &[u32],
+    turn: &Turn,
+) -> u64 {
+    let mut total = 0u64;
+    for message in messages {
+        let _ = channel.try_send(*message);
+        turn.next();
+        total = total.wrapping_add(channel.try_receive().unwrap_or(0).into());
+        turn.next();
+    }
+    total
+}
+
+pub fn ping_pong<M: RawMutex, const N: usize>(messages: &[u32]) -> Answer {
+    answer(
+        ping_pong_through(&Channel::<M, u32, N>::new(), messages, &Turn::new()),
+        0,
+    )
+}
+
+#[inline(never)]
+fn fill_and_drain_through<M: RawMutex, const N: usize>(
+    channel: &Channel<M, u32, N>,
+    messages: &[u32],
+    turn: &Turn,
+) -> u64 {
+    let mut total = 0u64;
+    for chunk in messages.chunks(N) {
+        for message in chunk {
+            let _ = channel.try_send(*message);
+            turn.next();
+        }
+        for _ in chunk {
+            total = total.wrapping_add(channel.try_receive().unwrap_or(0).into());
+            turn.next();
+        }
+    }
+    total
+}
+
+pub fn fill_drain<M: RawMutex, const N: usize>(messages: &[u32]) -> Answer {
+    answer(
+        fill_and_drain_through(&Channel::<M, u32, N>::new(), messages, &Turn::new()),
+        0,
+    )
+}
+
+#[inline(never)]
+fn wait_and_wake_through<M: RawMutex>(
+    channel: &Channel<M, u32, 4>,
+    messages: &[u32],
+    cx: &mut Context<'_>,
+    turn: &Turn,
+) -> u64 {
+    let mut total = 0u64;
+    for message in messages {
+        let mut receiving = pin!(channel.receive());
+        if let Poll::Ready(message) = receiving.as_mut().poll(cx) {
+            total = total.wrapping_add(message.into());
+        }
+        turn.next();
+        let _ = channel.try_send(*message);
+        turn.next();
+        if let Poll::Ready(message) = receiving.as_mut().poll(cx) {
+            total = total.wrapping_add(message.into());
+        }
+        turn.next();
+    }
+    total
+}
+
+pub fn wait_and_wake<M: RawMutex>(messages: &[u32]) -> Answer {
+    let count = Cell::new(0);
+    let waker = counted(&count);
+    let total = wait_and_wake_through(
+        &Channel::<M, u32, 4>::new(),
+        messages,
+        &mut Context::from_waker(&waker),
+        &Turn::new(),
+    );
+    answer(total, count.get())
+}
+
+#[inline(never)]
+fn priority_fill_and_drain_through<M: RawMutex>(
+    channel: &PriorityChannel<M, u32, Max, 64>,
+    messages: &[u32],
+    turn: &Turn,
+) -> u64 {
+    let mut total = 0u64;
+    for chunk in messages.chunks(64) {
+        for message in chunk {
+            let _ = channel.try_send(*message);
+            turn.next();
+        }
+        for _ in chunk {
+            total = total.wrapping_add(channel.try_receive().unwrap_or(0).into());
+            turn.next();
+        }
+    }
+    total
+}
+
+pub fn priority_fill_drain<M: RawMutex>(messages: &[u32]) -> Answer {
+    answer(
+        priority_fill_and_drain_through(
+            &PriorityChannel::<M, u32, Max, 64>::new(),
+            messages,
+            &Turn::new(),
+        ),
+        0,
+    )
+}
+
+#[inline(never)]
+fn priority_steady_through<M: RawMutex>(
+    channel: &PriorityChannel<M, u32, Max, 64>,
+    messages: &[u32],
+    turn: &Turn,
+) -> u64 {
+    let mut total = 0u64;
+    let (first, rest) = messages.split_at(messages.len().min(32));
+    for message in first {
+        let _ = channel.try_send(*message);
+        turn.next();
+    }
+    for message in rest {
+        let _ = channel.try_send(*message);
+        turn.next();
+        total = total.wrapping_add(channel.try_receive().unwrap_or(0).into());
+        turn.next();
+    }
+    for _ in 0..channel.len() {
+        total = total.wrapping_add(channel.try_receive().unwrap_or(0).into());
+        turn.next();
+    }
+    total
+}
+
+pub fn priority_steady<M: RawMutex>(messages: &[u32]) -> Answer {
+    answer(
+        priority_steady_through(
+            &PriorityChannel::<M, u32, Max, 64>::new(),
+            messages,
+            &Turn::new(),
+        ),
+        0,
+    )
+}
+
+#[inline(never)]
+fn signal_take_through<M: RawMutex>(signal: &Signal<M, u32>, messages: &[u32], turn: &Turn) -> u64 {
+    let mut total = 0u64;
+    for message in messages {
+        signal.signal(*message);
+        turn.next();
+        total = total.wrapping_add(signal.try_take().unwrap_or(0).into());
+        turn.next();
+    }
+    total
+}
+
+pub fn signal_take<M: RawMutex>(messages: &[u32]) -> Answer {
+    answer(
+        signal_take_through(&Signal::<M, u32>::new(), messages, &Turn::new()),
+        0,
+    )
+}

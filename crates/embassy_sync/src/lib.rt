@@ -1,0 +1,10 @@
+//! Synchronization primitives for tasks that are polled, under upstream's paths.
+//!
+//! Each module is that of a crate below. `run` has the primitives as machines that take commands.
+#![tactic(auto)]
+
+pub use esync_base::{blocking_mutex, waitqueue};
+pub use esync_cells::signal;
+pub use esync_channel::channel;
+pub use esync_priority::priority_channel;
+pub use esync_run as run;

@@ -1,0 +1,4 @@
+pub mod Rows
+pub mod Registration
+pub mod Keeping
+pub mod Room

@@ -1,0 +1,8 @@
+//! Wakers, where they are registered and handed out, and the queue that channels stand on.
+#![tactic(auto)]
+
+pub mod blocking_mutex;
+pub mod deque;
+pub mod shared;
+pub mod store;
+pub mod waitqueue;

@@ -1,0 +1,60 @@
+//! A state that tasks on several threads share, and the hand that wakes them: what every shared form stands on.
+ghost use Rattle.esync_base.specs.Room.{WakesFitInMemory};
+
+use crate::blocking_mutex::CriticalSectionMutex;
+use crate::waitqueue::{Hand, Wakes};
+use std::marker::PhantomData;
+use std::sync::MutexGuard;
+
+/// A state under a lock, and the hand that gets the wakers that its steps hand out.
+#[derive(Drop)]
+pub struct Shared<V, W, H> {
+    state: CriticalSectionMutex<V>,
+    hand: H,
+    wakers: PhantomData<W>,
+}
+
+impl<V, W: Copy, H: Hand<W>> Shared<V, W, H> {
+    pub fn new(state: V, hand: H) -> Self {
+        Shared {
+            state: CriticalSectionMutex::new(state),
+            hand,
+            wakers: PhantomData,
+        }
+    }
+
+    /// Takes the lock, until the guard is dropped.
+    pub fn guard(&self) -> MutexGuard<'_, V>
+        ensures { WakesFitInMemory W.row }
+    {
+        self.state.guard(self.hand.rt())
+    }
+
+    /// Gives the wakers to the hand, in order.
+    pub fn wake<const K: usize>(&self, wakes: &Wakes<W, K>) {
+        for waker in wakes.as_slice() {
+            if let Some(waker) = waker {
+                self.hand.wake(*waker);
+            }
+        }
+    }
+
+    /// The state, which nobody else has while it is borrowed.
+    pub fn get_mut(&mut self) -> &mut V {
+        self.state.get_mut()
+    }
+}
+
+/// A step of a shared state: takes the lock, makes the call, releases the lock, and then gives the wakers that the call handed
+/// out to the hand.
+#[macro_export]
+macro_rules! step {
+    ($shared:expr, |$state:ident, $wakes:ident| $call:expr) => {{
+        let mut $state = $shared.guard();
+        let mut $wakes = $crate::waitqueue::Wakes::<_, 1>::new();
+        let answer = $call;
+        drop($state);
+        $shared.wake(&$wakes);
+        answer
+    }};
+}

@@ -1,0 +1,269 @@
+//! Wakers, the places where they wait, and the lists in which a step hands them out.
+ghost use Rattle.std.specs.Prelude.{◌≡◌, ℕ, ◌<◌, ◌≤◌, ◌++◌, [], ◌∷◌, length, slice_get, slice_index_or, slice_set, Some, ◌↔◌, IsTrue};
+ghost use Rattle.esync_base.specs.Rows.{items_of};
+ghost use Rattle.esync_base.specs.Registration.{registered, displaced};
+
+use std::alloc::AllocError;
+use std::fmt;
+use std::marker::Model;
+use std::sync::Wait;
+
+/// What a poll answers.
+#[derive(Clone, Copy, Debug, PartialEq, Eq)]
+pub enum Poll<T> {
+    Ready(T),
+    Pending,
+}
+
+/// What a poll is given: the waker of the task that polls.
+#[derive(Debug)]
+pub struct Context<W> {
+    waker: W,
+}
+
+impl<W> Model for Context<W> {
+    ghost Value = { W };
+
+    ghost view = { λ a. a.waker };
+
+    ghost inverse = { λ w. record { waker = w } };
+}
+
+impl<W: Copy> Clone for Context<W> {
+    ghost use Rattle.std.specs.Prelude.{◌≡◌};
+
+    ghost is_clone = { λ s r. r ≡ s };
+
+    ghost is_infallible = { λ _. Unit {0} };
+
+    fn clone(&self) -> Result<Self, AllocError> {
+        Ok(*self)
+    }
+}
+
+impl<W: Copy> Copy for Context<W> {}
+
+impl<W: Copy> Context<W> {
+    pub fn from_waker(waker: W) -> Self
+        ensures { result ≡ waker }
+    {
+        Context { waker }
+    }
+
+    pub fn waker(&self) -> W
+        ensures { result ≡ self.now }
+    {
+        self.waker
+    }
+}
+
+/// The waker of a task that an executor knows by its number.
+#[derive(Clone, Copy, Debug, PartialEq, Eq, PartialOrd, Ord, Hash)]
+pub struct TaskId(pub u64);
+
+// K places.
+struct Row<W, const K: usize> {
+    places: [Option<W>; K],
+}
+
+impl<W: Copy, const K: usize> Clone for Row<W, K> {
+    ghost use Rattle.std.specs.Prelude.{◌≡◌};
+
+    ghost is_clone = { λ s r. r ≡ s };
+
+    ghost is_infallible = { λ _. Unit {0} };
+
+    fn clone(&self) -> Result<Self, AllocError> {
+        Ok(*self)
+    }
+}
+
+impl<W: Copy, const K: usize> Copy for Row<W, K> {}
+
+impl<W: Copy, const K: usize> Row<W, K> {
+    fn get(&self, i: usize) -> Option<W>
+        requires { i < K }
+        ensures { result ≡ slice_index_or self.now.places i result }
+    {
+        self.places[i]
+    }
+
+    fn put(&mut self, i: usize, waker: W)
+        requires { i < K }
+        ensures { self.new.places ≡ slice_set self.old.places i (Some waker) }
+    {
+        self.places[i] = Some(waker);
+    }
+}
+
+/// The wakers that a step hands out, in order: at most `K`, in a row of its own.
+///
+/// A step appends to the list that it is handed, so what is made of several steps can hand them the same one.
+pub struct Wakes<W, const K: usize> {
+    row: Row<W, K>,
+    len: usize,
+}
+
+impl<W: Copy, const K: usize> Clone for Wakes<W, K> {
+    ghost use Rattle.std.specs.Prelude.{◌≡◌};
+
+    ghost is_clone = { λ s r. r ≡ s };
+
+    ghost is_infallible = { λ _. Unit {0} };
+
+    fn clone(&self) -> Result<Self, AllocError> {
+        Ok(*self)
+    }
+}
+
+impl<W: Copy, const K: usize> Copy for Wakes<W, K> {}
+
+impl<W, const K: usize> Model for Wakes<W, K> {
+    ghost use Rattle.std.specs.Prelude.{List, length, ◌≤◌};
+    ghost use Rattle.esync_base.specs.Rows.{items_of, row_of, IsRow};
+
+    ghost Value = { List W };
+
+    ghost view = { λ a. items_of a.row.places };
+
+    ghost invariant = { λ a. IsRow K a.row.places a.len };
+
+    ghost inverse = { λ xs. record { row = record { places = row_of K xs }; len = length xs } };
+}
+
+impl<W: Copy, const K: usize> Wakes<W, K> {
+    /// An empty list.
+    pub fn new() -> Self
+        ensures { result ≡ [] }
+    {
+        Wakes {
+            row: Row { places: [None; K] },
+            len: 0,
+        }
+    }
+
+    pub fn len(&self) -> usize
+        ensures value { result ≡ length self.now }
+        ensures within { result ≤ K }
+    {
+        self.len
+    }
+
+    pub fn is_empty(&self) -> bool
+        ensures { IsTrue result ↔ (self.now ≡ []) }
+    {
+        self.len == 0
+    }
+
+    /// All `K` places: the wakers in order, and then `None`.
+    pub fn as_slice(&self) -> &[Option<W>]
+        ensures { items_of result.now ≡ self.now }
+    {
+        &self.row.places
+    }
+
+    pub fn get(&self, i: usize) -> Option<W>
+        ensures { result ≡ slice_get self.now i }
+    {
+        if i < self.len { self.row.get(i) } else { None }
+    }
+
+    /// Appends a waker. There has to be room for it.
+    pub fn push(&mut self, waker: W)
+        requires { length self.old < K }
+        ensures { self.new ≡ self.old ++ waker ∷ [] }
+    {
+        self.row.put(self.len, waker);
+        self.len += 1;
+    }
+}
+
+/// A slot for the waker of one task.
+#[derive(Drop)]
+pub struct WakerRegistration<W> {
+    waker: Option<W>,
+}
+
+impl<W> Model for WakerRegistration<W> {
+    ghost use Rattle.std.specs.Prelude.{List};
+    ghost use Rattle.esync_base.specs.Registration.{slot_wakers};
+
+    ghost Value = { List W };
+
+    ghost view = { λ a. slot_wakers a.waker };
+}
+
+impl<W> Default for WakerRegistration<W> {
+    fn default() -> Self {
+        WakerRegistration { waker: None }
+    }
+}
+
+impl<W: fmt::Debug> fmt::Debug for WakerRegistration<W> {
+    fn fmt<F: fmt::Write>(&self, f: &mut fmt::Formatter<F>) -> fmt::Result {
+        f.debug_struct("WakerRegistration")
+            .field("waker", &self.waker)
+            .finish()
+    }
+}
+
+impl<W: Copy + Eq> WakerRegistration<W> {
+    /// An empty slot.
+    pub fn new() -> Self
+        ensures { result ≡ [] }
+    {
+        WakerRegistration { waker: None }
+    }
+
+    /// Registers a waker. One that equals the registered one changes nothing, and another displaces it: the task
+    /// that waited is woken, so that it can register again if it still waits.
+    pub fn register<const K: usize>(&mut self, waker: W, wakes: &mut Wakes<W, K>)
+        requires { length wakes.old < K }
+        ensures registered { self.new ≡ registered W.eq 1 self.old waker }
+        ensures displaced { wakes.new ≡ wakes.old ++ displaced W.eq 1 self.old waker }
+    {
+        if let Some(old) = self.waker {
+            if old == waker {
+                return;
+            }
+            wakes.push(old);
+        }
+        self.waker = Some(waker);
+    }
+
+    /// Hands out the registered waker, if there is one, and empties the slot.
+    pub fn wake<const K: usize>(&mut self, wakes: &mut Wakes<W, K>)
+        requires { length wakes.old < K }
+        ensures emptied { self.new ≡ [] }
+        ensures handed_out { wakes.new ≡ wakes.old ++ self.old }
+    {
+        if let Some(waker) = self.waker {
+            wakes.push(waker);
+            self.waker = None;
+        }
+    }
+
+    /// A waker is registered.
+    pub fn occupied(&self) -> bool
+        ensures { IsTrue result ↔ (length self.now ≡ 1) }
+    {
+        self.waker.is_some()
+    }
+}
+
+/// Who acts on the wakers that a shared form hands out, and lends it what may wait for a lock.
+///
+/// A shared call takes its lock, takes its step, releases the lock, and then gives each waker that the step handed out to
+/// `wake`, in order. So does what is dropped.
+pub trait Hand<W> {
+    type Rt: Wait;
+
+    ghost use Rattle.esync_base.specs.Room.{WakesFitInMemory};
+
+    /// What may wait for a lock.
+    fn rt(&self) -> &Self::Rt
+        ensures { WakesFitInMemory W.row };
+
+    /// Wakes the task of a waker.
+    fn wake(&self, waker: W);
+}

@@ -1,0 +1,10 @@
+//! Batches of calls on the state forms, for a program that times them beside upstream's.
+//!
+//! Each export takes one pass over the messages that it is given: each goes in and comes out again. It returns the sum of what
+//! came out, which is the sum of what went in, and counts in `woken` how often each task was woken.
+#![tactic(auto)]
+
+pub mod channel;
+pub mod priority;
+pub mod signal;
+pub mod tasks;

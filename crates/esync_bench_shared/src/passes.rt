@@ -1,0 +1,114 @@
+//! The passes, in the shapes of the static library's.
+use esync_base::waitqueue::{Context, Hand, Poll, TaskId};
+use esync_cells::signal::Signal;
+use esync_channel::channel::Channel;
+use std::cell::Cell;
+use std::sync::Wait;
+
+/// What a pass answers.
+#[derive(Clone, Copy, Default)]
+pub struct Answer {
+    /// The sum of the messages that came out.
+    pub total: u64,
+    /// How often the task was woken.
+    pub woken: u64,
+}
+
+/// What a pass does with each message.
+#[derive(Clone, Copy)]
+pub enum Case {
+    /// It is sent and then received.
+    PingPong,
+    /// The task polls and waits, the message is sent, which wakes it, and it polls again.
+    WaitAndWake,
+    /// It is signaled and then taken.
+    SignalTake,
+}
+
+impl Case {
+    pub fn named(name: &str) -> Option<Case> {
+        match name {
+            "ping_pong" => Some(Case::PingPong),
+            "wait_and_wake" => Some(Case::WaitAndWake),
+            "signal_take" => Some(Case::SignalTake),
+            _ => None,
+        }
+    }
+
+    pub fn pass<R: Wait>(self, rt: &R, messages: &[u32]) -> Answer {
+        let hand = Counting {
+            rt,
+            woken: Cell::new(0),
+        };
+        let total = match self {
+            Case::PingPong => ping_pong(&Channel::new(&hand), messages),
+            Case::WaitAndWake => wait_and_wake(&Channel::new(&hand), messages),
+            Case::SignalTake => signal_take(&Signal::new(&hand), messages),
+        };
+        Answer {
+            total,
+            woken: hand.woken.get(),
+        }
+    }
+}
+
+// A hand that counts the wakes of the one task.
+#[derive(Drop)]
+struct Counting<'a, R> {
+    rt: &'a R,
+    woken: Cell<u64>,
+}
+
+impl<R: Wait> Hand<TaskId> for &Counting<'_, R> {
+    type Rt = R;
+
+    fn rt(&self) -> &R {
+        self.rt
+    }
+
+    fn wake(&self, _waker: TaskId) {
+        self.woken.set(self.woken.get().wrapping_add(1));
+    }
+}
+
+type Pipe<'a, R> = Channel<u32, TaskId, &'a Counting<'a, R>, 4>;
+
+#[inline(never)]
+fn ping_pong<R: Wait>(channel: &Pipe<'_, R>, messages: &[u32]) -> u64 {
+    let mut total = 0u64;
+    for message in messages {
+        let _ = channel.try_send(*message);
+        total = total.wrapping_add(u64::from(channel.try_receive().unwrap_or(0)));
+    }
+    total
+}
+
+#[inline(never)]
+fn wait_and_wake<R: Wait>(channel: &Pipe<'_, R>, messages: &[u32]) -> u64 {
+    let cx = Context::from_waker(TaskId(0));
+    let mut total = 0u64;
+    for message in messages {
+        let mut receiving = channel.receive();
+        if let Poll::Ready(message) = receiving.poll(&cx) {
+            total = total.wrapping_add(u64::from(message));
+        }
+        let _ = channel.try_send(*message);
+        if let Poll::Ready(message) = receiving.poll(&cx) {
+            total = total.wrapping_add(u64::from(message));
+        }
+    }
+    total
+}
+
+#[inline(never)]
+fn signal_take<'a, R: Wait>(
+    signal: &Signal<u32, TaskId, &'a Counting<'a, R>>,
+    messages: &[u32],
+) -> u64 {
+    let mut total = 0u64;
+    for message in messages {
+        signal.signal(*message);
+        total = total.wrapping_add(u64::from(signal.try_take().unwrap_or(0)));
+    }
+    total
+}

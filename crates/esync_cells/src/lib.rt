@@ -1,0 +1,4 @@
+//! Primitives that hold one value.
+#![tactic(auto)]
+
+pub mod signal;

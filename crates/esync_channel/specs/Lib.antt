@@ -1,0 +1,3 @@
+pub mod Mailbox
+pub mod Channel
+pub mod Polls

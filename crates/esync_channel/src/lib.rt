@@ -1,0 +1,4 @@
+//! A queue for sending values between tasks.
+#![tactic(auto)]
+
+pub mod channel;

@@ -1,0 +1,6 @@
+pub mod Lines
+pub mod Fitting
+pub mod Turning
+pub mod Kept
+pub mod Stalling
+pub mod Starting

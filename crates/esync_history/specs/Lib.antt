@@ -1,0 +1,6 @@
+pub mod Line
+pub mod Todo
+pub mod Suited
+pub mod Turns
+pub mod Standing
+pub mod Requests

@@ -1,0 +1,57 @@
+-- Where the tasks stand that wait for no turn.
+use Rattle.std.specs.Prelude.{◌≡◌, ℕ, true, false, List, [], ◌∷◌, Some, None, ◌⊎◌, slice_get}
+use Rattle.std.specs.List.{list_any}
+use Rattle.esync_base.specs.declared.waitqueue.TaskId.{TaskId}
+use Rattle.esync_machine.specs.Runs.{Meaning, IsIdle}
+use Rattle.esync_history.specs.declared.executor.Act.{Act}
+use Rattle.esync_history.specs.declared.executor.Act.TheVariants.{Await, Call}
+use Rattle.esync_history.specs.Line.{Line, is_queued}
+use Rattle.esync_history.specs.Suited.{awaits_at}
+use Rattle.esync_history.specs.Todo.{Todo, has_ended, IsOrderly}
+
+-- the task stands at the request, or has still to await it
+abbrev pub Uses : {Ask Command : Type 0} → ℕ → Todo Ask Command → Type 0
+Uses r task = (task.request ≡ Some r) ⊎ (list_any (awaits_at r) task.acts ≡ true)
+
+module _ {Command Reply : Type 0} (M : Meaning Command Reply TaskId) where
+  -- What a machine keeps to, so that it can be told where its tasks stand.
+  pub record KeepsRequests : Type 0 where
+    -- a start polls nothing
+    pub apart : (c : Command) (r : ℕ) → M.starts c ≡ Some r → M.polls c ≡ None
+    -- a command ends a request or doesn't
+    pub decided : (o : M.Object) (c : Command) (r : ℕ) → M.Ends o c r ⊎ (M.Ends o c r → ⊥)
+    -- a request that was ended is gone
+    pub gone : (o o2 : M.Object) (c : Command) (a : Reply) (r : ℕ) → M.allows o c a o2 → M.Ends o c r → M.IsLive o2 r → ⊥
+    -- a request is there if it was there before, or was started
+    pub made : (o o2 : M.Object) (c : Command) (a : Reply) (r : ℕ) → M.allows o c a o2 → M.IsLive o2 r → (M.starts c ≡ Some r) ⊎ M.IsLive o r
+    -- wakers that are equal name the same task
+    pub same : (v w : TaskId) → M.same v w ≡ true → v ≡ w
+
+  -- no Call among the acts starts or polls
+  abbrev pub ArePlain : {Ask : Type 0} → List (Act Ask Command) → Type 0
+  ArePlain [] = Unit {0}
+  ArePlain (Await r ask ∷ acts) = ArePlain acts
+  ArePlain (Call c ∷ acts) = (M.starts c ≡ None) × (M.polls c ≡ None) × ArePlain acts
+
+  module _ {S : Type 0} (object : S → M.Object) (Owes : S → ℕ → TaskId → Type 0) where
+    -- the request was ended, or its waker is registered where it will be handed out
+    abbrev pub IsStanding : S → ℕ → TaskId → Type 0
+    IsStanding m r w = (M.IsLive (object m) r → ⊥) ⊎ Owes m r w
+
+    -- The tasks use different numbers, and each that is neither queued nor ended stands at such a request.
+    pub record AreStanding {Ask : Type 0} (m : S) (tasks : List (Todo Ask Command)) (queue : List ℕ) : Type 0 where
+      pub apart : (j k : ℕ) (s t : Todo Ask Command) (r : ℕ) → slice_get tasks j ≡ Some s → slice_get tasks k ≡ Some t → Uses r s → Uses r t → j ≡ k
+      pub plain : (k : ℕ) (t : Todo Ask Command) → slice_get tasks k ≡ Some t → ArePlain t.acts
+      pub idle : (k : ℕ) (t : Todo Ask Command) → slice_get tasks k ≡ Some t → has_ended t ≡ false → is_queued k queue ≡ false → (r : ℕ) × (t.request ≡ Some r) × IsStanding m r (record { 0 = k })
+
+    -- What holds between two turns.
+    pub record IsBetweenTurns {Ask : Type 0} (m : S) (tasks : List (Todo Ask Command)) (queue : Line) : Type 0 where
+      pub orderly : IsOrderly tasks queue
+      pub standing : KeepsRequests → AreStanding m tasks queue.numbers
+
+  -- Each task that hasn't ended stands at an Await. Its request was ended, or a poll may now be answered Pending with the object
+  -- left as it is.
+  abbrev pub AreStalled : {Ask : Type 0} → M.Object → List (Todo Ask Command) → Type 0
+  AreStalled {Ask} o tasks =
+      (k : ℕ) (t : Todo Ask Command) → slice_get tasks k ≡ Some t → has_ended t ≡ false
+      → (r : ℕ) × (t.request ≡ Some r) × ((M.IsLive o r → ⊥) ⊎ IsIdle M o r)

@@ -1,0 +1,8 @@
+//! What is kept of a machine's calls, and an executor of tasks over any machine.
+#![tactic(auto)]
+
+pub mod executor;
+mod queue;
+mod suited;
+mod task;
+mod turn;

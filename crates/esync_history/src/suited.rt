@@ -1,0 +1,85 @@
+//! Which tasks an executor takes.
+ghost use Rattle.std.specs.Prelude.{◌≡◌, ◌++◌, map, ◌↔◌, IsTrue};
+ghost use Rattle.std.specs.List.{list_any};
+ghost use Rattle.esync_history.specs.Suited.{awaits_at, all_acts, IsSuited, AreSuited};
+
+use crate::executor::Act;
+use esync_base::waitqueue::TaskId;
+use esync_machine::run::Awaits;
+
+// Whether the act awaits the request at the number.
+fn awaits_at<A, C>(act: &Act<A, C>, r: usize) -> bool
+    ensures { result ≡ awaits_at r act.now }
+{
+    match act {
+        Act::Await(number, _) => *number == r,
+        Act::Call(_) => false,
+    }
+}
+
+// Whether one of the acts does.
+fn any_awaits_at<A, C>(acts: &[Act<A, C>], r: usize) -> bool
+    ensures { result ≡ list_any (awaits_at r) acts.now }
+{
+    acts.iter().any(|act| awaits_at(act, r))
+}
+
+// Whether one of the acts of the tasks does.
+fn any_task_awaits_at<A, C>(tasks: &[Vec<Act<A, C>>], r: usize) -> bool
+    ensures { result ≡ list_any (λ acts. list_any (awaits_at r) acts.items) tasks.now }
+{
+    tasks.iter().any(|acts| any_awaits_at(acts, r))
+}
+
+// Whether one of the acts does that come after another: those behind it in its task, and those of the later tasks.
+fn later_awaits_at<A, C>(behind: &[Act<A, C>], later: &[Vec<Act<A, C>>], r: usize) -> bool
+    ensures { result ≡ list_any (awaits_at r) (behind.now ++ all_acts (map (λ acts. acts.items) later.now)) }
+{
+    any_awaits_at(behind, r) || any_task_awaits_at(later, r)
+}
+
+// The act is suited, before those that come after it.
+fn is_suited<M: Awaits<Waker = TaskId>>(
+    act: &Act<M::Ask, M::Command>,
+    behind: &[Act<M::Ask, M::Command>],
+    later: &[Vec<Act<M::Ask, M::Command>>],
+) -> bool
+    ensures { IsTrue result ↔ IsSuited M.meaning M.REQS act.now (behind.now ++ all_acts (map (λ acts. acts.items) later.now)) }
+{
+    match act {
+        Act::Await(r, _) => *r < M::REQS && !later_awaits_at(behind, later, *r),
+        Act::Call(command) => !M::is_start(command) && !M::is_poll(command),
+    }
+}
+
+// All acts of a task are suited, before those of the later tasks.
+fn is_suited_task<M: Awaits<Waker = TaskId>>(
+    acts: &[Act<M::Ask, M::Command>],
+    later: &[Vec<Act<M::Ask, M::Command>>],
+) -> bool
+    ensures { let others = all_acts (map (λ acts. acts.items) later.now) in AreSuited M.meaning M.REQS (acts.now ++ others) ↔ (IsTrue result × AreSuited M.meaning M.REQS others) }
+{
+    let mut rest = acts;
+    while let Some((act, behind)) = rest.split_first() {
+        if !is_suited::<M>(act, behind, later) {
+            return false;
+        }
+        rest = behind;
+    }
+    true
+}
+
+/// The tasks are ones that an executor takes: no number is used twice, each is one of the machine's, and no call starts or
+/// polls.
+pub fn are_suited<M: Awaits<Waker = TaskId>>(tasks: &[Vec<Act<M::Ask, M::Command>>]) -> bool
+    ensures { IsTrue result ↔ AreSuited M.meaning M.REQS (all_acts (map (λ acts. acts.items) tasks.now)) }
+{
+    let mut rest = tasks;
+    while let Some((acts, later)) = rest.split_first() {
+        if !is_suited_task::<M>(acts, later) {
+            return false;
+        }
+        rest = later;
+    }
+    true
+}

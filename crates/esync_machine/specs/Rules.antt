@@ -1,0 +1,82 @@
+-- What a primitive means, a request at a time and without numbers.
+use Rattle.std.specs.Prelude.{◌≡◌, Bool, false, Option, Some, None}
+use Rattle.esync_machine.specs.declared.primitive.Answer.{Answer}
+use Rattle.esync_machine.specs.declared.primitive.Answer.TheVariants.{Pending, NoSuch}
+use Rattle.esync_machine.specs.declared.primitive.Reach.{Reach}
+use Rattle.esync_machine.specs.declared.primitive.Reach.TheVariants.{Nobody, Number, Leavers}
+use Rattle.esync_machine.specs.declared.primitive.Command.{Command}
+use Rattle.esync_machine.specs.declared.primitive.Command.TheVariants.{Start, Poll, End, Call}
+
+pub record Rules (Ask Held C A : Type 0) : Type 1 where
+  -- the object, without the requests
+  pub Core : Type 0
+  -- a start of this makes that request, or names what isn't there
+  pub begins : Core → Ask → Option Held → Type 0
+  -- a poll may give this answer, go on to the other object, and leave this at the number
+  pub polls : Core → Held → Answer A → Core → Option Held → Type 0
+  pub ends : Core → Held → Core → Type 0
+  -- which numbers a call concerns
+  pub reach : C → Reach
+  -- the same as of a poll, for a call that finds this at its number, and None where it concerns none
+  pub calls : Core → C → Option Held → Answer A → Core → Option Held → Type 0
+  -- a call that reaches leavers first ends such a one
+  pub leaves : Core → C → Held → Bool
+  -- it can be polled
+  pub IsRequest : Held → Type 0
+  -- a Pending poll hands out its own waker, though it changes nothing
+  pub WakesItself : Type 0
+
+-- of a call that concerns no number: what stands there stays
+abbrev pub Alone : {Core C Held A : Type 0} → (Core → C → Answer A → Core → Type 0) → Core → C → Option Held → Answer A → Core → Option Held → Type 0
+Alone calls o call p a o2 p2 = calls o call a o2 × (p2 ≡ p)
+
+-- what a call finds: nothing, unless it concerns a number
+abbrev pub Finds : {Held : Type 0} → Reach → Option Held → Type 0
+Finds Nobody p = p ≡ None
+Finds (Number r) p = Unit {0}
+Finds Leavers p = p ≡ None
+
+-- what stands at a number, if anything does, is apart from the other
+abbrev pub IsApart : {Held : Type 0} → (Held → Held → Type 0) → Option Held → Held → Type 0
+IsApart Apart None other = Unit {0}
+IsApart Apart (Some h) other = Apart h other
+
+-- what is owed to what stands at a number
+abbrev pub IsOwed : {S Held W : Type 0} → (S → Held → W → Type 0) → S → Option Held → W → Type 0
+IsOwed Owes s None w = ⊥
+IsOwed Owes s (Some h) w = Owes s h w
+
+-- the same with what ties it to the state
+abbrev pub OwesAt : {S Held W : Type 0} → (S → Held → Type 0) → (S → Held → W → Type 0) → S → Option Held → W → Type 0
+OwesAt Fits Owes s None w = ⊥
+OwesAt Fits Owes s (Some h) w = Fits s h × Owes s h w
+
+module _ {Ask Held C A : Type 0} (R : Rules Ask Held C A) where
+  -- a poll may be answered Pending with nothing changed
+  abbrev pub IsIdle : R.Core → Held → Type 0
+  IsIdle o h = R.polls o h Pending o (Some h)
+
+  abbrev pub IdleIsPending : Type 0
+  IdleIsPending = (o : R.Core) (h : Held) (a : Answer A) (o2 : R.Core) (p : Option Held) → IsIdle o h → R.polls o h a o2 p → (a ≡ Pending) × (o2 ≡ o) × (p ≡ Some h)
+
+  abbrev pub OnlyRequests : Type 0
+  OnlyRequests = (o : R.Core) (h : Held) (a : Answer A) (o2 : R.Core) (p : Option Held) → (R.IsRequest h → ⊥) → R.polls o h a o2 p → a ≡ NoSuch
+
+  -- the call, of this reach, first ends such a one
+  abbrev pub ended : R.Core → Reach → C → Held → Bool
+  ended o Nobody call h = false
+  ended o (Number r) call h = false
+  ended o Leavers call h = R.leaves o call h
+
+  abbrev pub reach_of : {W : Type 0} → Command Ask W C → Reach
+  reach_of (Start r ask) = Number r
+  reach_of (Poll r w) = Number r
+  reach_of (End r) = Number r
+  reach_of (Call call) = R.reach call
+
+  -- the same of any command
+  abbrev pub ended_by : {W : Type 0} → R.Core → Command Ask W C → Held → Bool
+  ended_by o (Start r ask) h = false
+  ended_by o (Poll r w) h = false
+  ended_by o (End r) h = false
+  ended_by o (Call call) h = ended o (R.reach call) call h

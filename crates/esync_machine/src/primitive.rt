@@ -1,0 +1,169 @@
+//! Primitives, which see one of their requests at a time and no number.
+ghost use Rattle.std.specs.Prelude.{◌≡◌, ℕ, [], Some, None, false, IfSome, ◌⊎◌};
+ghost use Rattle.esync_base.specs.Registration.{IsAmong};
+ghost use Rattle.esync_machine.specs.Rules.{Rules, IsApart, IsOwed, IsIdle, IdleIsPending, OnlyRequests, Finds, ended};
+
+use esync_base::waitqueue::Wakes;
+
+/// What a command is answered.
+#[derive(Clone, Copy, Debug, PartialEq, Eq)]
+pub enum Answer<A> {
+    /// It is done, and there is nothing to tell.
+    Done,
+    /// The request that was polled waits.
+    Pending,
+    /// The command names what isn't there. Nothing changed.
+    NoSuch,
+    /// There was no memory for a clone. Nothing changed.
+    NoMemory,
+    Gives(A),
+}
+
+/// The commands of a machine whose requests have numbers.
+#[derive(Clone, Copy, Debug, PartialEq, Eq)]
+pub enum Command<Q, W, C> {
+    /// Makes a request at a free number, and doesn't poll it.
+    Start(usize, Q),
+    /// Polls the request with a waker.
+    Poll(usize, W),
+    /// Ends what stands at the number.
+    End(usize),
+    /// Another call of the primitive.
+    Call(C),
+}
+
+/// Which numbers a call concerns.
+#[derive(Clone, Copy, Debug, PartialEq, Eq)]
+pub enum Reach {
+    /// None of them.
+    Nobody,
+    /// What stands at this one.
+    Number(usize),
+    /// It first ends all requests of one who leaves.
+    Leavers,
+}
+
+/// An answer, and what stands at the number after it.
+#[derive(Drop)]
+pub struct Turn<A, H> {
+    pub answer: Answer<A>,
+    pub place: Option<H>,
+}
+
+impl<A, H> Turn<A, H> {
+    /// The request is over, and its number free.
+    pub fn over(heard: A) -> Self
+        ensures answer { result.answer ≡ Answer.Gives heard }
+        ensures place { result.place ≡ None }
+    {
+        Turn {
+            answer: Answer::Gives(heard),
+            place: None,
+        }
+    }
+
+    /// The request waits.
+    pub fn waits(held: H) -> Self
+        ensures answer { result.answer ≡ Answer.Pending }
+        ensures place { result.place ≡ Some held }
+    {
+        Turn {
+            answer: Answer::Pending,
+            place: Some(held),
+        }
+    }
+}
+
+/// A primitive with its wakers. It sees what stands at one number at a time: a request, or what one became.
+pub trait Primitive<const K: usize> {
+    /// What a request asks for.
+    type Ask: Drop;
+
+    /// What stands at a number.
+    type Held: Drop;
+
+    /// A call that is no start, poll or end.
+    type Call: Drop;
+
+    type Heard;
+
+    type Waker: Copy + Eq;
+
+    /// What it means.
+    ghost rules: { Rules Self.Ask Self.Held Self.Call Self.Heard };
+
+    /// Its object, without the requests.
+    ghost core: { Self → rules.Core };
+
+    /// The waker is registered where it will be handed out for the request, which is not due.
+    ghost Owes: { Self → Self.Held → Self.Waker → Type 0 };
+
+    /// What ties each held one to the state.
+    ghost Fits: { Self → Self.Held → Type 0 };
+
+    /// What tells two held ones apart.
+    ghost Apart: { Self.Held → Self.Held → Type 0 };
+
+    /// The request that is asked for, unless it names what isn't there.
+    fn begin(&self, ask: Self::Ask) -> Option<Self::Held>
+        ensures allowed { rules.begins (core self.now) ask result }
+        ensures fits { IfSome result (λ held. Fits self.now held) }
+        ensures others { (other : Self.Held) → Fits self.now other → IsApart Apart result other };
+
+    fn poll(
+        &mut self,
+        held: Self::Held,
+        waker: Self::Waker,
+        wakes: &mut Wakes<Self::Waker, K>,
+    ) -> Turn<Self::Heard, Self::Held>
+        requires empty { wakes.old ≡ [] }
+        requires fits { Fits self.old held }
+        ensures allowed { rules.polls (core self.old) held result.answer (core self.new) result.place }
+        ensures quiet { (rules.WakesItself → ⊥) → result.answer ≡ Answer.Pending → core self.new ≡ core self.old → result.place ≡ Some held → IsAmong Self.Waker.eq waker wakes.new → ⊥ }
+        ensures registered { result.answer ≡ Answer.Pending → IsAmong Self.Waker.eq waker wakes.new ⊎ IsOwed Owes self.new result.place waker }
+        ensures kept { (other : Self.Held) (v : Self.Waker) → Fits self.old other → Apart held other → Owes self.old other v → IsAmong Self.Waker.eq v wakes.new ⊎ Owes self.new other v }
+        ensures fits { IfSome result.place (λ after. Fits self.new after) }
+        ensures others { (other : Self.Held) → Fits self.old other → Apart held other → Fits self.new other × IsApart Apart result.place other };
+
+    fn end(&mut self, held: Self::Held, wakes: &mut Wakes<Self::Waker, K>)
+        requires empty { wakes.old ≡ [] }
+        requires fits { Fits self.old held }
+        ensures allowed { rules.ends (core self.old) held (core self.new) }
+        ensures kept { (other : Self.Held) (v : Self.Waker) → Fits self.old other → Apart held other → Owes self.old other v → IsAmong Self.Waker.eq v wakes.new ⊎ Owes self.new other v }
+        ensures others { (other : Self.Held) → Fits self.old other → Apart held other → Fits self.new other };
+
+    /// Which numbers the call concerns.
+    fn reach(call: &Self::Call) -> Reach
+        ensures { result ≡ rules.reach call.now };
+
+    /// The call, which reaches `Leavers`, first ends this one.
+    fn leaves(&self, call: &Self::Call, held: &Self::Held) -> bool
+        ensures { result ≡ rules.leaves (core self.now) call.now held.now };
+
+    /// `place` is what stands at the number that the call concerns, and `None` where it concerns none.
+    fn call(
+        &mut self,
+        call: Self::Call,
+        place: &mut Option<Self::Held>,
+        wakes: &mut Wakes<Self::Waker, K>,
+    ) -> Answer<Self::Heard>
+        requires empty { wakes.old ≡ [] }
+        requires finds { Finds (rules.reach call) place.old }
+        requires fits { IfSome place.old (λ held. Fits self.old held) }
+        ensures allowed { rules.calls (core self.old) call place.old result (core self.new) place.new }
+        ensures own { (v : Self.Waker) → IsOwed Owes self.old place.old v → IsAmong Self.Waker.eq v wakes.new ⊎ IsOwed Owes self.new place.new v }
+        ensures kept { (other : Self.Held) (v : Self.Waker) → Fits self.old other → IsApart Apart place.old other → ended rules (core self.old) (rules.reach call) call other ≡ false → Owes self.old other v → IsAmong Self.Waker.eq v wakes.new ⊎ Owes self.new other v }
+        ensures fits { IfSome place.new (λ after. Fits self.new after) }
+        ensures others { (other : Self.Held) → Fits self.old other → IsApart Apart place.old other → ended rules (core self.old) (rules.reach call) call other ≡ false → Fits self.new other × IsApart Apart place.new other };
+
+    /// To whom a waker is owed, a poll may now be answered Pending with nothing changed.
+    ghost idle: { (m : Self) (h : Self.Held) (w : Self.Waker) → Fits m h → Owes m h w → IsIdle rules (core m) h };
+
+    /// Where Pending without a change is allowed, nothing else is.
+    ghost pending: { IdleIsPending rules };
+
+    /// What is no request can't be polled.
+    ghost no_such: { OnlyRequests rules };
+
+    ghost symmetric: { (h k : Self.Held) → Apart h k → Apart k h };
+}

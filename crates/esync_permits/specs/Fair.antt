@@ -1,0 +1,91 @@
+-- The fair semaphore: its permits, and the queue of who waits.
+use Rattle.std.specs.Prelude.{◌≡◌, ℕ, ◌<◌, ◌==◌, Bool, List, [], ◌∷◌, ◌++◌, length, Option, Some, None, Result, Ok, Err, IsTrue, refl}
+use Rattle.std.specs.Coded.{Coded, code_by, coded×, coded_ℕ, coded_list}
+use Rattle.esync_base.specs.declared.waitqueue.Poll.{Poll}
+use Rattle.esync_base.specs.declared.waitqueue.Poll.TheVariants.{Pending as Waits, Ready as Heard}
+use Rattle.esync_permits.specs.declared.queue.Entry.{Entry}
+use Rattle.esync_permits.specs.declared.semaphore.Amount.{Amount}
+use Rattle.esync_permits.specs.declared.semaphore.WaitQueueFull.{WaitQueueFull}
+use Rattle.esync_permits.specs.declared.semaphore.FairPoll.{FairPoll}
+use Rattle.esync_permits.specs.declared.semaphore.FairPoll.TheVariants.{Pending, Ready}
+use Rattle.esync_permits.specs.Permits.{woken_if}
+use Rattle.esync_permits.specs.Queue.{is_waiting, is_front, front_wakers, with_waker, behind, entries_after_end, IsLeastFree, entry_code}
+
+pub record Fair (W : Type 0) : Type 0 where
+  pub permits : ℕ
+  -- who waits, oldest first
+  pub entries : List (Entry W)
+
+abbrev pub fair_code : {W : Type 0} → Coded W → Coded (Fair W)
+fair_code {W} w =
+    code_by (ℕ × List (Entry W)) (coded× coded_ℕ (coded_list (entry_code w))) (λ s. (s.permits, s.entries)) (λ p. record { permits = p.0; entries = p.1 }) (λ _. refl)
+
+-- what a poll answers, unless it is Pending, and the ticket that its request has after it
+abbrev pub heard : FairPoll → Option (Result ℕ WaitQueueFull)
+heard (Ready answer) = Some answer
+heard (Pending t) = None
+
+abbrev pub ticket_after : FairPoll → Option ℕ
+ticket_after (Ready answer) = None
+ticket_after (Pending t) = Some t
+
+-- what the poll of a request answers
+abbrev pub request_heard : Poll (Result ℕ WaitQueueFull) → Option (Result ℕ WaitQueueFull)
+request_heard (Heard answer) = Some answer
+request_heard Waits = None
+
+-- what is granted by an answer
+abbrev pub granted_by : Option (Result ℕ WaitQueueFull) → Option ℕ
+granted_by (Some (Ok k)) = Some k
+granted_by (Some (Err e)) = None
+granted_by None = None
+
+-- a fact for where there was no place in the queue
+abbrev pub OnRefusal : Option (Result ℕ WaitQueueFull) → Type 0 → Type 0
+OnRefusal (Some (Ok k)) P = Unit {0}
+OnRefusal (Some (Err e)) P = P
+OnRefusal None P = Unit {0}
+
+module _ {W : Type 0} where
+  -- a ticket names a waiting entry
+  abbrev pub NamesWaiting : Option ℕ → List (Entry W) → Type 0
+  NamesWaiting None es = Unit {0}
+  NamesWaiting (Some t) es = IsTrue (is_waiting t es)
+
+  -- whose turn it is: who is in front, and who has no ticket only where nobody waits
+  abbrev pub is_turn : Option ℕ → List (Entry W) → Bool
+  is_turn None es = length es == 0
+  is_turn (Some t) es = is_front t es
+
+  -- n entries leave no place for a request without a ticket
+  abbrev pub HasNoPlace : ℕ → Option ℕ → List (Entry W) → Type 0
+  HasNoPlace n None es = length es ≡ n
+  HasNoPlace n (Some t) es = ⊥
+
+  -- the entries after a poll with this waker: of a request with this ticket, which has that one after it
+  abbrev pub Queues : ℕ → W → Option ℕ → List (Entry W) → Option ℕ → List (Entry W) → Type 0
+  Queues n w None es None es2 = es2 ≡ es
+  Queues n w None es (Some t) es2 = (length es < n) × IsLeastFree t es × (es2 ≡ es ++ record { number = t; waker = Some w } ∷ [])
+  Queues n w (Some t) es None es2 = es2 ≡ behind es
+  Queues n w (Some t) es (Some u) es2 = (u ≡ t) × (es2 ≡ with_waker t (Some w) es)
+
+  -- a grant to the front entry wakes the one that is then in front, and a grant without a ticket wakes nobody
+  abbrev pub wakes_of_grant : Option ℕ → Option ℕ → List (Entry W) → List W
+  wakes_of_grant (Some t) (Some k) es2 = front_wakers es2
+  wakes_of_grant (Some t) None es2 = []
+  wakes_of_grant None got es2 = []
+
+  -- the end of a request, which may have no ticket yet
+  abbrev pub entries_after_request : Option ℕ → List (Entry W) → List (Entry W)
+  entries_after_request None es = es
+  entries_after_request (Some t) es = entries_after_end (is_front t es) t es
+
+  abbrev pub wakes_of_request : Option ℕ → List (Entry W) → List (Entry W) → List W
+  wakes_of_request None es es2 = []
+  wakes_of_request (Some t) es es2 = woken_if (is_front t es) (front_wakers es2)
+
+-- a request: what it is for, its ticket while it waits, and whether it heard its answer
+pub record Request : Type 0 where
+  pub amount : Amount
+  pub ticket : Option ℕ
+  pub finished : Bool

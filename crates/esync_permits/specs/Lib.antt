@@ -1,0 +1,4 @@
+pub mod Permits
+pub mod Greedy
+pub mod Queue
+pub mod Fair

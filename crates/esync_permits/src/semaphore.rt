@@ -1,0 +1,638 @@
+//! Semaphores: a number of permits to a pool of resources, and who waits for some of them.
+//!
+//! The state forms take `&mut self`, hold no lock and wait for nobody. What a call hands out, it appends to the list of
+//! wakes that it is given; who gets the list wakes them. A semaphore holds no resources, only the number of permits.
+ghost use Rattle.std.specs.Prelude.{◌≡◌, ℕ, ◌<◌, ◌++◌, [], length, nat_lt, ◌↔◌, Some, None, false, IsTrue, IsSome, IfSome, is_some, is_none};
+ghost use Rattle.esync_permits.specs.Permits.{least, taken, Takes, TakesInTurn, released, granted, woken_if};
+ghost use Rattle.esync_permits.specs.Greedy.{slot_after_poll, wakes_of_poll, slot_after_more, rest_of};
+ghost use Rattle.esync_permits.specs.Queue.{is_waiting, is_front, front_wakers, entries_after_end};
+ghost use Rattle.esync_permits.specs.Fair.{heard, ticket_after, request_heard, granted_by, OnRefusal, NamesWaiting, is_turn, HasNoPlace, Queues, wakes_of_grant, entries_after_request, wakes_of_request};
+
+use crate::queue::Queue;
+use esync_base::waitqueue::{Context, Poll, WakerRegistration, Wakes};
+use std::marker::Model;
+use std::mem;
+
+/// How many permits a request is for.
+#[derive(Clone, Copy, Debug, PartialEq, Eq)]
+pub enum Amount {
+    /// This number.
+    Exactly(usize),
+    /// All that are there, where that is at least this number.
+    AllFrom(usize),
+}
+
+impl Amount {
+    // How many permits have to be there.
+    fn least(self) -> usize
+        ensures { result ≡ least self }
+    {
+        match self {
+            Amount::Exactly(permits) => permits,
+            Amount::AllFrom(min) => min,
+        }
+    }
+
+    // How many are taken of those that are there.
+    fn taken(self, permits: usize) -> usize
+        ensures { result ≡ taken permits self }
+    {
+        match self {
+            Amount::Exactly(taken) => taken,
+            Amount::AllFrom(_) => permits,
+        }
+    }
+}
+
+// Takes the permits of a request where enough are there.
+fn take(permits: &mut usize, amount: Amount) -> Option<usize>
+    ensures { Takes permits.old amount result permits.new }
+{
+    if *permits < amount.least() {
+        return None;
+    }
+    let taken = amount.taken(*permits);
+    *permits -= taken;
+    Some(taken)
+}
+
+// Gives permits back.
+fn give_back(permits: &mut usize, more: usize)
+    ensures { permits.new ≡ released permits.old more }
+{
+    *permits = permits.saturating_add(more);
+}
+
+/// The state of a greedy semaphore: its permits, and the waker of who waits for some.
+///
+/// A request is granted as soon as its permits are there, even if another one waits for more of them.
+#[derive(Drop)]
+pub struct GreedyState<W> {
+    available: usize,
+    waker: WakerRegistration<W>,
+}
+
+impl<W> Model for GreedyState<W> {
+    ghost use Rattle.esync_permits.specs.Greedy.{Greedy, greedy_code};
+
+    ghost Value = { Greedy W };
+
+    ghost coded = { greedy_code W.code };
+
+    ghost view = { λ a. record { permits = a.available; waiter = a.waker } };
+}
+
+impl<W: Copy + Eq> Default for GreedyState<W> {
+    fn default() -> Self
+        ensures permits { result.permits ≡ 0 }
+        ensures waiter { result.waiter ≡ [] }
+    {
+        GreedyState::new(0)
+    }
+}
+
+impl<W: Copy + Eq> GreedyState<W> {
+    /// This number of permits, and nobody who waits.
+    pub fn new(permits: usize) -> Self
+        ensures permits { result.permits ≡ permits }
+        ensures waiter { result.waiter ≡ [] }
+    {
+        GreedyState {
+            available: permits,
+            waker: WakerRegistration::new(),
+        }
+    }
+
+    /// How many permits are there to be taken.
+    pub fn permits(&self) -> usize
+        ensures { result ≡ self.now.permits }
+    {
+        self.available
+    }
+
+    /// Takes this number of permits, if they are there.
+    pub fn try_acquire(&mut self, permits: usize) -> Option<usize>
+        ensures permits { Takes self.old.permits (Amount.Exactly permits) result self.new.permits }
+        ensures waiter { self.new.waiter ≡ self.old.waiter }
+    {
+        take(&mut self.available, Amount::Exactly(permits))
+    }
+
+    /// Takes all permits, if at least `min` are there.
+    pub fn try_acquire_all(&mut self, min: usize) -> Option<usize>
+        ensures permits { Takes self.old.permits (Amount.AllFrom min) result self.new.permits }
+        ensures waiter { self.new.waiter ≡ self.old.waiter }
+    {
+        take(&mut self.available, Amount::AllFrom(min))
+    }
+
+    fn poll<const K: usize>(
+        &mut self,
+        amount: Amount,
+        waker: W,
+        wakes: &mut Wakes<W, K>,
+    ) -> Poll<usize>
+        requires { length wakes.old < K }
+        ensures permits { Takes self.old.permits amount (granted result) self.new.permits }
+        ensures waiter { self.new.waiter ≡ slot_after_poll W.eq waker (granted result) self.old.waiter }
+        ensures wakes { wakes.new ≡ wakes.old ++ wakes_of_poll W.eq waker (granted result) self.old.waiter }
+    {
+        match take(&mut self.available, amount) {
+            Some(taken) => Poll::Ready(taken),
+            None => {
+                self.waker.register(waker, wakes);
+                Poll::Pending
+            }
+        }
+    }
+
+    /// Takes this number of permits, if they are there. If not, the context's waker waits for them.
+    pub fn poll_acquire<const K: usize>(
+        &mut self,
+        permits: usize,
+        cx: &Context<W>,
+        wakes: &mut Wakes<W, K>,
+    ) -> Poll<usize>
+        requires { length wakes.old < K }
+        ensures permits { Takes self.old.permits (Amount.Exactly permits) (granted result) self.new.permits }
+        ensures waiter { self.new.waiter ≡ slot_after_poll W.eq cx.now (granted result) self.old.waiter }
+        ensures wakes { wakes.new ≡ wakes.old ++ wakes_of_poll W.eq cx.now (granted result) self.old.waiter }
+    {
+        self.poll(Amount::Exactly(permits), cx.waker(), wakes)
+    }
+
+    /// Takes all permits, if at least `min` are there. If not, the context's waker waits for them.
+    pub fn poll_acquire_all<const K: usize>(
+        &mut self,
+        min: usize,
+        cx: &Context<W>,
+        wakes: &mut Wakes<W, K>,
+    ) -> Poll<usize>
+        requires { length wakes.old < K }
+        ensures permits { Takes self.old.permits (Amount.AllFrom min) (granted result) self.new.permits }
+        ensures waiter { self.new.waiter ≡ slot_after_poll W.eq cx.now (granted result) self.old.waiter }
+        ensures wakes { wakes.new ≡ wakes.old ++ wakes_of_poll W.eq cx.now (granted result) self.old.waiter }
+    {
+        self.poll(Amount::AllFrom(min), cx.waker(), wakes)
+    }
+
+    // Wakes who waits, if there is more than before.
+    fn tell<const K: usize>(&mut self, more: bool, wakes: &mut Wakes<W, K>)
+        requires { length wakes.old < K }
+        ensures permits { self.new.permits ≡ self.old.permits }
+        ensures waiter { self.new.waiter ≡ slot_after_more more self.old.waiter }
+        ensures wakes { wakes.new ≡ wakes.old ++ woken_if more self.old.waiter }
+    {
+        if more {
+            self.waker.wake(wakes);
+        }
+    }
+
+    /// Gives permits back, up to `usize::MAX`, and wakes who waits.
+    pub fn release<const K: usize>(&mut self, permits: usize, wakes: &mut Wakes<W, K>)
+        requires { length wakes.old < K }
+        ensures permits { self.new.permits ≡ released self.old.permits permits }
+        ensures waiter { self.new.waiter ≡ slot_after_more (nat_lt 0 permits) self.old.waiter }
+        ensures wakes { wakes.new ≡ wakes.old ++ woken_if (nat_lt 0 permits) self.old.waiter }
+    {
+        give_back(&mut self.available, permits);
+        self.tell(0 < permits, wakes);
+    }
+
+    /// Makes this the number of permits that are there. Wakes who waits, if it is more than before.
+    pub fn set<const K: usize>(&mut self, permits: usize, wakes: &mut Wakes<W, K>)
+        requires { length wakes.old < K }
+        ensures permits { self.new.permits ≡ permits }
+        ensures waiter { self.new.waiter ≡ slot_after_more (nat_lt self.old.permits permits) self.old.waiter }
+        ensures wakes { wakes.new ≡ wakes.old ++ woken_if (nat_lt self.old.permits permits) self.old.waiter }
+    {
+        let before = mem::replace(&mut self.available, permits);
+        self.tell(before < permits, wakes);
+    }
+}
+
+/// A request for permits of a greedy semaphore.
+#[derive(Drop)]
+pub struct GreedyRequest {
+    amount: Option<Amount>,
+}
+
+impl Model for GreedyRequest {
+    ghost use Rattle.std.specs.Prelude.{Option};
+    ghost use Rattle.esync_permits.specs.declared.semaphore.Amount.{Amount};
+
+    ghost Value = { Option Amount };
+
+    ghost view = { λ a. a.amount };
+}
+
+impl GreedyRequest {
+    pub fn new(amount: Amount) -> Self
+        ensures { result ≡ Some amount }
+    {
+        GreedyRequest {
+            amount: Some(amount),
+        }
+    }
+
+    /// The permits were granted.
+    pub fn is_finished(&self) -> bool
+        ensures { result ≡ is_none self.now }
+    {
+        self.amount.is_none()
+    }
+
+    /// Takes the permits, if they are there. If not, the context's waker waits for them.
+    ///
+    /// A request that is finished is not polled.
+    pub fn poll_state<W: Copy + Eq, const K: usize>(
+        &mut self,
+        state: &mut GreedyState<W>,
+        cx: &Context<W>,
+        wakes: &mut Wakes<W, K>,
+    ) -> Poll<usize>
+        requires room { length wakes.old < K }
+        requires unfinished { IsSome self.old }
+        ensures permits { IfSome self.old (λ amount. Takes state.old.permits amount (granted result) state.new.permits) }
+        ensures rest { IfSome self.old (λ amount. self.new ≡ rest_of amount (granted result)) }
+        ensures waiter { state.new.waiter ≡ slot_after_poll W.eq cx.now (granted result) state.old.waiter }
+        ensures wakes { wakes.new ≡ wakes.old ++ wakes_of_poll W.eq cx.now (granted result) state.old.waiter }
+    {
+        let Some(amount) = self.amount else {
+            unreachable!()
+        };
+        let answer = state.poll(amount, cx.waker(), wakes);
+        if let Poll::Ready(_) = answer {
+            self.amount = None;
+        }
+        answer
+    }
+}
+
+/// The queue of a fair semaphore is full.
+#[derive(Clone, Copy, Debug, PartialEq, Eq)]
+pub struct WaitQueueFull;
+
+/// What a waiting request of a fair semaphore is known by: the least number that no other one had when it came to wait.
+#[derive(Clone, Copy, Debug, PartialEq, Eq)]
+pub struct Ticket {
+    number: usize,
+}
+
+impl Model for Ticket {
+    ghost use Rattle.std.specs.Prelude.{ℕ};
+
+    ghost Value = { ℕ };
+
+    ghost view = { λ a. a.number };
+
+    ghost inverse = { λ n. record { number = n } };
+}
+
+/// What a poll of a fair semaphore answers.
+#[derive(Clone, Copy, Debug, PartialEq, Eq)]
+pub enum FairPoll {
+    /// This number of permits was granted, or there was no place in the queue.
+    Ready(Result<usize, WaitQueueFull>),
+    /// The request waits, and has this ticket.
+    Pending(Ticket),
+}
+
+/// The state of a fair semaphore: its permits, and a queue of at most `N` requests that wait for some.
+///
+/// Requests are granted in the order in which they came to wait. One that waits for many permits keeps all others from
+/// theirs until it is granted. Cancelled entries keep their place until they are in front.
+#[derive(Drop)]
+pub struct FairState<W, const N: usize> {
+    permits: usize,
+    queue: Queue<W, N>,
+}
+
+impl<W, const N: usize> Model for FairState<W, N> {
+    ghost use Rattle.esync_permits.specs.Fair.{Fair, fair_code};
+
+    ghost Value = { Fair W };
+
+    ghost coded = { fair_code W.code };
+
+    ghost view = { λ a. record { permits = a.permits; entries = a.queue } };
+}
+
+impl<W: Copy + Eq, const N: usize> Default for FairState<W, N> {
+    fn default() -> Self
+        ensures permits { result.permits ≡ 0 }
+        ensures entries { result.entries ≡ [] }
+    {
+        FairState::new(0)
+    }
+}
+
+impl<W: Copy + Eq, const N: usize> FairState<W, N> {
+    /// This number of permits, and nobody who waits.
+    pub fn new(permits: usize) -> Self
+        ensures permits { result.permits ≡ permits }
+        ensures entries { result.entries ≡ [] }
+    {
+        FairState {
+            permits,
+            queue: Queue::new(),
+        }
+    }
+
+    /// How many permits are there to be taken.
+    pub fn permits(&self) -> usize
+        ensures { result ≡ self.now.permits }
+    {
+        self.permits
+    }
+
+    /// The request of this ticket waits.
+    pub fn is_waiting(&self, ticket: Ticket) -> bool
+        ensures { result ≡ is_waiting ticket self.now.entries }
+    {
+        self.queue.is_waiting(ticket.number)
+    }
+
+    // Takes the permits of a request that has no ticket: only where nobody waits.
+    fn try_take(&mut self, amount: Amount) -> Option<usize>
+        ensures permits { TakesInTurn (is_turn None self.old.entries) self.old.permits amount result self.new.permits }
+        ensures entries { self.new.entries ≡ self.old.entries }
+    {
+        if !self.queue.is_empty() {
+            return None;
+        }
+        take(&mut self.permits, amount)
+    }
+
+    /// Takes this number of permits, if they are there and nobody waits.
+    pub fn try_acquire(&mut self, permits: usize) -> Option<usize>
+        ensures permits { TakesInTurn (is_turn None self.old.entries) self.old.permits (Amount.Exactly permits) result self.new.permits }
+        ensures entries { self.new.entries ≡ self.old.entries }
+    {
+        self.try_take(Amount::Exactly(permits))
+    }
+
+    /// Takes all permits, if at least `min` are there and nobody waits.
+    pub fn try_acquire_all(&mut self, min: usize) -> Option<usize>
+        ensures permits { TakesInTurn (is_turn None self.old.entries) self.old.permits (Amount.AllFrom min) result self.new.permits }
+        ensures entries { self.new.entries ≡ self.old.entries }
+    {
+        self.try_take(Amount::AllFrom(min))
+    }
+
+    // The poll of a request that has no ticket yet.
+    fn poll_new(&mut self, amount: Amount, waker: W) -> FairPoll
+        ensures permits { TakesInTurn (is_turn None self.old.entries) self.old.permits amount (granted_by (heard result)) self.new.permits }
+        ensures full { OnRefusal (heard result) (HasNoPlace N None self.old.entries) }
+        ensures entries { Queues N waker None self.old.entries (ticket_after result) self.new.entries }
+    {
+        if let Some(taken) = self.try_take(amount) {
+            return FairPoll::Ready(Ok(taken));
+        }
+        match self.queue.enter(waker) {
+            Some(number) => FairPoll::Pending(Ticket { number }),
+            None => FairPoll::Ready(Err(WaitQueueFull)),
+        }
+    }
+
+    // The poll of a request that waits.
+    fn poll_again<const K: usize>(
+        &mut self,
+        amount: Amount,
+        ticket: Ticket,
+        waker: W,
+        wakes: &mut Wakes<W, K>,
+    ) -> FairPoll
+        requires { length wakes.old < K }
+        ensures permits { TakesInTurn (is_turn (Some ticket) self.old.entries) self.old.permits amount (granted_by (heard result)) self.new.permits }
+        ensures full { OnRefusal (heard result) (HasNoPlace N (Some ticket) self.old.entries) }
+        ensures entries { Queues N waker (Some ticket) self.old.entries (ticket_after result) self.new.entries }
+        ensures wakes { wakes.new ≡ wakes.old ++ wakes_of_grant (Some ticket) (granted_by (heard result)) self.new.entries }
+    {
+        if self.queue.is_front(ticket.number) {
+            if let Some(taken) = take(&mut self.permits, amount) {
+                self.queue.leave();
+                self.tell(true, wakes);
+                return FairPoll::Ready(Ok(taken));
+            }
+        }
+        self.queue.set_waker(ticket.number, waker);
+        FairPoll::Pending(ticket)
+    }
+
+    fn poll<const K: usize>(
+        &mut self,
+        amount: Amount,
+        ticket: Option<Ticket>,
+        waker: W,
+        wakes: &mut Wakes<W, K>,
+    ) -> FairPoll
+        requires { length wakes.old < K }
+        ensures permits { TakesInTurn (is_turn ticket self.old.entries) self.old.permits amount (granted_by (heard result)) self.new.permits }
+        ensures full { OnRefusal (heard result) (HasNoPlace N ticket self.old.entries) }
+        ensures entries { Queues N waker ticket self.old.entries (ticket_after result) self.new.entries }
+        ensures wakes { wakes.new ≡ wakes.old ++ wakes_of_grant ticket (granted_by (heard result)) self.new.entries }
+    {
+        match ticket {
+            None => self.poll_new(amount, waker),
+            Some(ticket) => self.poll_again(amount, ticket, waker, wakes),
+        }
+    }
+
+    /// Takes this number of permits, if they are there and it is the request's turn: it is in front, or has no ticket
+    /// and nobody waits. If not, the context's waker waits for them. A request without a ticket waits at the back, if
+    /// there is a place.
+    ///
+    /// A ticket names a request that waits (`is_waiting`).
+    pub fn poll_acquire<const K: usize>(
+        &mut self,
+        permits: usize,
+        ticket: Option<Ticket>,
+        cx: &Context<W>,
+        wakes: &mut Wakes<W, K>,
+    ) -> FairPoll
+        requires room { length wakes.old < K }
+        requires waits { NamesWaiting ticket self.old.entries }
+        ensures permits { TakesInTurn (is_turn ticket self.old.entries) self.old.permits (Amount.Exactly permits) (granted_by (heard result)) self.new.permits }
+        ensures full { OnRefusal (heard result) (HasNoPlace N ticket self.old.entries) }
+        ensures entries { Queues N cx.now ticket self.old.entries (ticket_after result) self.new.entries }
+        ensures wakes { wakes.new ≡ wakes.old ++ wakes_of_grant ticket (granted_by (heard result)) self.new.entries }
+    {
+        self.poll(Amount::Exactly(permits), ticket, cx.waker(), wakes)
+    }
+
+    /// The same for all permits, if at least `min` are there.
+    pub fn poll_acquire_all<const K: usize>(
+        &mut self,
+        min: usize,
+        ticket: Option<Ticket>,
+        cx: &Context<W>,
+        wakes: &mut Wakes<W, K>,
+    ) -> FairPoll
+        requires room { length wakes.old < K }
+        requires waits { NamesWaiting ticket self.old.entries }
+        ensures permits { TakesInTurn (is_turn ticket self.old.entries) self.old.permits (Amount.AllFrom min) (granted_by (heard result)) self.new.permits }
+        ensures full { OnRefusal (heard result) (HasNoPlace N ticket self.old.entries) }
+        ensures entries { Queues N cx.now ticket self.old.entries (ticket_after result) self.new.entries }
+        ensures wakes { wakes.new ≡ wakes.old ++ wakes_of_grant ticket (granted_by (heard result)) self.new.entries }
+    {
+        self.poll(Amount::AllFrom(min), ticket, cx.waker(), wakes)
+    }
+
+    /// Ends a request that waits. Where it was in front, the one that is in front then is woken.
+    ///
+    /// The ticket names a request that waits (`is_waiting`).
+    pub fn cancel<const K: usize>(&mut self, ticket: Ticket, wakes: &mut Wakes<W, K>)
+        requires room { length wakes.old < K }
+        requires waits { NamesWaiting (Some ticket) self.old.entries }
+        ensures permits { self.new.permits ≡ self.old.permits }
+        ensures entries { self.new.entries ≡ entries_after_end (is_front ticket self.old.entries) ticket self.old.entries }
+        ensures wakes { wakes.new ≡ wakes.old ++ woken_if (is_front ticket self.old.entries) (front_wakers self.new.entries) }
+    {
+        let was_front = self.queue.end(ticket.number);
+        self.tell(was_front, wakes);
+    }
+
+    // Wakes who is in front, if there is news for it.
+    fn tell<const K: usize>(&self, news: bool, wakes: &mut Wakes<W, K>)
+        requires { length wakes.old < K }
+        ensures { wakes.new ≡ wakes.old ++ woken_if news (front_wakers self.now.entries) }
+    {
+        if news {
+            self.queue.tell_front(wakes);
+        }
+    }
+
+    /// Gives permits back, up to `usize::MAX`, and wakes who is in front.
+    pub fn release<const K: usize>(&mut self, permits: usize, wakes: &mut Wakes<W, K>)
+        requires { length wakes.old < K }
+        ensures permits { self.new.permits ≡ released self.old.permits permits }
+        ensures entries { self.new.entries ≡ self.old.entries }
+        ensures wakes { wakes.new ≡ wakes.old ++ woken_if (nat_lt 0 permits) (front_wakers self.old.entries) }
+    {
+        give_back(&mut self.permits, permits);
+        self.tell(permits > 0, wakes);
+    }
+
+    /// Makes this the number of permits that are there. Wakes who is in front, if it is more than before.
+    pub fn set<const K: usize>(&mut self, permits: usize, wakes: &mut Wakes<W, K>)
+        requires { length wakes.old < K }
+        ensures permits { self.new.permits ≡ permits }
+        ensures entries { self.new.entries ≡ self.old.entries }
+        ensures wakes { wakes.new ≡ wakes.old ++ woken_if (nat_lt self.old.permits permits) (front_wakers self.old.entries) }
+    {
+        let before = mem::replace(&mut self.permits, permits);
+        self.tell(permits > before, wakes);
+    }
+}
+
+/// A request for permits of a fair semaphore.
+#[derive(Drop)]
+pub struct FairRequest {
+    amount: Amount,
+    ticket: Option<Ticket>,
+    finished: bool,
+}
+
+impl Model for FairRequest {
+    ghost use Rattle.esync_permits.specs.Fair.{Request};
+
+    ghost Value = { Request };
+
+    ghost view = { λ a. record { amount = a.amount; ticket = a.ticket; finished = a.finished } };
+}
+
+impl FairRequest {
+    pub fn new(amount: Amount) -> Self
+        ensures { result ≡ record { amount = amount; ticket = None; finished = false } }
+    {
+        FairRequest {
+            amount,
+            ticket: None,
+            finished: false,
+        }
+    }
+
+    /// The permits were granted, or there was no place in the queue.
+    pub fn is_finished(&self) -> bool
+        ensures { result ≡ self.now.finished }
+    {
+        self.finished
+    }
+
+    /// The ticket that it waits with.
+    pub fn ticket(&self) -> Option<Ticket>
+        ensures { result ≡ self.now.ticket }
+    {
+        self.ticket
+    }
+
+    /// It has no ticket, or one that names a request that waits in this state.
+    pub fn belongs_to<W: Copy + Eq, const N: usize>(&self, state: &FairState<W, N>) -> bool
+        ensures { IsTrue result ↔ NamesWaiting self.now.ticket state.now.entries }
+    {
+        match self.ticket() {
+            Some(ticket) => state.is_waiting(ticket),
+            None => true,
+        }
+    }
+
+    /// Takes the permits, if they are there and it is the request's turn. If not, the context's waker waits for them.
+    ///
+    /// A request that is finished is not polled. Its ticket names a request that waits in the state (`belongs_to`).
+    pub fn poll_state<W: Copy + Eq, const N: usize, const K: usize>(
+        &mut self,
+        state: &mut FairState<W, N>,
+        cx: &Context<W>,
+        wakes: &mut Wakes<W, K>,
+    ) -> Poll<Result<usize, WaitQueueFull>>
+        requires room { length wakes.old < K }
+        requires unfinished { self.old.finished ≡ false }
+        requires waits { NamesWaiting self.old.ticket state.old.entries }
+        ensures permits { TakesInTurn (is_turn self.old.ticket state.old.entries) state.old.permits self.old.amount (granted_by (request_heard result)) state.new.permits }
+        ensures full { OnRefusal (request_heard result) (HasNoPlace N self.old.ticket state.old.entries) }
+        ensures entries { Queues N cx.now self.old.ticket state.old.entries self.new.ticket state.new.entries }
+        ensures wakes { wakes.new ≡ wakes.old ++ wakes_of_grant self.old.ticket (granted_by (request_heard result)) state.new.entries }
+
+        // It has a ticket while it waits.
+        ensures ticket { is_some self.new.ticket ≡ is_none (request_heard result) }
+        ensures request { self.new ≡ record self.old { ticket = self.new.ticket; finished = is_some (request_heard result) } }
+    {
+        match state.poll(self.amount, self.ticket(), cx.waker(), wakes) {
+            FairPoll::Ready(answer) => {
+                *self = FairRequest {
+                    ticket: None,
+                    finished: true,
+                    ..*self
+                };
+                Poll::Ready(answer)
+            }
+            FairPoll::Pending(ticket) => {
+                *self = FairRequest {
+                    ticket: Some(ticket),
+                    ..*self
+                };
+                Poll::Pending
+            }
+        }
+    }
+
+    /// Ends the request, and its waiting. Where it was in front, the one that is in front then is woken.
+    ///
+    /// Its ticket names a request that waits in the state (`belongs_to`).
+    pub fn end<W: Copy + Eq, const N: usize, const K: usize>(
+        self,
+        state: &mut FairState<W, N>,
+        wakes: &mut Wakes<W, K>,
+    )
+        requires room { length wakes.old < K }
+        requires waits { NamesWaiting self.ticket state.old.entries }
+        ensures permits { state.new.permits ≡ state.old.permits }
+        ensures entries { state.new.entries ≡ entries_after_request self.ticket state.old.entries }
+        ensures wakes { wakes.new ≡ wakes.old ++ wakes_of_request self.ticket state.old.entries state.new.entries }
+    {
+        if let Some(ticket) = self.ticket() {
+            state.cancel(ticket, wakes);
+        }
+    }
+}

@@ -1,0 +1,6 @@
+pub mod Calls
+pub mod Greedy
+pub mod GreedyLaws
+pub mod Fair
+pub mod FairLaws
+pub mod FairTurns

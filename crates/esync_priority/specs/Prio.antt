@@ -1,0 +1,69 @@
+-- Items of which one is to leave before another.
+use Rattle.std.specs.Prelude.{◌≡◌, ℕ, Bool, true, false, List, [], ◌∷◌, Option, Some, None, IsPermutation, All, refl}
+use Rattle.std.specs.Ordering.{is_gt, is_lt, ordering_reverse}
+use Rattle.std.specs.declared.cmp.Ordering.{Ordering}
+use Rattle.std.specs.declared.cmp.Ordering.TheVariants.{Less, Equal, Greater}
+use Rattle.std.specs.Cmp.{IsTotalOrder}
+use Rattle.std.proofs.Common.{sym, ◌∙◌, ap}
+use Rattle.std.proofs.lemmas.Cmp.{tied_itself}
+use Rattle.std.proofs.lemmas.List.Sorted.{length_permutation}
+use Rattle.esync_base.specs.Keeping.{Keeping}
+
+-- a is greater than b
+abbrev pub greater : {T : Type 0} → (T → T → Ordering) → T → T → Bool
+greater cmp a b = is_gt (cmp a b)
+
+-- a is less than b
+abbrev pub less : {T : Type 0} → (T → T → Ordering) → T → T → Bool
+less cmp a b = is_lt (cmp a b)
+
+-- no item of the list is above this one
+abbrev pub IsTop : {T : Type 0} → (T → T → Bool) → T → List T → Type 0
+IsTop above x xs = All (λ y. above y x ≡ false) xs
+
+-- at most n messages, each as often as it is held: one leaves that none of the held ones is above
+abbrev pub Bag : (T : Type 0) → (T → T → Bool) → ℕ → Keeping T
+Bag T above n = record {
+  capacity = n;
+  Puts = λ old message new. IsPermutation (message ∷ old) new;
+  Takes = λ old message new. IsPermutation old (message ∷ new) × IsTop above message old;
+  one_more = λ old new message h. length_permutation (message ∷ old) new h;
+  one_less = λ old new message h. sym (length_permutation old (message ∷ new) h.0);
+}
+
+-- no item is above one that stands behind it
+abbrev pub IsRising : {T : Type 0} → (T → T → Bool) → List T → Type 0
+IsRising above [] = Unit {0}
+IsRising above (x ∷ xs) = All (λ y. above x y ≡ false) xs × IsRising above xs
+
+-- the item of a place, if there is one, is above the message
+abbrev pub above_some : {T : Type 0} → (T → T → Bool) → T → Option T → Bool
+above_some above message None = false
+above_some above message (Some x) = above x message
+
+pub greater-irreflexive : {T : Type 0} (cmp : T → T → Ordering) → IsTotalOrder cmp → (a : T) → greater cmp a a ≡ false
+greater-irreflexive cmp total a = ap is_gt (tied_itself total a)
+
+pub less-irreflexive : {T : Type 0} (cmp : T → T → Ordering) → IsTotalOrder cmp → (a : T) → less cmp a a ≡ false
+less-irreflexive cmp total a = ap is_lt (tied_itself total a)
+
+is_greater : (o : Ordering) → is_gt o ≡ true → o ≡ Greater
+is_greater Less h = absurd cc
+is_greater Equal h = absurd cc
+is_greater Greater h = refl
+
+is_less : (o : Ordering) → is_lt o ≡ true → o ≡ Less
+is_less Less h = refl
+is_less Equal h = absurd cc
+is_less Greater h = absurd cc
+
+pub less-transitive : {T : Type 0} (cmp : T → T → Ordering) → IsTotalOrder cmp → (a b c : T) → less cmp a b ≡ true → less cmp b c ≡ true → less cmp a c ≡ true
+less-transitive cmp total a b c h k = ap is_lt (total.trans a b c (is_less (cmp a b) h) (is_less (cmp b c) k))
+
+turned : {T : Type 0} (cmp : T → T → Ordering) → IsTotalOrder cmp → (a b : T) → cmp a b ≡ Greater → cmp b a ≡ Less
+turned cmp total a b h = total.antisymm b a ∙ ap ordering_reverse h
+
+pub greater-transitive : {T : Type 0} (cmp : T → T → Ordering) → IsTotalOrder cmp → (a b c : T) → greater cmp a b ≡ true → greater cmp b c ≡ true → greater cmp a c ≡ true
+greater-transitive cmp total a b c h k =
+    let e = total.trans c b a (turned cmp total b c (is_greater (cmp b c) k)) (turned cmp total a b (is_greater (cmp a b) h)) in
+    ap is_gt (total.antisymm a c ∙ ap ordering_reverse e)

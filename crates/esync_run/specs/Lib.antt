@@ -1,0 +1,4 @@
+pub mod Channel
+pub mod ChannelLaws
+pub mod Signal
+pub mod Order

@@ -1,0 +1,5 @@
+pub mod Channel
+pub mod Fault
+pub mod Played
+pub mod Signal
+pub mod Text

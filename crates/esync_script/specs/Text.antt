@@ -1,0 +1,31 @@
+-- The text of what is printed.
+use Rattle.std.specs.Prelude.{ℕ, List, [], ◌∷◌, ◌++◌, codes, decimal}
+use Rattle.esync_machine.specs.declared.primitive.Answer.{Answer}
+use Rattle.esync_machine.specs.declared.primitive.Answer.TheVariants.{Done, Pending, NoSuch, NoMemory, Gives}
+
+-- an answer, where `heard` is the text of what the primitive tells
+abbrev pub answer_text : {A : Type 0} → (A → List ℕ) → Answer A → List ℕ
+answer_text heard Done = codes "Ok"
+answer_text heard Pending = codes "Pending"
+answer_text heard NoSuch = codes "Err(NoSuch)"
+answer_text heard NoMemory = []
+answer_text heard (Gives a) = heard a
+
+-- each waker after a space
+abbrev pub spaced : List ℕ → List ℕ
+spaced [] = []
+spaced (w ∷ ws) = codes " " ++ decimal w ++ spaced ws
+
+-- the wakers that a step hands out, or a dash
+abbrev pub wakers_text : List ℕ → List ℕ
+wakers_text [] = codes " -"
+wakers_text (w ∷ ws) = spaced (w ∷ ws)
+
+-- the line of a reply: its answer, its wakers and a line feed
+abbrev pub line_text : List ℕ → List ℕ → List ℕ
+line_text answer wakers = answer ++ codes " |" ++ wakers_text wakers ++ 10 ∷ []
+
+-- several texts, one after another
+abbrev pub texts : {A : Type 0} → (A → List ℕ) → List A → List ℕ
+texts text [] = []
+texts text (x ∷ xs) = text x ++ texts text xs

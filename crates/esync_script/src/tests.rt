@@ -1,0 +1,541 @@
+//! Whole scripts: what is printed, which lines are no commands, and what a stream that fails leaves.
+use super::*;
+use crate::vocabulary::Printed;
+use esync_base::waitqueue::Wakes;
+use esync_machine::primitive::Answer;
+use esync_machine::run::Reply;
+use esync_run::channel::ChannelHeard;
+use std::cell::Cell;
+use std::io::ErrorKind;
+use std::process::Abort;
+use std::test::Fail;
+
+/// What one read gives. After the last one the input is at its end.
+#[derive(Clone, Copy)]
+enum Piece {
+    Bytes(&'static [u8]),
+    Fails(ErrorKind),
+}
+
+/// A reader that gives one piece at each read, and notes how much was written before it.
+#[derive(Drop)]
+struct Pieces<'a> {
+    pieces: &'a [Piece],
+    written: &'a Cell<usize>,
+    seen: &'a Cell<usize>,
+}
+
+impl Read for Pieces<'_> {
+    fn read(&mut self, buf: &mut [u8]) -> io::Result<usize> {
+        self.seen.set(self.written.get());
+        let Some((first, rest)) = self.pieces.split_first() else {
+            return Ok(0);
+        };
+        self.pieces = rest;
+        match first {
+            Piece::Bytes(bytes) => {
+                let count = bytes.len().min(buf.len());
+                buf[..count].copy_from_slice(&bytes[..count]);
+                Ok(count)
+            }
+            Piece::Fails(kind) => Err(io::Error::from(*kind)),
+        }
+    }
+}
+
+/// A writer with room for so many bytes. The write that finds none fails, and those after it find room again.
+#[derive(Drop)]
+struct Room<'a> {
+    left: usize,
+    text: &'a mut Vec<u8>,
+    written: &'a Cell<usize>,
+}
+
+impl Write for Room<'_> {
+    fn write(&mut self, buf: &[u8]) -> io::Result<usize> {
+        if self.left == 0 {
+            self.left = usize::MAX;
+            return Err(io::Error::from(ErrorKind::StorageFull));
+        }
+        let count = buf.len().min(self.left);
+        self.text.extend_from_slice(&buf[..count])?;
+        self.left -= count;
+        self.written.set(self.written.get().saturating_add(count));
+        Ok(count)
+    }
+
+    fn flush(&mut self) -> io::Result<()> {
+        Ok(())
+    }
+}
+
+/// What a script left.
+#[derive(Drop)]
+struct Played {
+    output: Vec<u8>,
+    errors: Vec<u8>,
+    status: u8,
+}
+
+/// Plays a script of which every byte can be read and all is written.
+fn play(alloc: Global, input: &[u8]) -> Played {
+    let (mut output, mut errors) = (Vec::new(alloc), Vec::new(alloc));
+    let status = script(alloc, input, &mut output, &mut errors);
+    Played {
+        output,
+        errors,
+        status,
+    }
+}
+
+const FAILED: &str = "input or output failed\n";
+
+/// The script ends with its last line, and prints this.
+fn assert_answers(rt: &(impl Abort + AllocGlobal), input: &str, output: &str) -> Result<(), Fail> {
+    let played = play(rt.alloc(), input.as_bytes());
+    assert_eq!(rt; str::from_utf8(&played.output)?, output, "at {input:?}");
+    assert_eq!(rt; str::from_utf8(&played.errors)?, "", "at {input:?}");
+    assert_eq!(rt; played.status, 0, "at {input:?}");
+    Ok(())
+}
+
+#[test]
+fn a_displaced_receiver_is_woken(rt: HostRuntime) -> Result<(), Fail> {
+    let input =
+        "channel 1\nstart 1 receive\npoll 1 1\nstart 2 receive\npoll 2 2\ntry-send 7\nend 2\npoll 1 1\npoll 1 1\n";
+    let output =
+        "Ok | -\nPending | -\nOk | -\nPending | 1\nOk | 2\nOk | -\nReady(7) | -\nErr(NoSuch) | -\n";
+    assert_answers(&rt, input, output)
+}
+
+#[test]
+fn room_wakes_the_sender_that_waits(rt: HostRuntime) -> Result<(), Fail> {
+    let input =
+        "channel 1\nstart 0 send 5\nstart 1 send 6\npoll 0 3\npoll 1 4\nlen\ntry-receive\nend 1\nfree\npoll 9 1\nstart 16 receive\n";
+    let output =
+        "Ok | -\nOk | -\nReady | -\nPending | -\n1 | -\nOk(5) | 4\nOk | -\n1 | -\nErr(NoSuch) | -\nErr(NoSuch) | -\n";
+    assert_answers(&rt, input, output)
+}
+
+#[test]
+fn asks_for_readiness_register_whatever_the_answer(rt: HostRuntime) -> Result<(), Fail> {
+    let input =
+        "channel 2\nstart 0 receive-ready\npoll 0 1\ntry-send 1\npoll 0 1\nstart 0 receive-ready\npoll 0 2\ntry-send 2\nstart 1 send-ready\npoll 1 3\ntry-receive\n";
+    let output =
+        "Ok | -\nPending | -\nOk | 1\nReady | -\nOk | -\nReady | 1\nOk | 2\nOk | -\nPending | -\nOk(1) | 3\n";
+    assert_answers(&rt, input, output)
+}
+
+#[test]
+fn a_full_channel_is_cleared_for_the_sender_that_waits(rt: HostRuntime) -> Result<(), Fail> {
+    let input =
+        "channel 3\ntry-send 1\ntry-send 1\ntry-send 1\ntry-send 2\nfree\nstart 0 send 2\npoll 0 1\nclear\npoll 0 1\nlen\nclear\ntry-receive\n";
+    let output =
+        "Ok | -\nOk | -\nOk | -\nErr(Full(2)) | -\n0 | -\nOk | -\nPending | -\nOk | 1\nReady | -\n1 | -\nOk | -\nErr(Empty) | -\n";
+    assert_answers(&rt, input, output)
+}
+
+#[test]
+fn the_least_or_the_greatest_leaves_first(rt: HostRuntime) -> Result<(), Fail> {
+    let input =
+        "min 3\ntry-send 2\ntry-send 9\ntry-send 2\ntry-send 4\ntry-receive\ntry-receive\ntry-receive\ntry-receive\n";
+    let output =
+        "Ok | -\nOk | -\nOk | -\nErr(Full(4)) | -\nOk(2) | -\nOk(2) | -\nOk(9) | -\nErr(Empty) | -\n";
+    assert_answers(&rt, input, output)?;
+    let input =
+        "max 2\nstart 0 receive\npoll 0 1\ntry-send 2\ntry-send 9\npoll 0 1\nstart 1 send 5\npoll 1 2\nlen\nclear\n";
+    let output =
+        "Ok | -\nPending | -\nOk | 1\nOk | -\nReady(9) | -\nOk | -\nReady | -\n2 | -\nOk | -\n";
+    assert_answers(&rt, input, output)
+}
+
+#[test]
+fn a_reset_signal_keeps_its_waiter(rt: HostRuntime) -> Result<(), Fail> {
+    let input =
+        "signal 1\nstart 0 wait\npoll 0 1\nsignaled\nreset\nsignal 7\nsignal 8\nsignaled\npoll 0 1\ntry-take\nsignal 9\ntry-take\n";
+    let output =
+        "Ok | -\nPending | -\nfalse | -\nOk | -\nOk | 1\nOk | -\ntrue | -\nReady(8) | -\nNone | -\nOk | -\nSome(9) | -\n";
+    assert_answers(&rt, input, output)
+}
+
+#[test]
+fn each_primitive_has_its_capacity(rt: HostRuntime) -> Result<(), Fail> {
+    for capacity in ["1", "2", "3", "4", "8"] {
+        for primitive in ["channel", "max", "min"] {
+            let input = format!(in rt.alloc(); "{primitive} {capacity}\nfree\n")?;
+            let output = format!(in rt.alloc(); "{capacity} | -\n")?;
+            assert_answers(&rt, &input, &output)?;
+        }
+    }
+    Ok(())
+}
+
+/// The picture in the README.
+const PICTURE: &str = "sequenceDiagram
+    participant object as channel 1
+    request_1->>object: start 1 receive
+    object-->>request_1: Ok
+    request_1->>object: poll 1 1
+    object-->>request_1: Pending
+    request_2->>object: start 2 receive
+    object-->>request_2: Ok
+    request_2->>object: poll 2 2
+    object-->>request_2: Pending
+    object-)task_1: wake
+    caller->>object: try-send 7
+    object-->>caller: Ok
+    object-)task_2: wake
+    request_2-xobject: dropped
+    object-->>request_2: Ok
+    request_1->>object: poll 1 1
+    object-->>request_1: Ready(7)
+    request_1->>object: poll 1 1
+    object-->>request_1: Err(NoSuch)
+";
+
+#[test]
+fn a_trace_is_the_picture_of_the_readme(rt: HostRuntime) -> Result<(), Fail> {
+    let input =
+        "channel 1\nstart 1 receive\npoll 1 1\nstart 2 receive\npoll 2 2\ntry-send 7\nend 2\npoll 1 1\npoll 1 1\n";
+    let (mut output, mut errors) = (Vec::new(rt.alloc()), Vec::new(rt.alloc()));
+    let status = trace(rt.alloc(), input.as_bytes(), &mut output, &mut errors);
+    assert_eq!(rt; str::from_utf8(&output)?, PICTURE);
+    assert_eq!(rt; str::from_utf8(&errors)?, "");
+    assert_eq!(rt; status, 0);
+    Ok(())
+}
+
+#[test]
+fn a_trace_ends_as_its_script_does(rt: HostRuntime) -> Result<(), Fail> {
+    let (mut output, mut errors) = (Vec::new(rt.alloc()), Vec::new(rt.alloc()));
+    let input = "signal 1\nsignal 5\npop\n";
+    let status = trace(rt.alloc(), input.as_bytes(), &mut output, &mut errors);
+    let drawn =
+        "sequenceDiagram\n    participant object as signal 1\n    caller->>object: signal 5\n    object-->>caller: Ok\n";
+    assert_eq!(rt; str::from_utf8(&output)?, drawn);
+    assert_eq!(rt; str::from_utf8(&errors)?, "line 3: not a command\n");
+    assert_eq!(rt; status, 2);
+    Ok(())
+}
+
+#[test]
+fn reads_numbers_and_the_last_line(rt: HostRuntime) -> Result<(), Fail> {
+    for (input, output) in [
+        ("channel 1", ""),
+        ("channel 1\n", ""),
+        ("channel 1\nlen", "0 | -\n"),
+        ("channel 4\nfree\n", "4 | -\n"),
+        ("channel 8\nfree\n", "8 | -\n"),
+        (
+            "channel 0001\ntry-send 007\ntry-receive\n",
+            "Ok | -\nOk(7) | -\n",
+        ),
+        (
+            "channel 1\ntry-send 4294967295\ntry-receive\n",
+            "Ok | -\nOk(4294967295) | -\n",
+        ),
+        (
+            "channel 1\nstart 15 receive\npoll 15 18446744073709551615\ntry-send 0\n",
+            "Ok | -\nPending | -\nOk | 18446744073709551615\n",
+        ),
+        (
+            "channel 1\nend 18446744073709551615\nstart 0 receive\nstart 0 receive\nend 0\n",
+            "Err(NoSuch) | -\nOk | -\nErr(NoSuch) | -\nOk | -\n",
+        ),
+    ] {
+        assert_answers(&rt, input, output)?;
+    }
+    Ok(())
+}
+
+#[test]
+fn line_1_names_a_primitive(rt: HostRuntime) -> Result<(), Fail> {
+    for input in [
+        "",
+        "\n",
+        "\nchannel 1\n",
+        "channel\n",
+        "channel 0\n",
+        "channel 5\n",
+        "channel 16\n",
+        "channel 1 1\n",
+        "channel 4294967297\n",
+        "channel 18446744073709551616\n",
+        "Channel 1\n",
+        " channel 1\n",
+        "channel 1 \n",
+        "channel  1\n",
+        "channel\t1\n",
+        "channel 1\r\n",
+        "channel +1\n",
+        "queue 1\n",
+        "max\n",
+        "min 5\n",
+        "signal\n",
+        "signal 2\n",
+        "signal 1 1\n",
+        "len\n",
+    ] {
+        let played = play(rt.alloc(), input.as_bytes());
+        assert_eq!(rt;
+            str::from_utf8(&played.errors)?,
+            "line 1: not a command\n",
+            "at {input:?}"
+        );
+        assert_eq!(rt; played.output.len(), 0, "at {input:?}");
+        assert_eq!(rt; played.status, 2, "at {input:?}");
+    }
+    Ok(())
+}
+
+#[test]
+fn a_line_that_is_no_command_ends_the_script(rt: HostRuntime) -> Result<(), Fail> {
+    for line in [
+        b"".as_slice(),
+        b"pop",
+        b"channel 2",
+        b"len\r",
+        b"len ",
+        b" len",
+        b"len 0",
+        b"Len",
+        b"len\0",
+        b"len\x80",
+        b"l\xc3\xa9n",
+        b"start",
+        b"start 0",
+        b"start 0 pop",
+        b"start 0 len",
+        b"start 0 receive 1",
+        b"start receive",
+        b"start 18446744073709551616 receive",
+        b"poll 0",
+        b"poll  0 1",
+        b"poll 0 18446744073709551616",
+        b"end",
+        b"end -1",
+        b"try-send",
+        b"try-send ",
+        b"try-send +5",
+        b"try-send 1_0",
+        b"try-send 0x1",
+        b"try-send \xd9\xa1",
+        b"try-send 4294967296",
+        b"start 0 send 4294967296",
+        b"try-send 99999999999999999999999999",
+    ] {
+        let mut input = Vec::from_slice(rt.alloc(), b"channel 2\ntry-send 1\n")?;
+        input.extend_from_slice(line)?;
+        input.extend_from_slice(b"\nlen\n")?;
+        let played = play(rt.alloc(), &input);
+        assert_eq!(rt; str::from_utf8(&played.output)?, "Ok | -\n", "at {line:?}");
+        assert_eq!(rt;
+            str::from_utf8(&played.errors)?,
+            "line 3: not a command\n",
+            "at {line:?}"
+        );
+        assert_eq!(rt; played.status, 2, "at {line:?}");
+    }
+    Ok(())
+}
+
+#[test]
+fn a_line_has_at_most_256_bytes(rt: HostRuntime) -> Result<(), Fail> {
+    for (zeros, status) in [(246, 0), (247, 2), (10_000, 2)] {
+        for end in ["\n", ""] {
+            let mut input = Vec::from_slice(rt.alloc(), b"channel 1\ntry-send ")?;
+            input.resize(19 + zeros, b'0')?;
+            input.extend_from_slice(b"7")?;
+            input.extend_from_slice(end.as_bytes())?;
+            let played = play(rt.alloc(), &input);
+            let output = if status == 0 { "Ok | -\n" } else { "" };
+            assert_eq!(rt; str::from_utf8(&played.output)?, output, "at {zeros}");
+            assert_eq!(rt; played.status, status, "at {zeros}");
+        }
+    }
+    Ok(())
+}
+
+#[test]
+fn prints_several_wakers_in_order(rt: HostRuntime) -> Result<(), Fail> {
+    let mut wakes = Wakes::<u64, 3>::new();
+    wakes.push(9);
+    wakes.push(0);
+    wakes.push(9);
+    let answer = Answer::Gives(ChannelHeard::<u32>::Ready);
+    let mut text = Vec::new(rt.alloc());
+    Reply { answer, wakes }.print(&mut text)?;
+    assert_eq!(rt; str::from_utf8(&text)?, "Ready | 9 0 9\n");
+    Ok(())
+}
+
+#[test]
+fn want_of_memory_is_no_answer(rt: HostRuntime) {
+    let mut text = Vec::new(rt.alloc());
+    let answer = Answer::<ChannelHeard<u32>>::NoMemory;
+    assert_eq!(rt; answer.print(&mut text), Err(Fault::OutOfMemory));
+    assert_eq!(rt; text.len(), 0);
+}
+
+const FAILS: Piece = Piece::Fails(ErrorKind::Other);
+
+/// What the reads give, and what the script then writes to its output and to its errors, and its status.
+const READS: [(&[Piece], &str, &str, u8); 9] = [
+    (&[FAILS], "", FAILED, 3),
+    (
+        &[Piece::Bytes(b"channel 1\nlen\n"), FAILS],
+        "0 | -\n",
+        FAILED,
+        3,
+    ),
+    // The line that is cut isn't judged.
+    (
+        &[Piece::Bytes(b"channel 1\nlen\npop"), FAILS],
+        "0 | -\n",
+        FAILED,
+        3,
+    ),
+    // A line ends the script before the read that fails.
+    (
+        &[Piece::Bytes(b"channel 1\nlen\npop\n"), FAILS],
+        "0 | -\n",
+        "line 3: not a command\n",
+        2,
+    ),
+    // So does one of which enough is read.
+    (
+        &[Piece::Bytes(&[b'a'; 257]), FAILS],
+        "",
+        "line 1: not a command\n",
+        2,
+    ),
+    (&[Piece::Bytes(&[b'a'; 256]), FAILS], "", FAILED, 3),
+    // After a line without a line feed nothing is read.
+    (
+        &[Piece::Bytes(b"channel 1\nlen"), Piece::Bytes(b""), FAILS],
+        "0 | -\n",
+        "",
+        0,
+    ),
+    // A read that a signal interrupts is made again.
+    (
+        &[
+            Piece::Fails(ErrorKind::Interrupted),
+            Piece::Bytes(b"channel 1\nfr"),
+            Piece::Fails(ErrorKind::Interrupted),
+            Piece::Bytes(b"ee\n"),
+        ],
+        "1 | -\n",
+        "",
+        0,
+    ),
+    (
+        &[
+            Piece::Bytes(b"c"),
+            Piece::Bytes(b"hannel 1"),
+            Piece::Bytes(b"\n"),
+            Piece::Bytes(b"fr"),
+            Piece::Bytes(b"ee"),
+            Piece::Bytes(b"\nle"),
+            Piece::Bytes(b"n"),
+        ],
+        "1 | -\n0 | -\n",
+        "",
+        0,
+    ),
+];
+
+#[test]
+fn a_failed_read_ends_the_script(rt: HostRuntime) -> Result<(), Fail> {
+    for (pieces, output, errors, status) in READS {
+        let (written, seen) = (Cell::new(0), Cell::new(0));
+        let input = Pieces {
+            pieces,
+            written: &written,
+            seen: &seen,
+        };
+        let (mut printed, mut reported) = (Vec::new(rt.alloc()), Vec::new(rt.alloc()));
+        let ended = script(rt.alloc(), input, &mut printed, &mut reported);
+        assert_eq!(rt; str::from_utf8(&printed)?, output);
+        assert_eq!(rt; str::from_utf8(&reported)?, errors);
+        assert_eq!(rt; ended, status);
+    }
+    Ok(())
+}
+
+#[test]
+fn answers_are_written_before_a_read_that_may_wait(rt: HostRuntime) -> Result<(), Fail> {
+    let (written, seen) = (Cell::new(0), Cell::new(0));
+    let input = Pieces {
+        pieces: &[
+            Piece::Bytes(b"channel 1\nlen\nfr"),
+            Piece::Bytes(b"ee\ntry-send 5\n"),
+        ],
+        written: &written,
+        seen: &seen,
+    };
+    let mut text = Vec::new(rt.alloc());
+    let output = Room {
+        left: usize::MAX,
+        text: &mut text,
+        written: &written,
+    };
+    let ended = script(rt.alloc(), input, output, Vec::new(rt.alloc()));
+    assert_eq!(rt; ended, 0);
+    assert_eq!(rt; str::from_utf8(&text)?, "0 | -\n1 | -\nOk | -\n");
+    assert_eq!(rt;
+        seen.get(),
+        text.len(),
+        "before the read that finds the end"
+    );
+    Ok(())
+}
+
+#[test]
+fn a_failed_write_ends_the_script(rt: HostRuntime) -> Result<(), Fail> {
+    for input in [
+        b"channel 1\nlen\nfree\n".as_slice(),
+        b"channel 1\nlen\nfree\npop\n",
+    ] {
+        for left in 0..12 {
+            let written = Cell::new(0);
+            let (mut printed, mut reported) = (Vec::new(rt.alloc()), Vec::new(rt.alloc()));
+            let output = Room {
+                left,
+                text: &mut printed,
+                written: &written,
+            };
+            let ended = script(rt.alloc(), input, output, &mut reported);
+            assert_eq!(rt;
+                str::from_utf8(&printed)?,
+                &"0 | -\n1 | -\n"[..left],
+                "with room for {left}"
+            );
+            assert_eq!(rt; str::from_utf8(&reported)?, FAILED);
+            assert_eq!(rt; ended, 3);
+        }
+    }
+    Ok(())
+}
+
+#[test]
+fn errors_that_cannot_be_written_change_no_status(rt: HostRuntime) -> Result<(), Fail> {
+    for left in [0, 5] {
+        let written = Cell::new(0);
+        let (mut printed, mut reported) = (Vec::new(rt.alloc()), Vec::new(rt.alloc()));
+        let errors = Room {
+            left,
+            text: &mut reported,
+            written: &written,
+        };
+        let ended = script(
+            rt.alloc(),
+            b"channel 2\nlen\npop\n".as_slice(),
+            &mut printed,
+            errors,
+        );
+        assert_eq!(rt; ended, 2);
+        assert_eq!(rt; str::from_utf8(&printed)?, "0 | -\n");
+    }
+    Ok(())
+}

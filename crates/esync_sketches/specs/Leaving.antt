@@ -1,0 +1,65 @@
+-- A post box for one subscriber: whether it is there, and the message that it has not read.
+use Rattle.std.specs.Prelude.{◌≡◌, ℕ, Bool, true, false, Option, Some, None, refl}
+use Rattle.esync_base.specs.Registration.{IsAmong}
+use Rattle.std.specs.Prelude.{List}
+use Rattle.esync_machine.specs.declared.primitive.Answer.{Answer}
+use Rattle.esync_machine.specs.declared.primitive.Answer.TheVariants.{Done, Pending, Gives}
+use Rattle.esync_machine.specs.declared.primitive.Reach.{Reach}
+use Rattle.esync_machine.specs.declared.primitive.Reach.TheVariants.{Nobody, Leavers}
+use Rattle.esync_machine.specs.Rules.{Rules, Alone, IsIdle, IdleIsPending}
+use Rattle.esync_sketches.specs.declared.leaving.NextMessage.{NextMessage}
+use Rattle.esync_sketches.specs.declared.leaving.PostCall.{PostCall}
+use Rattle.esync_sketches.specs.declared.leaving.PostCall.TheVariants.{Join, Leave, Post}
+
+pub record Posted : Type 0 where
+  pub is_live : Bool
+  pub message : Option ℕ
+
+-- a start names what isn't there where the subscriber isn't
+abbrev pub Begins : Bool → NextMessage → Option NextMessage → Type 0
+Begins true ask p = p ≡ Some ask
+Begins false ask p = p ≡ None
+
+abbrev pub Polls : Option ℕ → Posted → NextMessage → Answer ℕ → Posted → Option NextMessage → Type 0
+Polls None o h a o2 p = (a ≡ Pending) × (o2 ≡ o) × (p ≡ Some h)
+Polls (Some x) o h a o2 p = (a ≡ Gives x) × (o2 ≡ record o { message = None }) × (p ≡ None)
+
+abbrev pub Posts : Bool → Posted → ℕ → Posted
+Posts true o x = record o { message = Some x }
+Posts false o x = o
+
+abbrev pub Calls : Posted → PostCall → Answer ℕ → Posted → Type 0
+Calls o Join a o2 = (a ≡ Done) × (o2 ≡ record o { is_live = true })
+Calls o Leave a o2 = (a ≡ Done) × (o2 ≡ record { is_live = false; message = None })
+Calls o (Post x) a o2 = (a ≡ Done) × (o2 ≡ Posts o.is_live o x)
+
+abbrev pub reach_of_call : PostCall → Reach
+reach_of_call Join = Nobody
+reach_of_call Leave = Leavers
+reach_of_call (Post x) = Nobody
+
+abbrev pub post_rules : Rules NextMessage NextMessage PostCall ℕ
+post_rules = record {
+  Core = Posted;
+  begins = λ o ask p. Begins o.is_live ask p;
+  polls = λ o h a o2 p. Polls o.message o h a o2 p;
+  ends = λ o h o2. o2 ≡ o;
+  reach = reach_of_call;
+  calls = Alone Calls;
+  leaves = λ o call h. true;
+  IsRequest = λ h. Unit {0};
+  WakesItself = ⊥;
+}
+
+abbrev pub OwesReader : {W : Type 0} → (W → W → Bool) → Option ℕ → List W → W → Type 0
+OwesReader eq message reader w = (message ≡ None) × IsAmong eq w reader
+
+pub post_idle : (o : Posted) (h : NextMessage) → o.message ≡ None → IsIdle post_rules o h
+post_idle o h e = rw (e, Polls) (refl, refl, refl)
+
+pending_at : (m : Option ℕ) (o : Posted) (h : NextMessage) (a : Answer ℕ) (o2 : Posted) (p : Option NextMessage) → Polls m o h Pending o (Some h) → Polls m o h a o2 p → (a ≡ Pending) × (o2 ≡ o) × (p ≡ Some h)
+pending_at None o h a o2 p i k = k
+pending_at (Some x) o h a o2 p i k = (let f = i.0 in absurd cc)
+
+pub post_pending : IdleIsPending post_rules
+post_pending o h a o2 p i k = pending_at o.message o h a o2 p i k

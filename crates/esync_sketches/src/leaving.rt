@@ -1,0 +1,143 @@
+//! A post box for one subscriber, who may leave: leaving ends all requests that wait for a message.
+ghost use Rattle.std.specs.Prelude.{◌≡◌, ℕ, ◌≤◌, IfOk, OnErr};
+ghost use Rattle.esync_machine.specs.Runs.{GoodRun};
+ghost use Rattle.esync_machine.specs.Object.{Object, requests_meaning};
+ghost use Rattle.esync_sketches.specs.Leaving.{post_rules};
+
+use esync_base::waitqueue::{WakerRegistration, Wakes};
+use esync_machine::primitive::{Answer, Command, Primitive, Reach, Turn};
+use esync_machine::requests::Requests;
+use esync_machine::run::{Reply, run};
+use std::alloc::{AllocError, Global};
+
+/// A request for the next message of the subscriber.
+#[derive(Clone, Copy, Debug, PartialEq, Eq)]
+pub struct NextMessage {}
+
+/// The other calls.
+#[derive(Clone, Copy, Debug, PartialEq, Eq)]
+pub enum PostCall {
+    /// The subscriber joins.
+    Join,
+    /// The subscriber leaves: its requests end, and its message is gone.
+    Leave,
+    /// A message is posted to the subscriber, if there is one, in place of one that it didn't read.
+    Post(u32),
+}
+
+/// A message for the subscriber, if there is one, and the waker of its request.
+#[derive(Drop)]
+pub struct PostBox<W, const K: usize> {
+    is_live: bool,
+    message: Option<u32>,
+    reader: WakerRegistration<W>,
+    ghost room: { 1 ≤ K },
+}
+
+impl<W: Copy + Eq, const K: usize> Primitive<K> for PostBox<W, K> {
+    type Ask = NextMessage;
+
+    type Held = NextMessage;
+
+    type Call = PostCall;
+
+    type Heard = u32;
+
+    type Waker = W;
+
+    ghost use Rattle.esync_sketches.specs.Leaving.{post_rules, OwesReader, post_idle, post_pending};
+
+    ghost rules = { post_rules };
+
+    ghost core = { λ m. record { is_live = m.is_live; message = m.message } };
+
+    ghost Owes = { λ m h w. OwesReader W.eq m.message m.reader w };
+
+    ghost use Rattle.std.specs.Prelude.{true};
+
+    ghost Fits = { λ m h. m.is_live ≡ true };
+
+    ghost Apart = { λ h k. Unit };
+
+    fn begin(&self, ask: NextMessage) -> Option<NextMessage> {
+        if self.is_live { Some(ask) } else { None }
+    }
+
+    fn poll(
+        &mut self,
+        held: NextMessage,
+        waker: W,
+        wakes: &mut Wakes<W, K>,
+    ) -> Turn<u32, NextMessage> {
+        match self.message.take() {
+            Some(message) => Turn::over(message),
+            None => {
+                self.reader.register(waker, wakes);
+                Turn::waits(held)
+            }
+        }
+    }
+
+    fn end(&mut self, _held: NextMessage, _wakes: &mut Wakes<W, K>) {}
+
+    fn reach(call: &PostCall) -> Reach {
+        match call {
+            PostCall::Leave => Reach::Leavers,
+            PostCall::Join => Reach::Nobody,
+            PostCall::Post(_) => Reach::Nobody,
+        }
+    }
+
+    fn leaves(&self, _call: &PostCall, _held: &NextMessage) -> bool {
+        true
+    }
+
+    fn call(
+        &mut self,
+        call: PostCall,
+        _place: &mut Option<NextMessage>,
+        wakes: &mut Wakes<W, K>,
+    ) -> Answer<u32> {
+        match call {
+            PostCall::Join => {
+                self.is_live = true;
+                Answer::Done
+            }
+            PostCall::Leave => {
+                self.is_live = false;
+                self.message = None;
+                Answer::Done
+            }
+            PostCall::Post(message) => {
+                if self.is_live {
+                    self.message = Some(message);
+                    self.reader.wake(wakes);
+                }
+                Answer::Done
+            }
+        }
+    }
+
+    ghost idle = { λ m h w f o. post_idle (record { is_live = m.is_live; message = m.message }) h o.0 };
+
+    ghost pending = { post_pending };
+
+    ghost no_such = { λ o h a o2 p n k. absurd (n tt) };
+
+    ghost symmetric = { λ h k a. tt };
+}
+
+/// The post box as a machine.
+pub type PostRun<W, const REQS: usize, const K: usize> = Requests<PostBox<W, K>, REQS, K>;
+
+/// Gives the commands to the post box, one after another, as `run` does.
+pub fn run_post<W: Copy + Eq, const REQS: usize, const K: usize>(
+    alloc: Global,
+    machine: &mut PostRun<W, REQS, K>,
+    commands: Vec<Command<NextMessage, W, PostCall>>,
+) -> Result<Vec<Reply<Answer<u32>, W, K>>, AllocError>
+    ensures run { IfOk result (λ replies. GoodRun (requests_meaning post_rules W W.eq K) (record { core = record { is_live = machine.old.state.is_live; message = machine.old.state.message }; requests = machine.old.requests }) commands.items replies.items (record { core = record { is_live = machine.new.state.is_live; message = machine.new.state.message }; requests = machine.new.requests })) }
+    ensures refused { OnErr result (machine.new ≡ machine.old) }
+{
+    run(alloc, machine, commands)
+}

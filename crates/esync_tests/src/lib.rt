@@ -1,0 +1,11 @@
+//! What no clause says: worked examples, and each call once with its answer and its wakes.
+#![tactic(auto)]
+
+#[cfg(test)]
+mod channel;
+#[cfg(test)]
+mod registrations;
+#[cfg(test)]
+mod runs;
+#[cfg(test)]
+mod shared;

@@ -1,0 +1,36 @@
+use esync_base::waitqueue::{Context, TaskId, WakerRegistration, Wakes};
+use std::test::Fail;
+
+#[test]
+fn an_equal_waker_stays_and_another_is_displaced(rt: HostRuntime) {
+    let mut slot = WakerRegistration::new();
+    assert!(rt; !slot.occupied());
+    let mut wakes: Wakes<u32, 1> = Wakes::new();
+    slot.register(1, &mut wakes);
+    slot.register(1, &mut wakes);
+    assert!(rt; wakes.is_empty() && slot.occupied());
+    slot.register(2, &mut wakes);
+    assert_eq!(rt; wakes.get(0), Some(1));
+    let mut wakes: Wakes<u32, 1> = Wakes::new();
+    slot.wake(&mut wakes);
+    assert_eq!(rt; wakes.get(0), Some(2));
+    assert_eq!(rt; wakes.len(), 1);
+    assert!(rt; !slot.occupied());
+}
+
+#[test]
+fn an_empty_slot_hands_out_nothing(rt: HostRuntime) -> Result<(), Fail> {
+    let mut slot: WakerRegistration<TaskId> = WakerRegistration::default();
+    let mut wakes: Wakes<TaskId, 2> = Wakes::new();
+    slot.wake(&mut wakes);
+    assert_eq!(rt; wakes.get(0), None);
+    let text = format!(in rt.alloc(); "{slot:?}")?;
+    assert_eq!(rt; text.as_str(), "WakerRegistration { waker: None }");
+    Ok(())
+}
+
+#[test]
+fn a_context_lends_its_waker(rt: HostRuntime) {
+    let cx = Context::from_waker(TaskId(3));
+    assert_eq!(rt; cx.waker(), TaskId(3));
+}

@@ -1,0 +1,115 @@
+use esync_channel::channel::{TryReceiveError, TrySendError};
+use esync_machine::run::Awaits;
+use esync_run::channel::{
+    ChannelAsk as Ask, ChannelCall as Call, ChannelHeard as Heard, ChannelReply, ChannelRun,
+    MailboxState, run_channel,
+};
+use esync_run::primitive::{Answer, Command};
+use esync_run::requests::Requests;
+use std::process::Abort;
+use std::test::Fail;
+
+type Replies<'a> = &'a [ChannelReply<u32, u64, 1>];
+
+// Each reply has this answer, and hands out this waker alone or none.
+fn are(rt: &impl Abort, replies: Replies<'_>, want: &[(Answer<Heard<u32>>, Option<u64>)]) {
+    assert_eq!(rt; replies.len(), want.len());
+    for (reply, (answer, waker)) in replies.iter().zip(want) {
+        assert!(rt; reply.answer == *answer);
+        assert_eq!(rt; reply.wakes.as_slice(), [*waker].as_slice());
+    }
+}
+
+#[test]
+fn a_run_of_two_senders(rt: HostRuntime) -> Result<(), Fail> {
+    let mut machine: ChannelRun<u32, u64, 1, 16, 1> = Requests::new(MailboxState::new());
+    let commands = vec![in rt.alloc();
+        Command::Start(0, Ask::Send(5)),
+        Command::Start(1, Ask::Send(6)),
+        Command::Poll(0, 3),
+        Command::Poll(1, 4),
+        Command::Call(Call::Len),
+        Command::Call(Call::TryReceive),
+        Command::End(1),
+        Command::Call(Call::FreeCapacity),
+        Command::Poll(9, 1),
+        Command::Start(16, Ask::Receive),
+    ]?;
+    let replies = run_channel(rt.alloc(), &mut machine, commands)?;
+    are(
+        &rt,
+        replies.as_slice(),
+        &[
+            (Answer::Done, None),
+            (Answer::Done, None),
+            (Answer::Gives(Heard::Ready), None),
+            (Answer::Pending, None),
+            (Answer::Gives(Heard::Number(1)), None),
+            (Answer::Gives(Heard::TryReceived(Ok(5))), Some(4)),
+            (Answer::Done, None),
+            (Answer::Gives(Heard::Number(1)), None),
+            (Answer::NoSuch, None),
+            (Answer::NoSuch, None),
+        ],
+    );
+    Ok(())
+}
+
+#[test]
+fn a_run_of_two_receivers(rt: HostRuntime) -> Result<(), Fail> {
+    let mut machine: ChannelRun<u32, u64, 1, 16, 1> = Requests::new(MailboxState::new());
+    let commands = vec![in rt.alloc();
+        Command::Start(1, Ask::Receive),
+        Command::Poll(1, 1),
+        Command::Start(2, Ask::Receive),
+        Command::Poll(2, 2),
+        Command::Call(Call::TrySend(7)),
+        Command::Call(Call::TrySend(8)),
+        Command::End(2),
+        Command::Poll(1, 1),
+        Command::Poll(1, 1),
+        Command::Call(Call::TryReceive),
+        Command::Start(3, Ask::SendReady),
+        Command::Poll(3, 5),
+        Command::Start(4, Ask::ReceiveReady),
+        Command::Poll(4, 6),
+        Command::Call(Call::Clear),
+    ]?;
+    let replies = run_channel(rt.alloc(), &mut machine, commands)?;
+    are(
+        &rt,
+        replies.as_slice(),
+        &[
+            (Answer::Done, None),
+            (Answer::Pending, None),
+            (Answer::Done, None),
+            (Answer::Pending, Some(1)),
+            (Answer::Gives(Heard::TrySent(Ok(()))), Some(2)),
+            (
+                Answer::Gives(Heard::TrySent(Err(TrySendError::Full(8)))),
+                None,
+            ),
+            (Answer::Done, None),
+            (Answer::Gives(Heard::Received(7)), None),
+            (Answer::NoSuch, None),
+            (
+                Answer::Gives(Heard::TryReceived(Err(TryReceiveError::Empty))),
+                None,
+            ),
+            (Answer::Done, None),
+            (Answer::Gives(Heard::Ready), None),
+            (Answer::Done, None),
+            (Answer::Pending, None),
+            (Answer::Done, Some(5)),
+        ],
+    );
+    Ok(())
+}
+
+#[test]
+fn commands_and_replies_tell_what_they_are(rt: HostRuntime) {
+    let start = <ChannelRun<u32, u64, 1, 16, 1> as Awaits>::start(3, Ask::Receive);
+    assert!(rt; <ChannelRun<u32, u64, 1, 16, 1> as Awaits>::is_start(&start));
+    assert!(rt; !<ChannelRun<u32, u64, 1, 16, 1> as Awaits>::is_poll(&start));
+    assert!(rt; <ChannelRun<u32, u64, 1, 16, 1> as Awaits>::REQS == 16);
+}

@@ -1,0 +1,258 @@
+use embassy_sync::blocking_mutex::CriticalSectionMutex;
+use embassy_sync::channel::{
+    Channel, ChannelState, DynamicReceiveFuture, DynamicReceiver, DynamicSendFuture, DynamicSender,
+    TryReceiveError, TrySendError,
+};
+use embassy_sync::priority_channel::{Max, Min, PriorityChannel};
+use embassy_sync::signal::Signal;
+use embassy_sync::waitqueue::{Context, Hand, Poll, Wakes};
+use std::cell::Cell;
+use std::process::Abort;
+use std::sync::Wait;
+use std::test::Fail;
+use std::thread;
+
+// A hand that notes the waker that it was last given.
+#[derive(Drop)]
+struct Notes<'a, R> {
+    rt: &'a R,
+    last: Cell<Option<u64>>,
+}
+
+impl<'a, R: Wait> Notes<'a, R> {
+    fn new(rt: &'a R) -> Self {
+        Notes {
+            rt,
+            last: Cell::new(None),
+        }
+    }
+}
+
+impl<R: Wait> Hand<u64> for &Notes<'_, R> {
+    type Rt = R;
+
+    fn rt(&self) -> &R {
+        self.rt
+    }
+
+    fn wake(&self, waker: u64) {
+        self.last.set(Some(waker));
+    }
+}
+
+// The hand was given this waker since it was last asked, or none.
+fn woken<R: Wait>(rt: &impl Abort, notes: &Notes<'_, R>, waker: Option<u64>) {
+    assert_eq!(rt; notes.last.replace(None), waker);
+}
+
+#[test]
+fn displaced_receiver_is_woken_by_the_hand(rt: HostRuntime) {
+    let notes = Notes::new(&rt);
+    let channel: Channel<u32, u64, _, 1> = Channel::new(&notes);
+    let mut first = channel.receive();
+    let mut second = channel.receive();
+    let (one, two) = (Context::from_waker(1), Context::from_waker(2));
+    assert!(rt; first.poll(&one) == Poll::Pending);
+    woken(&rt, &notes, None);
+    assert!(rt; second.poll(&two) == Poll::Pending);
+    woken(&rt, &notes, Some(1));
+    assert!(rt; channel.try_send(7) == Ok(()));
+    woken(&rt, &notes, Some(2));
+    drop(second);
+    assert!(rt; first.poll(&one) == Poll::Ready(7));
+    woken(&rt, &notes, None);
+}
+
+#[test]
+fn clear_wakes_the_sender_by_the_hand(rt: HostRuntime) {
+    let notes = Notes::new(&rt);
+    let channel: Channel<u32, u64, _, 3> = Channel::new(&notes);
+    for _ in 0..3 {
+        assert!(rt; channel.try_send(1) == Ok(()));
+    }
+    assert!(rt; channel.try_send(2) == Err(TrySendError::Full(2)));
+    assert!(rt; channel.free_capacity() == 0 && channel.is_full() && !channel.is_empty());
+    let mut send = channel.send(2);
+    let cx = Context::from_waker(1);
+    assert!(rt; !send.is_finished());
+    assert!(rt; send.poll(&cx) == Poll::Pending);
+    woken(&rt, &notes, None);
+    channel.clear();
+    woken(&rt, &notes, Some(1));
+    assert!(rt; !send.is_finished());
+    assert!(rt; send.poll(&cx) == Poll::Ready(()));
+    woken(&rt, &notes, None);
+    assert!(rt; send.is_finished());
+    assert_eq!(rt; channel.len(), 1);
+    assert_eq!(rt; channel.capacity(), 3);
+}
+
+#[test]
+fn ready_polls_register_by_handles(rt: HostRuntime) {
+    let notes = Notes::new(&rt);
+    let channel: Channel<u32, u64, _, 2> = Channel::new(&notes);
+    let (sender, receiver) = (channel.sender(), channel.receiver());
+    assert!(rt; receiver.poll_ready_to_receive(&Context::from_waker(1)) == Poll::Pending);
+    woken(&rt, &notes, None);
+    assert!(rt; sender.try_send(1) == Ok(()));
+    woken(&rt, &notes, Some(1));
+    assert!(rt; receiver.poll_ready_to_receive(&Context::from_waker(1)) == Poll::Ready(()));
+    let mut ready = receiver.ready_to_receive();
+    assert!(rt; ready.poll(&Context::from_waker(2)) == Poll::Ready(()));
+    woken(&rt, &notes, Some(1));
+    assert!(rt; sender.try_send(2) == Ok(()));
+    woken(&rt, &notes, Some(2));
+    assert!(rt; sender.poll_ready_to_send(&Context::from_waker(3)) == Poll::Pending);
+    woken(&rt, &notes, None);
+    assert!(rt; receiver.try_receive() == Ok(1));
+    woken(&rt, &notes, Some(3));
+}
+
+#[test]
+fn the_greatest_leaves_first(rt: HostRuntime) {
+    let notes = Notes::new(&rt);
+    let channel: PriorityChannel<u32, u64, Max, _, 3> = PriorityChannel::new(&notes);
+    assert!(rt; channel.poll_ready_to_send(&Context::from_waker(1)) == Poll::Ready(()));
+    for message in [1, 2, 3] {
+        assert!(rt; channel.try_send(message) == Ok(()));
+        woken(&rt, &notes, None);
+    }
+    for (message, waker) in [(3, Some(1)), (2, None), (1, None)] {
+        assert!(rt; channel.try_receive() == Ok(message));
+        woken(&rt, &notes, waker);
+    }
+}
+
+#[test]
+fn a_signal_keeps_its_waiter_over_a_reset(rt: HostRuntime) {
+    let notes = Notes::new(&rt);
+    let signal: Signal<u32, u64, _> = Signal::new(&notes);
+    let mut first = signal.wait();
+    let mut second = signal.wait();
+    let (one, two) = (Context::from_waker(1), Context::from_waker(2));
+    assert!(rt; first.poll(&one) == Poll::Pending);
+    assert!(rt; second.poll(&two) == Poll::Pending);
+    woken(&rt, &notes, Some(1));
+    signal.reset();
+    woken(&rt, &notes, None);
+    signal.signal(5);
+    woken(&rt, &notes, Some(2));
+    assert!(rt; signal.signaled());
+    assert!(rt; second.poll(&two) == Poll::Ready(5));
+    woken(&rt, &notes, None);
+    assert!(rt; first.poll(&one) == Poll::Pending);
+    assert_eq!(rt; signal.try_take(), None);
+}
+
+#[test]
+fn cloning(rt: HostRuntime) -> Result<(), Fail> {
+    let notes = Notes::new(&rt);
+    let channel: Channel<u32, u64, _, 3> = Channel::new(&notes);
+    let (receiver, sender) = (channel.receiver(), channel.sender());
+    let other_receiver = receiver.clone()?;
+    let other_sender = sender.clone()?;
+    assert!(rt; other_sender.try_send(1) == Ok(()));
+    assert!(rt; sender.len() == 1 && receiver.len() == 1);
+    assert!(rt; other_receiver.try_receive() == Ok(1));
+    Ok(())
+}
+
+#[test]
+fn dynamic_dispatch(rt: HostRuntime) {
+    let notes = Notes::new(&rt);
+    let channel: PriorityChannel<u32, u64, Min, _, 3> = PriorityChannel::new(&notes);
+    let sender = DynamicSender::from(channel.sender());
+    let receiver = DynamicReceiver::from(channel.receiver());
+    assert!(rt; sender.try_send(1) == Ok(()));
+    assert!(rt; receiver.try_receive() == Ok(1));
+}
+
+#[test]
+fn dynamic_dispatch_into(rt: HostRuntime) {
+    let notes = Notes::new(&rt);
+    let channel: Channel<u32, u64, _, 3> = Channel::new(&notes);
+    let sender = DynamicSender::from(channel.sender());
+    let receiver = DynamicReceiver::from(channel.receiver());
+    assert!(rt; sender.try_send(1) == Ok(()));
+    assert!(rt; receiver.try_receive() == Ok(1));
+    assert!(rt; receiver.try_receive() == Err(TryReceiveError::Empty));
+}
+
+#[test]
+fn dynamic_dispatch_constructor(rt: HostRuntime) {
+    let notes = Notes::new(&rt);
+    let channel: Channel<u32, u64, _, 1> = Channel::new(&notes);
+    let (sender, receiver) = (channel.dyn_sender(), channel.dyn_receiver());
+    let cx = Context::from_waker(4);
+    assert!(rt; sender.try_send(1) == Ok(()));
+    let mut send = sender.send(2);
+    assert!(rt; !send.is_finished());
+    assert!(rt; send.poll(&cx) == Poll::Pending);
+    assert!(rt; receiver.try_receive() == Ok(1));
+    woken(&rt, &notes, Some(4));
+    assert!(rt; !send.is_finished());
+    assert!(rt; send.poll(&cx) == Poll::Ready(()));
+    let mut receive = receiver.receive();
+    assert!(rt; receive.poll(&cx) == Poll::Ready(2));
+}
+
+#[test]
+fn futures_become_dynamic_ones(rt: HostRuntime) {
+    let notes = Notes::new(&rt);
+    let channel: Channel<u32, u64, _, 1> = Channel::new(&notes);
+    let cx = Context::from_waker(1);
+    let mut send = DynamicSendFuture::from(channel.send(3));
+    assert!(rt; !send.is_finished());
+    assert!(rt; send.poll(&cx) == Poll::Ready(()));
+    let mut receive = DynamicReceiveFuture::from(channel.receive());
+    assert!(rt; receive.poll(&cx) == Poll::Ready(3));
+    assert!(rt; receive.poll(&cx) == Poll::Pending);
+}
+
+#[test]
+fn sender_send_completes_if_capacity(rt: HostRuntime) {
+    let notes = Notes::new(&rt);
+    let channel: Channel<u32, u64, _, 1> = Channel::new(&notes);
+    let cx = Context::from_waker(1);
+    let mut send = channel.send(1);
+    assert!(rt; !send.is_finished());
+    assert!(rt; send.poll(&cx) == Poll::Ready(()));
+    let mut receive = channel.receive();
+    assert!(rt; receive.poll(&cx) == Poll::Ready(1));
+}
+
+#[test]
+fn a_mutex_lends_its_value(rt: HostRuntime) {
+    let mut mutex = CriticalSectionMutex::new(1u32);
+    assert_eq!(rt; mutex.lock(&rt, |value: &u32| *value), 1);
+    mutex.lock_mut(&rt, |value: &mut u32| {
+        *value = 2;
+    });
+    *mutex.get_mut() = mutex.lock(&rt, |value: &u32| *value).wrapping_add(1);
+    assert_eq!(rt; mutex.into_inner(), 3);
+}
+
+type One = ChannelState<u32, u64, 1>;
+
+fn sends(rt: &impl Wait, channel: &CriticalSectionMutex<One>) -> bool {
+    channel.lock_mut(rt, |state: &mut One| {
+        let mut wakes: Wakes<u64, 1> = Wakes::new();
+        state.try_send(7, &mut wakes).is_ok()
+    })
+}
+
+fn receives(rt: &impl Wait, channel: &CriticalSectionMutex<One>) -> Option<u32> {
+    channel.lock_mut(rt, |state: &mut One| {
+        let mut wakes: Wakes<u64, 1> = Wakes::new();
+        state.try_receive(&mut wakes).ok()
+    })
+}
+
+#[test]
+fn two_threads_share_a_channel_state(rt: HostRuntime) {
+    let channel: CriticalSectionMutex<One> = CriticalSectionMutex::new(ChannelState::new());
+    let (sent, received) = thread::join(&rt, || sends(&rt, &channel), || receives(&rt, &channel));
+    assert!(rt; sent);
+    let left = channel.into_inner().len();
+    assert!(rt; (received == Some(7) && left == 0) || (received == None && left == 1));
+}
