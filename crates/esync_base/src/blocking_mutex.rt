@@ -38,7 +38,18 @@ impl<T> CriticalSectionMutex<T> {
     }
 
     /// Takes the lock, until the guard is dropped. The shared forms take their steps so.
+    #[inline]
     pub fn guard(&self, rt: &impl Wait) -> MutexGuard<'_, T> {
+        match self.data.try_lock() {
+            Some(guard) => guard,
+            None => self.wait(rt),
+        }
+    }
+
+    // Takes a lock that another thread has, when it is released. This stands apart, for a free lock to be taken without a call.
+    #[cold]
+    #[inline(never)]
+    fn wait(&self, rt: &impl Wait) -> MutexGuard<'_, T> {
         self.data.lock(rt)
     }
 

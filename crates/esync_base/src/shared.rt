@@ -24,6 +24,7 @@ impl<V, W: Copy, H: Hand<W>> Shared<V, W, H> {
     }
 
     /// Takes the lock, until the guard is dropped.
+    #[inline]
     pub fn guard(&self) -> MutexGuard<'_, V>
         ensures { WakesFitInMemory W.row }
     {

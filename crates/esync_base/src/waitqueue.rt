@@ -61,6 +61,14 @@ impl<W: Copy> Context<W> {
 #[derive(Clone, Copy, Debug, PartialEq, Eq, PartialOrd, Ord, Hash)]
 pub struct TaskId(pub u64);
 
+// One of K places. Where there is only one, a constant: a list of one waker then needs no memory.
+fn place<const K: usize>(i: usize) -> usize
+    requires { i < K }
+    ensures { result ≡ i }
+{
+    if K == 1 { 0 } else { i }
+}
+
 // K places.
 struct Row<W, const K: usize> {
     places: [Option<W>; K],
@@ -92,7 +100,7 @@ impl<W: Copy, const K: usize> Row<W, K> {
         requires { i < K }
         ensures { self.new.places ≡ slice_set self.old.places i (Some waker) }
     {
-        self.places[i] = Some(waker);
+        self.places[place::<K>(i)] = Some(waker);
     }
 }
 

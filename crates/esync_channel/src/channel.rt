@@ -440,6 +440,7 @@ impl<S: Store, W: Copy + Eq, H: Hand<W>> SharedMailbox<S, W, H> {
     }
 
     /// Sends a message where there is room. Where there is none it comes back.
+    #[inline]
     pub fn try_send(&self, message: S::Message) -> Result<(), TrySendError<S::Message>> {
         step!(
             self.inner,
@@ -465,6 +466,7 @@ impl<S: Store, W: Copy + Eq, H: Hand<W>> SharedMailbox<S, W, H> {
     }
 
     /// Takes the message that is first.
+    #[inline]
     pub fn try_receive(&self) -> Result<S::Message, TryReceiveError> {
         step!(self.inner, |state, wakes| state.try_receive(&mut wakes))
     }
@@ -481,6 +483,7 @@ impl<S: Store, W: Copy + Eq, H: Hand<W>> SharedMailbox<S, W, H> {
     }
 
     /// Takes the message that is first. Where there is none, the context's waker waits for one.
+    #[inline]
     pub fn poll_receive(&self, cx: &Context<W>) -> Poll<S::Message> {
         step!(
             self.inner,

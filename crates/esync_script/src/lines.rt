@@ -69,7 +69,9 @@ impl<R: Read + Drop> Lines<R> {
     }
 
     /// The fault of the line that was read last: that it is no command.
-    pub fn not_a_command(&self) -> Fault {
+    pub fn not_a_command(&self) -> Fault
+        ensures { result ≡ Fault.NotACommand self.now.number }
+    {
         Fault::NotACommand(self.number)
     }
 }
