@@ -6,5 +6,6 @@
 pub use esync_base::{blocking_mutex, waitqueue};
 pub use esync_cells::signal;
 pub use esync_channel::channel;
+pub use esync_permits::semaphore;
 pub use esync_priority::priority_channel;
 pub use esync_run as run;

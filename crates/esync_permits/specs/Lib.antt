@@ -2,3 +2,4 @@ pub mod Permits
 pub mod Greedy
 pub mod Queue
 pub mod Fair
+pub mod Shared

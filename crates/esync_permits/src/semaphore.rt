@@ -2,7 +2,7 @@
 //!
 //! The state forms take `&mut self`, hold no lock and wait for nobody. What a call hands out, it appends to the list of
 //! wakes that it is given; who gets the list wakes them. A semaphore holds no resources, only the number of permits.
-ghost use Rattle.std.specs.Prelude.{◌≡◌, ℕ, ◌<◌, ◌++◌, [], length, nat_lt, ◌↔◌, Some, None, false, IsTrue, IsSome, IfSome, is_some, is_none};
+ghost use Rattle.std.specs.Prelude.{◌≡◌, ℕ, ◌<◌, ◌++◌, [], length, nat_lt, ◌↔◌, Some, None, true, false, IsTrue, IsSome, IfSome, is_some, is_none};
 ghost use Rattle.esync_permits.specs.Permits.{least, taken, Takes, TakesInTurn, released, granted, woken_if};
 ghost use Rattle.esync_permits.specs.Greedy.{slot_after_poll, wakes_of_poll, slot_after_more, rest_of};
 ghost use Rattle.esync_permits.specs.Queue.{is_waiting, is_front, front_wakers, entries_after_end};
@@ -10,8 +10,14 @@ ghost use Rattle.esync_permits.specs.Fair.{heard, ticket_after, request_heard, g
 
 use crate::queue::Queue;
 use esync_base::waitqueue::{Context, Poll, WakerRegistration, Wakes};
+pub use shared::{
+    Acquire, FairAcquire, FairAcquireAll, FairSemaphore, GreedyAcquire, GreedyAcquireAll,
+    GreedySemaphore, PermitState, Semaphore, SemaphoreReleaser, SharedSemaphore,
+};
 use std::marker::Model;
 use std::mem;
+
+mod shared;
 
 /// How many permits a request is for.
 #[derive(Clone, Copy, Debug, PartialEq, Eq)]
@@ -110,12 +116,19 @@ impl<W: Copy + Eq> GreedyState<W> {
         self.available
     }
 
+    fn try_take(&mut self, amount: Amount) -> Option<usize>
+        ensures permits { Takes self.old.permits amount result self.new.permits }
+        ensures waiter { self.new.waiter ≡ self.old.waiter }
+    {
+        take(&mut self.available, amount)
+    }
+
     /// Takes this number of permits, if they are there.
     pub fn try_acquire(&mut self, permits: usize) -> Option<usize>
         ensures permits { Takes self.old.permits (Amount.Exactly permits) result self.new.permits }
         ensures waiter { self.new.waiter ≡ self.old.waiter }
     {
-        take(&mut self.available, Amount::Exactly(permits))
+        self.try_take(Amount::Exactly(permits))
     }
 
     /// Takes all permits, if at least `min` are there.
@@ -123,7 +136,7 @@ impl<W: Copy + Eq> GreedyState<W> {
         ensures permits { Takes self.old.permits (Amount.AllFrom min) result self.new.permits }
         ensures waiter { self.new.waiter ≡ self.old.waiter }
     {
-        take(&mut self.available, Amount::AllFrom(min))
+        self.try_take(Amount::AllFrom(min))
     }
 
     fn poll<const K: usize>(
@@ -137,7 +150,7 @@ impl<W: Copy + Eq> GreedyState<W> {
         ensures waiter { self.new.waiter ≡ slot_after_poll W.eq waker (granted result) self.old.waiter }
         ensures wakes { wakes.new ≡ wakes.old ++ wakes_of_poll W.eq waker (granted result) self.old.waiter }
     {
-        match take(&mut self.available, amount) {
+        match self.try_take(amount) {
             Some(taken) => Poll::Ready(taken),
             None => {
                 self.waker.register(waker, wakes);
@@ -567,6 +580,17 @@ impl FairRequest {
         self.ticket
     }
 
+    // It has heard its answer.
+    fn finish(&mut self)
+        ensures { self.new ≡ record self.old { ticket = None; finished = true } }
+    {
+        *self = FairRequest {
+            ticket: None,
+            finished: true,
+            ..*self
+        };
+    }
+
     /// It has no ticket, or one that names a request that waits in this state.
     pub fn belongs_to<W: Copy + Eq, const N: usize>(&self, state: &FairState<W, N>) -> bool
         ensures { IsTrue result ↔ NamesWaiting self.now.ticket state.now.entries }
@@ -600,11 +624,7 @@ impl FairRequest {
     {
         match state.poll(self.amount, self.ticket(), cx.waker(), wakes) {
             FairPoll::Ready(answer) => {
-                *self = FairRequest {
-                    ticket: None,
-                    finished: true,
-                    ..*self
-                };
+                self.finish();
                 Poll::Ready(answer)
             }
             FairPoll::Pending(ticket) => {

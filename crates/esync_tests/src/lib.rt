@@ -4,8 +4,12 @@
 #[cfg(test)]
 mod channel;
 #[cfg(test)]
+mod notes;
+#[cfg(test)]
 mod registrations;
 #[cfg(test)]
 mod runs;
+#[cfg(test)]
+mod semaphores;
 #[cfg(test)]
 mod shared;

@@ -1,3 +1,4 @@
+use crate::notes::{Notes, woken};
 use embassy_sync::blocking_mutex::CriticalSectionMutex;
 use embassy_sync::channel::{
     Channel, ChannelState, DynamicReceiveFuture, DynamicReceiver, DynamicSendFuture, DynamicSender,
@@ -5,45 +6,10 @@ use embassy_sync::channel::{
 };
 use embassy_sync::priority_channel::{Max, Min, PriorityChannel};
 use embassy_sync::signal::Signal;
-use embassy_sync::waitqueue::{Context, Hand, Poll, Wakes};
-use std::cell::Cell;
-use std::process::Abort;
+use embassy_sync::waitqueue::{Context, Poll, Wakes};
 use std::sync::Wait;
 use std::test::Fail;
 use std::thread;
-
-// A hand that notes the waker that it was last given.
-#[derive(Drop)]
-struct Notes<'a, R> {
-    rt: &'a R,
-    last: Cell<Option<u64>>,
-}
-
-impl<'a, R: Wait> Notes<'a, R> {
-    fn new(rt: &'a R) -> Self {
-        Notes {
-            rt,
-            last: Cell::new(None),
-        }
-    }
-}
-
-impl<R: Wait> Hand<u64> for &Notes<'_, R> {
-    type Rt = R;
-
-    fn rt(&self) -> &R {
-        self.rt
-    }
-
-    fn wake(&self, waker: u64) {
-        self.last.set(Some(waker));
-    }
-}
-
-// The hand was given this waker since it was last asked, or none.
-fn woken<R: Wait>(rt: &impl Abort, notes: &Notes<'_, R>, waker: Option<u64>) {
-    assert_eq!(rt; notes.last.replace(None), waker);
-}
 
 #[test]
 fn displaced_receiver_is_woken_by_the_hand(rt: HostRuntime) {

@@ -1,0 +1,30 @@
+-- What the shared forms of both semaphores know of a request.
+use Rattle.std.specs.Prelude.{◌≡◌, ℕ, ◌≤◌, Bool, true, false, Option, Some, None}
+use Rattle.esync_base.specs.declared.waitqueue.Poll.{Poll}
+use Rattle.esync_base.specs.declared.waitqueue.Poll.TheVariants.{Pending, Ready}
+use Rattle.esync_permits.specs.declared.semaphore.Amount.{Amount}
+use Rattle.esync_permits.specs.declared.semaphore.Amount.TheVariants.{Exactly, AllFrom}
+use Rattle.esync_permits.specs.Fair.{Request}
+
+-- so many permits are what a request for this amount is granted
+abbrev pub Suits : Amount → ℕ → Type 0
+Suits (Exactly k) n = n ≡ k
+Suits (AllFrom k) n = k ≤ n
+
+-- a fact of what a poll answers, where it is ready
+abbrev pub IfReady : {T : Type 0} → Poll T → (T → Type 0) → Type 0
+IfReady (Ready x) P = P x
+IfReady Pending P = Unit {0}
+
+-- what a poll leaves of the amount that its request is for: nothing once it is over
+abbrev pub Leaves : {T : Type 0} → Poll T → Option Amount → Option Amount → Type 0
+Leaves (Ready x) old new = new ≡ None
+Leaves Pending old new = new ≡ old
+
+-- what a request of a fair semaphore is for, until it is over
+abbrev pub unless : Bool → Amount → Option Amount
+unless true amount = None
+unless false amount = Some amount
+
+abbrev pub fair_wanted : Request → Option Amount
+fair_wanted r = unless r.finished r.amount

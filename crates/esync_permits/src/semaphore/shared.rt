@@ -1,0 +1,442 @@
+//! Semaphores that tasks on several threads share by reference.
+ghost use Rattle.std.specs.Prelude.{◌≡◌, ◌<◌, ◌≤◌, length, IsSome, IfSome, IfOk, is_none};
+ghost use Rattle.esync_permits.specs.Shared.{Suits, IfReady, Leaves};
+
+use crate::semaphore::{Amount, FairRequest, FairState, GreedyRequest, GreedyState, WaitQueueFull};
+use esync_base::shared::Shared;
+use esync_base::step;
+use esync_base::waitqueue::{Context, Hand, Poll, Wakes};
+use std::convert::Infallible;
+
+/// What a shared semaphore takes of its state, greedy or fair. The calls are those of the state and of its requests.
+pub trait PermitState: Drop {
+    type Waker: Copy + Eq;
+
+    type Request: Drop;
+
+    /// Why a request was refused.
+    type Error: Drop;
+
+    ghost use Rattle.std.specs.Prelude.{Option};
+    ghost use Rattle.esync_permits.specs.declared.semaphore.Amount.{Amount};
+
+    /// What a request is for, until it is over.
+    ghost wanted: { Self.Request → Option Amount };
+
+    fn new(permits: usize) -> Self;
+
+    fn permits(&self) -> usize;
+
+    /// Takes the permits of a request that doesn't wait, if they are granted now.
+    fn try_take(&mut self, amount: Amount) -> Option<usize>
+        ensures { IfSome result (λ permits. Suits amount permits) };
+
+    fn release(&mut self, permits: usize, wakes: &mut Wakes<Self::Waker, 1>)
+        requires { length wakes.old < 1 };
+
+    fn set(&mut self, permits: usize, wakes: &mut Wakes<Self::Waker, 1>)
+        requires { length wakes.old < 1 };
+
+    fn request(amount: Amount) -> Self::Request
+        ensures { wanted result ≡ Some amount };
+
+    fn is_finished(request: &Self::Request) -> bool
+        ensures { result ≡ is_none (wanted request.now) };
+
+    fn poll(
+        &mut self,
+        request: &mut Self::Request,
+        cx: &Context<Self::Waker>,
+        wakes: &mut Wakes<Self::Waker, 1>,
+    ) -> Poll<Result<usize, Self::Error>>
+        requires room { length wakes.old < 1 }
+        requires unfinished { IsSome (wanted request.old) }
+        ensures granted { IfReady result (λ heard. IfOk heard (λ permits. IfSome (wanted request.old) (λ amount. Suits amount permits))) }
+        ensures request { Leaves result (wanted request.old) (wanted request.new) };
+
+    /// The request is one that has to be ended in the state.
+    fn has_a_place(request: &Self::Request) -> bool;
+
+    fn end(&mut self, request: &Self::Request, wakes: &mut Wakes<Self::Waker, 1>)
+        requires { length wakes.old < 1 };
+}
+
+/// A semaphore that tasks on several threads share: what both kinds have in common. Their shared references implement it.
+///
+/// What is granted is a releaser, whose end gives the permits back.
+pub trait Semaphore: Copy {
+    /// Why permits were refused.
+    type Error;
+
+    /// The future of `acquire`.
+    type Acquire;
+
+    /// The future of `acquire_all`.
+    type AcquireAll;
+
+    /// Takes this number of permits, when they are granted.
+    fn acquire(self, permits: usize) -> Self::Acquire;
+
+    /// Takes this number of permits, if they are granted now.
+    fn try_acquire(self, permits: usize) -> Option<SemaphoreReleaser<Self>>;
+
+    /// Takes all permits, when at least `min` are granted.
+    fn acquire_all(self, min: usize) -> Self::AcquireAll;
+
+    /// Takes all permits, if at least `min` are granted now.
+    fn try_acquire_all(self, min: usize) -> Option<SemaphoreReleaser<Self>>;
+
+    /// Gives permits back, up to `usize::MAX`, and wakes who waits for some.
+    fn release(self, permits: usize);
+
+    /// Makes this the number of permits that are there. Wakes who waits, if it is more than before.
+    fn set(self, permits: usize);
+}
+
+/// Permits that were granted. They are released when it ends.
+pub struct SemaphoreReleaser<S: Semaphore> {
+    semaphore: S,
+    permits: usize,
+}
+
+impl<S: Semaphore> Drop for SemaphoreReleaser<S> {
+    fn drop(self) {
+        let SemaphoreReleaser { semaphore, permits } = self;
+        semaphore.release(permits);
+    }
+}
+
+impl<S: Semaphore> SemaphoreReleaser<S> {
+    /// How many permits were granted.
+    pub fn permits(&self) -> usize
+        ensures { result ≡ self.now.permits }
+    {
+        self.permits
+    }
+
+    /// Keeps the permits from coming back, and tells how many they are.
+    pub fn disarm(self) -> usize
+        ensures { result ≡ self.permits }
+    {
+        let SemaphoreReleaser {
+            semaphore: _,
+            permits,
+        } = self;
+        permits
+    }
+
+    /// Releases the permits, as a drop does.
+    pub fn end(self) {
+        drop(self);
+    }
+}
+
+/// A greedy semaphore: a request is granted as soon as its permits are there, even if another one waits for more of them.
+pub type GreedySemaphore<W, H> = SharedSemaphore<GreedyState<W>, W, H>;
+
+/// A fair semaphore: requests are granted in the order in which they came to wait, of which at most `N` do at a time.
+pub type FairSemaphore<W, H, const N: usize> = SharedSemaphore<FairState<W, N>, W, H>;
+
+/// A semaphore that tasks on several threads share by reference. Each call takes the call of its name on the state.
+#[derive(Drop)]
+pub struct SharedSemaphore<S, W, H> {
+    inner: Shared<S, W, H>,
+}
+
+impl<S: PermitState<Waker = W>, W: Copy + Eq, H: Hand<W> + Default> Default
+    for SharedSemaphore<S, W, H> {
+    fn default() -> Self {
+        SharedSemaphore::new(0, H::default())
+    }
+}
+
+impl<S: PermitState<Waker = W>, W: Copy + Eq, H: Hand<W>> SharedSemaphore<S, W, H> {
+    /// This number of permits, and nobody who waits.
+    pub fn new(permits: usize, hand: H) -> Self {
+        SharedSemaphore {
+            inner: Shared::new(S::new(permits), hand),
+        }
+    }
+
+    /// How many permits are there to be taken now.
+    pub fn permits(&self) -> usize {
+        self.inner.guard().permits()
+    }
+
+    fn try_take(&self, amount: Amount) -> Option<SemaphoreReleaser<&Self>>
+        ensures { IfSome result (λ releaser. Suits amount releaser.permits) }
+    {
+        let permits = self.inner.guard().try_take(amount)?;
+        Some(SemaphoreReleaser {
+            semaphore: self,
+            permits,
+        })
+    }
+
+    /// Takes this number of permits, when they are granted.
+    pub fn acquire(&self, permits: usize) -> Acquire<'_, S, W, H> {
+        Acquire {
+            semaphore: self,
+            request: S::request(Amount::Exactly(permits)),
+        }
+    }
+
+    /// Takes this number of permits, if they are granted now.
+    pub fn try_acquire(&self, permits: usize) -> Option<SemaphoreReleaser<&Self>>
+        ensures { IfSome result (λ releaser. releaser.permits ≡ permits) }
+    {
+        self.try_take(Amount::Exactly(permits))
+    }
+
+    /// Takes all permits, when at least `min` are granted.
+    pub fn acquire_all(&self, min: usize) -> Acquire<'_, S, W, H> {
+        Acquire {
+            semaphore: self,
+            request: S::request(Amount::AllFrom(min)),
+        }
+    }
+
+    /// Takes all permits, if at least `min` are granted now.
+    pub fn try_acquire_all(&self, min: usize) -> Option<SemaphoreReleaser<&Self>>
+        ensures { IfSome result (λ releaser. min ≤ releaser.permits) }
+    {
+        self.try_take(Amount::AllFrom(min))
+    }
+
+    /// Gives permits back, up to `usize::MAX`, and wakes who waits for some.
+    pub fn release(&self, permits: usize) {
+        step!(
+            self.inner,
+            |state, wakes| state.release(permits, &mut wakes)
+        )
+    }
+
+    /// Makes this the number of permits that are there. Wakes who waits, if it is more than before.
+    pub fn set(&self, permits: usize) {
+        step!(self.inner, |state, wakes| state.set(permits, &mut wakes))
+    }
+}
+
+impl<'a, S: PermitState<Waker = W>, W: Copy + Eq, H: Hand<W>> Semaphore
+    for &'a SharedSemaphore<S, W, H> {
+    type Error = S::Error;
+
+    type Acquire = Acquire<'a, S, W, H>;
+
+    type AcquireAll = Acquire<'a, S, W, H>;
+
+    fn acquire(self, permits: usize) -> Acquire<'a, S, W, H> {
+        SharedSemaphore::acquire(self, permits)
+    }
+
+    fn try_acquire(self, permits: usize) -> Option<SemaphoreReleaser<Self>> {
+        SharedSemaphore::try_acquire(self, permits)
+    }
+
+    fn acquire_all(self, min: usize) -> Acquire<'a, S, W, H> {
+        SharedSemaphore::acquire_all(self, min)
+    }
+
+    fn try_acquire_all(self, min: usize) -> Option<SemaphoreReleaser<Self>> {
+        SharedSemaphore::try_acquire_all(self, min)
+    }
+
+    fn release(self, permits: usize) {
+        SharedSemaphore::release(self, permits)
+    }
+
+    fn set(self, permits: usize) {
+        SharedSemaphore::set(self, permits)
+    }
+}
+
+/// A request for permits of a greedy semaphore: what `acquire` gives.
+pub type GreedyAcquire<'a, W, H> = Acquire<'a, GreedyState<W>, W, H>;
+
+/// A request for all permits of a greedy semaphore: what `acquire_all` gives.
+pub type GreedyAcquireAll<'a, W, H> = Acquire<'a, GreedyState<W>, W, H>;
+
+/// A request for permits of a fair semaphore: what `acquire` gives.
+pub type FairAcquire<'a, W, H, const N: usize> = Acquire<'a, FairState<W, N>, W, H>;
+
+/// A request for all permits of a fair semaphore: what `acquire_all` gives.
+pub type FairAcquireAll<'a, W, H, const N: usize> = Acquire<'a, FairState<W, N>, W, H>;
+
+/// A request for permits. Where it ends while it waits, it leaves the queue of a fair semaphore.
+pub struct Acquire<'a, S: PermitState<Waker = W>, W: Copy + Eq, H: Hand<W>> {
+    semaphore: &'a SharedSemaphore<S, W, H>,
+    request: S::Request,
+}
+
+impl<'a, S: PermitState<Waker = W>, W: Copy + Eq, H: Hand<W>> Acquire<'a, S, W, H> {
+    /// It heard its answer.
+    pub fn is_finished(&self) -> bool
+        ensures { result ≡ is_none (S.wanted self.now.request) }
+    {
+        S::is_finished(&self.request)
+    }
+
+    /// Takes the permits, if they are granted now. If not, the context's waker waits for them.
+    ///
+    /// The error of a fair semaphore is that its queue is full; a greedy one has none. A future that is finished isn't polled.
+    pub fn poll(
+        &mut self,
+        cx: &Context<W>,
+    ) -> Poll<Result<SemaphoreReleaser<&'a SharedSemaphore<S, W, H>>, S::Error>>
+        requires { IsSome (S.wanted self.old.request) }
+        ensures granted { IfReady result (λ heard. IfOk heard (λ releaser. IfSome (S.wanted self.old.request) (λ amount. Suits amount releaser.permits))) }
+        ensures request { Leaves result (S.wanted self.old.request) (S.wanted self.new.request) }
+    {
+        let answer = step!(
+            self.semaphore.inner,
+            |state, wakes| state.poll(&mut self.request, cx, &mut wakes)
+        );
+        match answer {
+            Poll::Ready(Ok(permits)) => Poll::Ready(Ok(SemaphoreReleaser {
+                semaphore: self.semaphore,
+                permits,
+            })),
+            Poll::Ready(Err(error)) => Poll::Ready(Err(error)),
+            Poll::Pending => Poll::Pending,
+        }
+    }
+
+    /// Ends the request, as a drop does.
+    pub fn end(self) {
+        drop(self);
+    }
+}
+
+impl<'a, S: PermitState<Waker = W>, W: Copy + Eq, H: Hand<W>> Drop for Acquire<'a, S, W, H> {
+    fn drop(self) {
+        let Acquire { semaphore, request } = self;
+        if S::has_a_place(&request) {
+            step!(
+                semaphore.inner,
+                |state, wakes| state.end(&request, &mut wakes)
+            )
+        }
+    }
+}
+
+impl<W: Copy + Eq> PermitState for GreedyState<W> {
+    type Waker = W;
+
+    type Request = GreedyRequest;
+
+    type Error = Infallible;
+
+    ghost wanted = { λ request. request };
+
+    fn new(permits: usize) -> Self {
+        GreedyState::new(permits)
+    }
+
+    fn permits(&self) -> usize {
+        GreedyState::permits(self)
+    }
+
+    fn try_take(&mut self, amount: Amount) -> Option<usize> {
+        GreedyState::try_take(self, amount)
+    }
+
+    fn release(&mut self, permits: usize, wakes: &mut Wakes<W, 1>) {
+        GreedyState::release(self, permits, wakes)
+    }
+
+    fn set(&mut self, permits: usize, wakes: &mut Wakes<W, 1>) {
+        GreedyState::set(self, permits, wakes)
+    }
+
+    fn request(amount: Amount) -> GreedyRequest {
+        GreedyRequest::new(amount)
+    }
+
+    fn is_finished(request: &GreedyRequest) -> bool {
+        request.is_finished()
+    }
+
+    fn poll(
+        &mut self,
+        request: &mut GreedyRequest,
+        cx: &Context<W>,
+        wakes: &mut Wakes<W, 1>,
+    ) -> Poll<Result<usize, Infallible>> {
+        match request.poll_state(self, cx, wakes) {
+            Poll::Ready(permits) => Poll::Ready(Ok(permits)),
+            Poll::Pending => Poll::Pending,
+        }
+    }
+
+    fn has_a_place(_request: &GreedyRequest) -> bool {
+        false
+    }
+
+    fn end(&mut self, _request: &GreedyRequest, _wakes: &mut Wakes<W, 1>) {}
+}
+
+impl<W: Copy + Eq, const N: usize> PermitState for FairState<W, N> {
+    type Waker = W;
+
+    type Request = FairRequest;
+
+    type Error = WaitQueueFull;
+
+    ghost use Rattle.esync_permits.specs.Shared.{fair_wanted};
+
+    ghost wanted = { fair_wanted };
+
+    fn new(permits: usize) -> Self {
+        FairState::new(permits)
+    }
+
+    fn permits(&self) -> usize {
+        FairState::permits(self)
+    }
+
+    fn try_take(&mut self, amount: Amount) -> Option<usize> {
+        FairState::try_take(self, amount)
+    }
+
+    fn release(&mut self, permits: usize, wakes: &mut Wakes<W, 1>) {
+        FairState::release(self, permits, wakes)
+    }
+
+    fn set(&mut self, permits: usize, wakes: &mut Wakes<W, 1>) {
+        FairState::set(self, permits, wakes)
+    }
+
+    fn request(amount: Amount) -> FairRequest {
+        FairRequest::new(amount)
+    }
+
+    fn is_finished(request: &FairRequest) -> bool {
+        request.is_finished()
+    }
+
+    // A request has its ticket of this state, so it always belongs here. Should it not, it is over, as at a full queue.
+    fn poll(
+        &mut self,
+        request: &mut FairRequest,
+        cx: &Context<W>,
+        wakes: &mut Wakes<W, 1>,
+    ) -> Poll<Result<usize, WaitQueueFull>> {
+        if !request.belongs_to(self) {
+            request.finish();
+            return Poll::Ready(Err(WaitQueueFull));
+        }
+        request.poll_state(self, cx, wakes)
+    }
+
+    fn has_a_place(request: &FairRequest) -> bool {
+        request.ticket().is_some()
+    }
+
+    fn end(&mut self, request: &FairRequest, wakes: &mut Wakes<W, 1>) {
+        if let Some(ticket) = request.ticket() {
+            if self.is_waiting(ticket) {
+                self.cancel(ticket, wakes);
+            }
+        }
+    }
+}
