@@ -1,8 +1,8 @@
 -- What a machine has printed so far, and what that says at the end.
-use Rattle.std.proofs.Common.{◌≡◌, ℕ, List, [], ◌∷◌, ◌++◌, Option, Some, None, Ok, Err, refl, ap, sym, ◌∙◌, append_assoc, append-nil}
+use Rattle.std.proofs.Common.{◌≡◌, ℕ, List, [], ◌∷◌, ◌++◌, Option, Some, None, refl, ap, sym, ◌∙◌, append_assoc, append-nil}
 use Rattle.std.specs.Prelude.{Result}
 use Rattle.std.specs.Io.KnownBytes.{Appends, Keeps}
-use Rattle.esync_machine.specs.Runs.{Meaning, Step, IsIdle, Answers, GoodRun}
+use Rattle.esync_machine.specs.Runs.{Meaning, Step, IsIdle, Answers}
 use Rattle.esync_machine.specs.Through.{Turn, Through, through_more, answers_more, good_run}
 use Rattle.esync_script.specs.declared.fault.Fault.{Fault}
 use Rattle.esync_script.specs.Played.{IsJudged, PrintsARun}

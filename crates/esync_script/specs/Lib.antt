@@ -3,3 +3,4 @@ pub mod Fault
 pub mod Played
 pub mod Signal
 pub mod Text
+pub mod Semaphore

@@ -1,5 +1,5 @@
 -- The text of what is printed.
-use Rattle.std.specs.Prelude.{ℕ, List, [], ◌∷◌, ◌++◌, codes, decimal}
+use Rattle.std.specs.Prelude.{ℕ, List, [], ◌∷◌, ◌++◌, codes, decimal, Option, Some, None}
 use Rattle.esync_machine.specs.declared.primitive.Answer.{Answer}
 use Rattle.esync_machine.specs.declared.primitive.Answer.TheVariants.{Done, Pending, NoSuch, NoMemory, Gives}
 
@@ -10,6 +10,11 @@ answer_text heard Pending = codes "Pending"
 answer_text heard NoSuch = codes "Err(NoSuch)"
 answer_text heard NoMemory = []
 answer_text heard (Gives a) = heard a
+
+-- a number that may be missing
+abbrev pub option_text : Option ℕ → List ℕ
+option_text (Some n) = codes "Some(" ++ decimal n ++ codes ")"
+option_text None = codes "None"
 
 -- each waker after a space
 abbrev pub spaced : List ℕ → List ℕ

@@ -3,17 +3,13 @@ ghost use Rattle.std.specs.Prelude.{◌≡◌, [], None};
 ghost use Rattle.std.proofs.Math.ListN.{replicate};
 
 use crate::fault::Fault;
-use crate::lines::Lines;
-use crate::opening::Capacity;
-use crate::vocabulary::{Answering, Printed, REQS, Spoken};
+use crate::vocabulary::{Printed, REQS, Spoken};
 use crate::words::Words;
-use esync_base::deque::Deque;
 use esync_base::store::Store;
 use esync_channel::channel::{TryReceiveError, TrySendError};
 use esync_machine::requests::Requests;
-use esync_priority::prio::{Kind, PrioQueue};
 use esync_run::channel::{ChannelAsk, ChannelCall, ChannelHeard, MailboxState};
-use std::io::{Read, Write};
+use std::io::Write;
 
 impl Spoken for ChannelAsk<u32> {
     fn from_words(name: &str, words: &mut Words<'_>) -> Option<Self> {
@@ -63,42 +59,10 @@ impl Printed for ChannelHeard<u32> {
     }
 }
 
-// An empty channel over this store, with no request.
-fn channel<S: Store>() -> Requests<MailboxState<S, u64, 1>, REQS, 1>
+/// An empty channel over this store, with no request.
+pub fn channel<S: Store>() -> Requests<MailboxState<S, u64, 1>, REQS, 1>
     ensures state { S.held result.state.state.store ≡ [] }
     ensures requests { result.requests ≡ replicate REQS None }
 {
     Requests::new(MailboxState::new())
-}
-
-/// Goes through a script over a channel of this capacity.
-pub fn serve_channel<A: Answering, R: Read + Drop, W: Write>(
-    answering: &A,
-    capacity: Capacity,
-    lines: &mut Lines<R>,
-    output: &mut W,
-) -> Result<(), Fault> {
-    match capacity {
-        Capacity::One => answering.serve(&mut channel::<Deque<u32, 1>>(), lines, output),
-        Capacity::Two => answering.serve(&mut channel::<Deque<u32, 2>>(), lines, output),
-        Capacity::Three => answering.serve(&mut channel::<Deque<u32, 3>>(), lines, output),
-        Capacity::Four => answering.serve(&mut channel::<Deque<u32, 4>>(), lines, output),
-        Capacity::Eight => answering.serve(&mut channel::<Deque<u32, 8>>(), lines, output),
-    }
-}
-
-/// Goes through a script over a priority channel of this capacity.
-pub fn serve_priority<A: Answering, R: Read + Drop, W: Write, P: Kind<u32>>(
-    answering: &A,
-    capacity: Capacity,
-    lines: &mut Lines<R>,
-    output: &mut W,
-) -> Result<(), Fault> {
-    match capacity {
-        Capacity::One => answering.serve(&mut channel::<PrioQueue<u32, P, 1>>(), lines, output),
-        Capacity::Two => answering.serve(&mut channel::<PrioQueue<u32, P, 2>>(), lines, output),
-        Capacity::Three => answering.serve(&mut channel::<PrioQueue<u32, P, 3>>(), lines, output),
-        Capacity::Four => answering.serve(&mut channel::<PrioQueue<u32, P, 4>>(), lines, output),
-        Capacity::Eight => answering.serve(&mut channel::<PrioQueue<u32, P, 8>>(), lines, output),
-    }
 }

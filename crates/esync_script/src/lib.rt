@@ -16,6 +16,7 @@ mod diagram;
 mod fault;
 mod lines;
 mod opening;
+mod semaphore;
 mod signal;
 #[cfg(test)]
 mod tests;

@@ -1,11 +1,13 @@
 //! The words of a signal.
+ghost use Rattle.std.specs.Prelude.{◌≡◌, None};
+ghost use Rattle.std.proofs.Math.ListN.{replicate};
+
 use crate::fault::Fault;
-use crate::lines::Lines;
-use crate::vocabulary::{Answering, Printed, REQS, Spoken};
+use crate::vocabulary::{Printed, REQS, Spoken, print_option};
 use crate::words::Words;
 use esync_machine::requests::Requests;
 use esync_run::signal::{SignalCall, SignalHeard, SignalRoom, SignalRun, Wait};
-use std::io::{Read, Write};
+use std::io::Write;
 
 impl Spoken for Wait {
     fn from_words(name: &str, _words: &mut Words<'_>) -> Option<Self> {
@@ -36,8 +38,7 @@ impl Printed for SignalHeard<u32> {
     fn print<W: Write>(&self, output: &mut W) -> Result<(), Fault> {
         match self {
             SignalHeard::Waited(value) => write!(output, "Ready({value})")?,
-            SignalHeard::Taken(None) => write!(output, "None")?,
-            SignalHeard::Taken(Some(value)) => write!(output, "Some({value})")?,
+            SignalHeard::Taken(taken) => print_option(taken.map(u64::from), output)?,
             SignalHeard::Signaled(true) => write!(output, "true")?,
             SignalHeard::Signaled(false) => write!(output, "false")?,
         }
@@ -45,12 +46,10 @@ impl Printed for SignalHeard<u32> {
     }
 }
 
-/// Goes through a script over a signal.
-pub fn serve_signal<A: Answering, R: Read + Drop, W: Write>(
-    answering: &A,
-    lines: &mut Lines<R>,
-    output: &mut W,
-) -> Result<(), Fault> {
-    let mut signal: SignalRun<u32, u64, REQS, 1> = Requests::new(SignalRoom::new());
-    answering.serve(&mut signal, lines, output)
+/// A signal without a value, with no request.
+pub fn signal() -> SignalRun<u32, u64, REQS, 1>
+    ensures value { result.state.state.value ≡ None }
+    ensures requests { result.requests ≡ replicate REQS None }
+{
+    Requests::new(SignalRoom::new())
 }

@@ -3,7 +3,7 @@ ghost use Rattle.std.specs.Prelude.{ℕ, List, OnOk, IfErr, ◌++◌, codes};
 ghost use Rattle.std.specs.Io.KnownBytes.{Appends};
 ghost use Rattle.esync_base.specs.Rows.{items_of};
 ghost use Rattle.esync_script.specs.Played.{IsNotACommand, PrintsARun};
-ghost use Rattle.esync_script.specs.Text.{answer_text, line_text, spaced};
+ghost use Rattle.esync_script.specs.Text.{answer_text, line_text, option_text, spaced};
 
 use crate::diagram::{Told, Woken};
 use crate::fault::Fault;
@@ -83,6 +83,16 @@ impl<A: Printed, const K: usize> Printed for Reply<A, u64, K> {
         }
         writeln!(output)?;
         Ok(())
+    }
+}
+
+/// Prints `None`, or `Some` and the number.
+pub fn print_option<W: Write>(number: Option<u64>, output: &mut W) -> io::Result<()>
+    ensures { OnOk result (Appends (W.contents output.old) (W.contents output.new) (option_text number)) }
+{
+    match number {
+        Some(number) => write!(output, "Some({number})"),
+        None => write!(output, "None"),
     }
 }
 

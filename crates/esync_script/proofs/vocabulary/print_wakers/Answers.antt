@@ -1,4 +1,3 @@
-use Rattle.std.proofs.Common.{rules}
 use Rattle.esync_script.proofs.Wakers.{prints_one, prints_none}
 use Rattle.esync_script.proofs.vocabulary.print_wakers.Goals as goal
 use Rattle.esync_script.proofs.vocabulary.print_wakers.Goals.{in-Some+in_ok-write, in_default}
