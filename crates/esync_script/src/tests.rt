@@ -159,6 +159,33 @@ fn a_reset_signal_keeps_its_waiter(rt: HostRuntime) -> Result<(), Fail> {
 }
 
 #[test]
+fn a_fair_request_is_granted_all_its_permits(rt: HostRuntime) -> Result<(), Fail> {
+    assert_answers(
+        &rt,
+        "fair 2 0\nstart 0 acquire 2\npoll 0 7\nrelease 1\nrelease 1\npoll 0 7\ntry 1 0\nend 0\npermits\n",
+        "Ok | -\nPending | -\nOk | 7\nOk | 7\nReady(2) | -\nSome(0) | -\nOk | -\n2 | -\n",
+    )
+}
+
+#[test]
+fn a_fair_queue_has_its_places(rt: HostRuntime) -> Result<(), Fail> {
+    assert_answers(
+        &rt,
+        "fair 1 1\nstart 0 acquire-all 2\npoll 0 7\nstart 1 acquire 0\npoll 1 8\ntry-all 2 0\nset 3\npoll 0 7\ndisarm 0\npermits\n",
+        "Ok | -\nPending | -\nOk | -\nReady(Err(WaitQueueFull)) | -\nNone | -\nOk | 7\nReady(3) | -\n3 | -\n0 | -\n",
+    )
+}
+
+#[test]
+fn a_greedy_request_overtakes(rt: HostRuntime) -> Result<(), Fail> {
+    assert_answers(
+        &rt,
+        "greedy 1 3\ntry 0 1\nstart 1 acquire 3\npoll 1 1\ntry-all 2 1\ntry 3 1\nend 0\nend 2\npoll 1 1\npermits\n",
+        "Some(1) | -\nOk | -\nPending | -\nSome(2) | -\nNone | -\nOk | 1\nOk | -\nReady(3) | -\n0 | -\n",
+    )
+}
+
+#[test]
 fn each_primitive_has_its_capacity(rt: HostRuntime) -> Result<(), Fail> {
     for capacity in ["1", "2", "3", "4", "8"] {
         for primitive in ["channel", "max", "min"] {
@@ -274,6 +301,12 @@ fn line_1_names_a_primitive(rt: HostRuntime) -> Result<(), Fail> {
         "signal\n",
         "signal 2\n",
         "signal 1 1\n",
+        "greedy 1\n",
+        "greedy 2 1\n",
+        "fair 2\n",
+        "fair 5 1\n",
+        "fair 2 18446744073709551616\n",
+        "fair 2 1 1\n",
         "len\n",
     ] {
         let played = play(rt.alloc(), input.as_bytes());
