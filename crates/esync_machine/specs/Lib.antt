@@ -6,3 +6,4 @@ pub mod Object
 pub mod Served
 pub mod Idle
 pub mod Tabled
+pub mod Account

@@ -96,3 +96,12 @@ swept_at f (Some x ∷ q) zero k e =
       | inr b ↦ (let g = rw (b, swept_place) at e in let j : x ≡ k = cc in (g, subst (λ y. f y ≡ false) j b))
     ]
 swept_at f (p ∷ q) (suc t) k e = swept_at f q t k e
+
+swept_place-none : {A : Type 0} (f : A → Bool) → ((x : A) → f x ≡ false) → (p : Option A) → swept_place f p ≡ p
+swept_place-none f none None = refl
+swept_place-none f none (Some x) = (let e : f x ≡ false = none x in rw (e, swept_place) refl)
+
+-- a sweep that ends nobody changes no place
+pub swept-none : {A : Type 0} (f : A → Bool) → ((x : A) → f x ≡ false) → (q : List (Option A)) → swept f q ≡ q
+swept-none f none [] = refl
+swept-none f none (p ∷ q) = ap (λ x. x ∷ swept f q) (swept_place-none f none p) ∙ ap (λ l. p ∷ l) (swept-none f none q)

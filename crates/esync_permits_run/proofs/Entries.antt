@@ -18,10 +18,10 @@ neither false b h = (refl, h)
 other_number : (a t u : ℕ) → (a == t) ≡ true → (t ≡ u → ⊥) → (a == u) ≡ false
 other_number a t u h n = elim (true_or_false (a == u)) [ inl i ↦ absurd (n (grind (arith, nat_tests))) | inr i ↦ i ]
 
-same_number : (t : ℕ) → (t == t) ≡ true
+pub same_number : (t : ℕ) → (t == t) ≡ true
 same_number t = grind (arith, nat_tests)
 
-not_zero : (n : ℕ) → (suc n == 0) ≡ false
+pub not_zero : (n : ℕ) → (suc n == 0) ≡ false
 not_zero n = grind (arith, nat_tests)
 
 module _ {W : Type 0} where

@@ -32,7 +32,7 @@ same_permits : (b : Bool) (amount : Amount) (n n2 : ℕ) → TakesInTurn b n amo
 same_permits true amount n n2 h = h.1
 same_permits false amount n n2 h = h.1
 
-had_turn : (b : Bool) (amount : Amount) (n k n2 : ℕ) → TakesInTurn b n amount (Some k) n2 → b ≡ true
+pub had_turn : (b : Bool) (amount : Amount) (n k n2 : ℕ) → TakesInTurn b n amount (Some k) n2 → b ≡ true
 had_turn true amount n k n2 h = refl
 had_turn false amount n k n2 h = (let e = h.0 in cc)
 

@@ -1,2 +1,4 @@
 pub mod Entries
 pub mod FairKept
+pub mod FairOrder
+pub mod Sums

@@ -4,3 +4,5 @@ pub mod GreedyLaws
 pub mod Fair
 pub mod FairLaws
 pub mod FairTurns
+pub mod Sums
+pub mod FairOrder

@@ -5,6 +5,9 @@ ghost use Rattle.esync_machine.specs.Object.{requests_meaning};
 ghost use Rattle.esync_permits.specs.Permits.{TakesInTurn};
 ghost use Rattle.esync_permits.specs.Fair.{NamesWaiting, is_turn};
 ghost use Rattle.esync_permits_run.specs.Fair.{fair_rules, object_of, releaser, Tries};
+ghost use Rattle.esync_permits_run.specs.FairOrder.{NobodyOvertakes};
+ghost use Rattle.esync_permits_run.specs.Sums.{AddsUp, fair_total};
+ghost use Rattle.std.proofs.Math.ListN.{replicate};
 ghost use Rattle.esync_permits_run.specs.FairTurns.{PolledBy, answer_of, place_of};
 
 use crate::calls::PermitCall;
@@ -263,13 +266,18 @@ pub type FairReply<W, const K: usize> = Reply<Answer<FairHeard>, W, K>;
 ///
 /// Each answer is one that the number of permits and the queue of at most `N` entries allow. No live request that last
 /// heard Pending would now be answered Ready, unless its waker was handed out in that poll or since. No Pending poll that
-/// changes nothing hands out its own waker.
+/// changes nothing hands out its own waker. Permits are kept: as long as none of the commands sets, disarms or releases, the
+/// permits that are there and those of the live releasers add up to the same number. And nobody overtakes: where the machine has no
+/// requests at first, each request that is granted is the first of those who wait, in the order in which they first heard
+/// Pending, or nobody waits.
 pub fn run_fair<W: Copy + Eq, const N: usize, const REQS: usize, const K: usize>(
     alloc: Global,
     machine: &mut FairRun<W, N, REQS, K>,
     commands: Vec<FairCommand<W>>,
 ) -> Result<Vec<FairReply<W, K>>, AllocError>
     ensures run { IfOk result (λ replies. GoodRun (requests_meaning (fair_rules N) W W.eq K) (record { core = object_of machine.old.state; requests = machine.old.requests }) commands.items replies.items (record { core = object_of machine.new.state; requests = machine.new.requests })) }
+    ensures total { IfOk result (λ replies. AddsUp (fair_total (record { core = object_of machine.old.state; requests = machine.old.requests })) commands.items (fair_total (record { core = object_of machine.new.state; requests = machine.new.requests }))) }
+    ensures order { IfOk result (λ replies. machine.old.state.entries ≡ [] → machine.old.requests ≡ replicate REQS None → NobodyOvertakes [] commands.items replies.items) }
     ensures refused { OnErr result (machine.new ≡ machine.old) }
 {
     run(alloc, machine, commands)

@@ -5,6 +5,7 @@ ghost use Rattle.esync_machine.specs.Object.{requests_meaning};
 ghost use Rattle.esync_permits.specs.Permits.{Takes, granted};
 ghost use Rattle.esync_permits.specs.Greedy.{slot_after_poll, wakes_of_poll};
 ghost use Rattle.esync_permits_run.specs.Greedy.{greedy_rules, Tries, Disarms, releaser};
+ghost use Rattle.esync_permits_run.specs.Sums.{AddsUp, greedy_total};
 
 use crate::calls::PermitCall;
 use esync_base::waitqueue::{Context, Poll, Wakes};
@@ -211,13 +212,15 @@ pub type GreedyReply<W, const K: usize> = Reply<Answer<GreedyHeard>, W, K>;
 ///
 /// Each answer is one that the number of permits allows. No live request that last heard Pending would now be answered
 /// Ready, unless its waker was handed out in that poll or since. No Pending poll that changes nothing hands out its own
-/// waker.
+/// waker. And permits are kept: as long as none of the commands sets, disarms or releases, the permits that are there and those
+/// of the live releasers add up to the same number.
 pub fn run_greedy<W: Copy + Eq, const REQS: usize, const K: usize>(
     alloc: Global,
     machine: &mut GreedyRun<W, REQS, K>,
     commands: Vec<GreedyCommand<W>>,
 ) -> Result<Vec<GreedyReply<W, K>>, AllocError>
     ensures run { IfOk result (λ replies. GoodRun (requests_meaning greedy_rules W W.eq K) (record { core = machine.old.state.permits; requests = machine.old.requests }) commands.items replies.items (record { core = machine.new.state.permits; requests = machine.new.requests })) }
+    ensures total { IfOk result (λ replies. AddsUp (greedy_total (record { core = machine.old.state.permits; requests = machine.old.requests })) commands.items (greedy_total (record { core = machine.new.state.permits; requests = machine.new.requests }))) }
     ensures refused { OnErr result (machine.new ≡ machine.old) }
 {
     run(alloc, machine, commands)
