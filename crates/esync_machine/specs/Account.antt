@@ -16,6 +16,11 @@ module _ {S Command Reply : Type 0} (after : S → Command → Reply → S) wher
   AtEach Law k (c ∷ cs) [] = Unit {0}
   AtEach Law k (c ∷ cs) (a ∷ as') = Law k c a × AtEach Law (after k c a) cs as'
 
+-- where commands of any kind are meant
+pub of_any_kind : {C : Type 0} (cs : List C) → Each (λ c. Unit {0}) cs
+of_any_kind [] = tt
+of_any_kind (c ∷ cs) = (tt, of_any_kind cs)
+
 -- what each step keeps, a run keeps: of commands of this kind, with what is known of them
 module _ {S Command Reply Waker : Type 0} (M : Meaning Command Reply Waker) (IsKind : Command → Type 0) (after : S → Command → Reply → S) (Told : M.Object → S → Type 0) (keeps : (o o2 : M.Object) (k : S) (c : Command) (a : Reply) → IsKind c → M.allows o c a o2 → Told o k → Told o2 (after k c a)) where
   allowed : (o : M.Object) (c : Command) (a : Reply) (s : Step M.Object Command Reply) → s.command ≡ c → s.reply ≡ a → s.before ≡ o → M.allows s.before s.command s.reply s.after → M.allows o c a s.after

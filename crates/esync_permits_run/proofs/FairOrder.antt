@@ -3,8 +3,8 @@ use Rattle.std.proofs.Common.{◌≡◌, ℕ, zero, suc, Bool, true, false, List
 use Rattle.std.specs.Prelude.{◌==◌, ◌||◌, slice_get, slice_set, if◌then◌else◌}
 use Rattle.std.proofs.lemmas.Bool.Decides.{nat_tests}
 use Rattle.std.proofs.Math.ListN.{replicate}
-use Rattle.esync_machine.specs.Runs.{Each, GoodRun}
-use Rattle.esync_machine.specs.Account.{law_run}
+use Rattle.esync_machine.specs.Runs.{GoodRun}
+use Rattle.esync_machine.specs.Account.{of_any_kind, law_run}
 use Rattle.esync_machine.specs.Numbers.{flat, at_number, at_of, at_set_here, at_set_other, same_or_not, set_there, swept, swept-none}
 use Rattle.esync_machine.specs.Object.{Object, Allows, AllowsAt, requests_meaning}
 use Rattle.esync_machine.specs.declared.run.Reply.{Reply}
@@ -455,10 +455,6 @@ none_live : (m x t : ℕ) → ticket (at_number (replicate m None) x) ≡ Some t
 none_live zero x t e = cc
 none_live (suc m) zero t e = cc
 none_live (suc m) (suc x) t e = none_live m x t e
-
-of_any_kind : {C : Type 0} (cs : List C) → Each (λ c. Unit {0}) cs
-of_any_kind [] = tt
-of_any_kind (c ∷ cs) = (tt, of_any_kind cs)
 
 module _ {W : Type 0} {K : ℕ} (n : ℕ) where
   told_step : (o o2 : Object PermitQueue FairHeld) (line : List ℕ) (c : Command Amount W PermitCall) (a : Reply (Answer FairHeard) W K) → Unit {0} → Allows (fair_rules n) o c a.answer o2 → IsTold o line → IsTold o2 (line_after line c a)

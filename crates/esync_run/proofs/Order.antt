@@ -4,7 +4,8 @@ use Rattle.std.specs.Prelude.{slice_get, slice_set, Result, Ok, Err}
 use Rattle.std.proofs.Math.ListN.{replicate}
 use Rattle.std.proofs.lemmas.Bool.{eq-eqb, ne_eqb}
 use Rattle.esync_base.specs.Keeping.{BoundedList}
-use Rattle.esync_machine.specs.Runs.{Step, IsRun, Answers, GoodRun}
+use Rattle.esync_machine.specs.Account.{of_any_kind, told_run}
+use Rattle.esync_machine.specs.Runs.{GoodRun}
 use Rattle.esync_machine.specs.Numbers.{at_number, at_of, at_set, swept, swept_at}
 use Rattle.esync_machine.specs.Object.{Object, Allows, AllowsAt, Turns, begun, requests_meaning}
 use Rattle.esync_machine.specs.Rules.{reach_of}
@@ -24,7 +25,7 @@ use Rattle.esync_run.specs.declared.channel.ChannelCall.TheVariants.{TrySend, Tr
 use Rattle.esync_run.specs.declared.channel.ChannelHeard.{ChannelHeard}
 use Rattle.esync_run.specs.declared.channel.ChannelHeard.TheVariants.{TrySent, TryReceived}
 use Rattle.esync_run.specs.Channel.{channel_rules, Polls, PollsSend, PollsReceive, PollsReady, Calls, has_room, has_message}
-use Rattle.esync_run.specs.Order.{Account, ask_of, is_sent, after, after_start, after_poll, after_try_send, after_try_receive, account, InOrder}
+use Rattle.esync_run.specs.Order.{Account, ask_of, is_sent, after, after_start, after_poll, after_try_send, after_try_receive, InOrder}
 
 module _ {T : Type 0} (n : ℕ) where
   -- what the account has is what the object has
@@ -163,22 +164,9 @@ module _ {T : Type 0} (n : ℕ) where
     told_step o o2 k (End r) a h told = told_at o o2 k (End r) r (slice_get o.requests r) a refl h told refl
     told_step o o2 k (Call call) a h told = told_call o o2 k call a h.0 told h.2.0 h.3
 
-    allowed : {K : ℕ} (o : Object (List T) (ChannelAsk T)) (c : Command (ChannelAsk T) W (ChannelCall T)) (a : Reply (Answer (ChannelHeard T)) W K) (s : Step (Object (List T) (ChannelAsk T)) (Command (ChannelAsk T) W (ChannelCall T)) (Reply (Answer (ChannelHeard T)) W K)) → s.command ≡ c → s.reply ≡ a → s.before ≡ o → Allows (channel_rules (BoundedList T n)) s.before s.command s.reply.answer s.after → Allows (channel_rules (BoundedList T n)) o c a.answer s.after
-    allowed o c a s same_command same_reply same_object h =
-        subst (λ x. Allows (channel_rules (BoundedList T n)) x c a.answer s.after) same_object (subst (λ x. Allows (channel_rules (BoundedList T n)) s.before x a.answer s.after) same_command (subst (λ x. Allows (channel_rules (BoundedList T n)) s.before s.command x.answer s.after) same_reply h))
-
-    told_run : (eq : W → W → Bool) (K : ℕ) (o o2 : Object (List T) (ChannelAsk T)) (k : Account T) (cs : List (Command (ChannelAsk T) W (ChannelCall T))) (as' : List (Reply (Answer (ChannelHeard T)) W K)) (steps : List (Step (Object (List T) (ChannelAsk T)) (Command (ChannelAsk T) W (ChannelCall T)) (Reply (Answer (ChannelHeard T)) W K))) → Answers (requests_meaning (channel_rules (BoundedList T n)) W eq K) cs as' steps → IsRun (requests_meaning (channel_rules (BoundedList T n)) W eq K) o steps o2 → IsTold o k → IsTold o2 (account k cs as')
-    told_run eq K o o2 k [] [] [] answers run told = same o o2 k run told
-    told_run eq K o o2 k (c ∷ cs) (a ∷ as') (s ∷ steps) answers run told =
-        told_run eq K s.after o2 (after k c a.answer) cs as' steps answers.2 run.2 (told_step o s.after k c a.answer (allowed o c a s answers.0 answers.1 run.0 run.1) told)
-    told_run eq K o o2 k [] [] (s ∷ steps) answers run told = absurd answers
-    told_run eq K o o2 k [] (a ∷ as') steps answers run told = absurd answers
-    told_run eq K o o2 k (c ∷ cs) [] steps answers run told = absurd answers
-    told_run eq K o o2 k (c ∷ cs) (a ∷ as') [] answers run told = absurd answers
-
     pub in_order : (eq : W → W → Bool) (K REQS : ℕ) (o o2 : Object (List T) (ChannelAsk T)) (cs : List (Command (ChannelAsk T) W (ChannelCall T))) (as' : List (Reply (Answer (ChannelHeard T)) W K)) → GoodRun (requests_meaning (channel_rules (BoundedList T n)) W eq K) o cs as' o2 → o.requests ≡ replicate REQS None → InOrder o.core cs as' o2.core
     in_order eq K REQS o o2 cs as' run free =
-        (told_run eq K o o2 (record { asked = []; accepted = o.core; taken = [] }) cs as' run.steps run.answers run.run (record {
+        (told_run (requests_meaning (channel_rules (BoundedList T n)) W eq K) (λ c. Unit {0}) (λ k c a. after k c a.answer) IsTold (λ x x2 k c a u h told. told_step x x2 k c a.answer h told) o o2 (record { asked = []; accepted = o.core; taken = [] }) cs as' (of_any_kind cs) run (record {
           order = refl;
           asked = λ r ask e. absurd (none_there REQS r ask (subst (λ q. at_number q r ≡ Some ask) free e));
         })).order

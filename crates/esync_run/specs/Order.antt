@@ -1,5 +1,6 @@
 -- What was sent comes out, in order: told of the commands and their answers alone.
 use Rattle.std.specs.Prelude.{◌≡◌, ℕ, List, [], ◌∷◌, ◌++◌, Option, Some, None, Ok, nat_eq, if◌then◌else◌}
+use Rattle.esync_machine.specs.Account.{account}
 use Rattle.esync_machine.specs.declared.run.Reply.{Reply}
 use Rattle.esync_machine.specs.declared.primitive.Answer.{Answer}
 use Rattle.esync_machine.specs.declared.primitive.Answer.TheVariants.{Done, Pending, NoSuch, NoMemory, Gives}
@@ -75,14 +76,9 @@ module _ {T : Type 0} where
   after k (Call Len) a = k
   after k (Call FreeCapacity) a = k
 
-  abbrev pub account : {W : Type 0} {K : ℕ} → Account T → List (Command (ChannelAsk T) W (ChannelCall T)) → List (Reply (Answer (ChannelHeard T)) W K) → Account T
-  account k [] as' = k
-  account k (c ∷ cs) [] = k
-  account k (c ∷ cs) (a ∷ as') = account (after k c a.answer) cs as'
-
   -- of a channel without requests that holds these messages at first, and those at last: the messages that were taken, and
   -- then those that are held, are those held at first and those that were sent since, in order
   abbrev pub InOrder : {W : Type 0} {K : ℕ} → List T → List (Command (ChannelAsk T) W (ChannelCall T)) → List (Reply (Answer (ChannelHeard T)) W K) → List T → Type 0
   InOrder held commands replies held2 =
-      let k = account (record { asked = []; accepted = held; taken = [] }) commands replies in
+      let k = account (λ k c a. after k c a.answer) (record { asked = []; accepted = held; taken = [] }) commands replies in
       k.taken ++ held2 ≡ k.accepted
