@@ -6,3 +6,4 @@ pub mod priority_channel;
 pub mod signal;
 
 pub use esync_machine::{primitive, requests, run};
+pub use esync_permits_run as semaphore;
