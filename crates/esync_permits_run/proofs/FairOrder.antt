@@ -251,20 +251,20 @@ module _ (row : List (Option FairHeld)) where
   leaves (x ∷ line) [] r t p d h e i = absurd h
   leaves (x ∷ line) (u ∷ ts) r t p d h e i = elim (true_or_false (x == r)) [
     | inl s ↦
-      (let f : Some u ≡ Some t = sym (subst (λ y. ticket (at_number row y) ≡ Some u) (equal_numbers x r s) h.0) ∙ e in
-      let g : u ≡ t = cc in
-      let gone : is_in t ts ≡ false = subst (λ y. is_in y ts ≡ false) g d.0 in
-      let away : is_in r line ≡ false = apart line ts r t h.1 e gone in
-      let z : (u == t) ≡ true = subst (λ y. (u == y) ≡ true) g (same_number u) in
-      subst (λ l. Tickets (slice_set row r p) l (without t (u ∷ ts))) (sym (without_front_same r x line s away))
-      (subst (λ l. Tickets (slice_set row r p) line l) (sym (without_front_same t u ts z gone)) (set_elsewhere line ts r p away h.1)))
+        (let f : Some u ≡ Some t = sym (subst (λ y. ticket (at_number row y) ≡ Some u) (equal_numbers x r s) h.0) ∙ e in
+        let g : u ≡ t = cc in
+        let gone : is_in t ts ≡ false = subst (λ y. is_in y ts ≡ false) g d.0 in
+        let away : is_in r line ≡ false = apart line ts r t h.1 e gone in
+        let z : (u == t) ≡ true = subst (λ y. (u == y) ≡ true) g (same_number u) in
+        subst (λ l. Tickets (slice_set row r p) l (without t (u ∷ ts))) (sym (without_front_same r x line s away))
+        (subst (λ l. Tickets (slice_set row r p) line l) (sym (without_front_same t u ts z gone)) (set_elsewhere line ts r p away h.1)))
     | inr s ↦
-      (let there : is_in r line ≡ true = rw s at i in
-      let z : (u == t) ≡ false = elim (true_or_false (u == t)) [
-        | inl j ↦ absurd (not_both t ts (same_ticket line ts r t h.1 e there) (subst (λ y. is_in y ts ≡ false) (equal_numbers u t j) d.0))
-        | inr j ↦ j
-      ] in
-      rw s (rw z (ap ticket (at_set_other row r x p (different_numbers x r s)) ∙ h.0, leaves line ts r t p d.1 h.1 e there)))
+        (let there : is_in r line ≡ true = rw s at i in
+        let z : (u == t) ≡ false = elim (true_or_false (u == t)) [
+          | inl j ↦ absurd (not_both t ts (same_ticket line ts r t h.1 e there) (subst (λ y. is_in y ts ≡ false) (equal_numbers u t j) d.0))
+          | inr j ↦ j
+        ] in
+        rw s (rw z (ap ticket (at_set_other row r x p (different_numbers x r s)) ∙ h.0, leaves line ts r t p d.1 h.1 e there)))
   ]
 
   -- who has the first ticket is the first in the line
@@ -330,8 +330,8 @@ module _ (o o2 : Object PermitQueue FairHeld) (line : List ℕ) (told : IsTold o
     elsewhere : ticket p2 ≡ None → (x t : ℕ) → ticket (at_number (slice_set o.requests r p2) x) ≡ Some t → (r ≡ x → ⊥) × (is_in x line ≡ true)
     elsewhere n x t h = elim (same_or_not r x) [
       | inl s ↦
-        (let f : None ≡ Some t = sym (ap ticket (at_set_here o.requests r p p2 there) ∙ n) ∙ subst (λ y. ticket (at_number (slice_set o.requests r p2) y) ≡ Some t) (sym s) h in
-        absurd cc)
+          (let f : None ≡ Some t = sym (ap ticket (at_set_here o.requests r p p2 there) ∙ n) ∙ subst (λ y. ticket (at_number (slice_set o.requests r p2) y) ≡ Some t) (sym s) h in
+          absurd cc)
       | inr s ↦ (s, told.all x t (ap ticket (sym (at_set_other o.requests r x p2 s)) ∙ h))
     ]
 

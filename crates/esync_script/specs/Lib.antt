@@ -4,3 +4,4 @@ pub mod Played
 pub mod Signal
 pub mod Text
 pub mod Semaphore
+pub mod Opening

@@ -23,3 +23,7 @@ pub record PrintsARun {Command Reply Waker : Type 0} (M : Meaning Command Reply 
   pub replies : List Reply
   pub run : GoodRun M old commands replies new
   pub printed : IsJudged outcome → Appends before after (texts text replies)
+
+-- The same from this object, to some other.
+abbrev pub PrintsFrom : {Command Reply Waker : Type 0} (M : Meaning Command Reply Waker) → M.Object → (Reply → List ℕ) → Option (List ℕ) → Option (List ℕ) → Result (Unit {0}) Fault → Type 0
+PrintsFrom M old text before after outcome = (new : M.Object) × PrintsARun M text old new before after outcome

@@ -1,5 +1,6 @@
 -- The text of what is printed.
 use Rattle.std.specs.Prelude.{ℕ, List, [], ◌∷◌, ◌++◌, codes, decimal, Option, Some, None}
+use Rattle.esync_machine.specs.declared.run.Reply.{Reply}
 use Rattle.esync_machine.specs.declared.primitive.Answer.{Answer}
 use Rattle.esync_machine.specs.declared.primitive.Answer.TheVariants.{Done, Pending, NoSuch, NoMemory, Gives}
 
@@ -29,6 +30,10 @@ wakers_text (w ∷ ws) = spaced (w ∷ ws)
 -- the line of a reply: its answer, its wakers and a line feed
 abbrev pub line_text : List ℕ → List ℕ → List ℕ
 line_text answer wakers = answer ++ codes " |" ++ wakers_text wakers ++ 10 ∷ []
+
+-- the same of a reply, where `text` is the text of its answer
+abbrev pub reply_text : {A : Type 0} {K : ℕ} → (A → List ℕ) → Reply A ℕ K → List ℕ
+reply_text text reply = line_text (text reply.answer) reply.wakes
 
 -- several texts, one after another
 abbrev pub texts : {A : Type 0} → (A → List ℕ) → List A → List ℕ

@@ -1,6 +1,6 @@
 //! The words of a channel and of a priority channel.
-ghost use Rattle.std.specs.Prelude.{◌≡◌, [], None};
-ghost use Rattle.std.proofs.Math.ListN.{replicate};
+ghost use Rattle.std.specs.Prelude.{◌≡◌, []};
+ghost use Rattle.esync_script.specs.Opening.{new_object};
 
 use crate::fault::Fault;
 use crate::vocabulary::{Printed, REQS, Spoken};
@@ -8,6 +8,7 @@ use crate::words::Words;
 use esync_base::store::Store;
 use esync_channel::channel::{TryReceiveError, TrySendError};
 use esync_machine::requests::Requests;
+use esync_machine::run::Machine;
 use esync_run::channel::{ChannelAsk, ChannelCall, ChannelHeard, MailboxState};
 use std::io::Write;
 
@@ -61,8 +62,7 @@ impl Printed for ChannelHeard<u32> {
 
 /// An empty channel over this store, with no request.
 pub fn channel<S: Store>() -> Requests<MailboxState<S, u64, 1>, REQS, 1>
-    ensures state { S.held result.state.state.store ≡ [] }
-    ensures requests { result.requests ≡ replicate REQS None }
+    ensures { ⟦<Requests<MailboxState<S, u64, 1>, REQS, 1> as Machine>⟧.object result ≡ new_object [] }
 {
     Requests::new(MailboxState::new())
 }

@@ -58,6 +58,10 @@ impl<A: Printed, const K: usize> Woken for Reply<Answer<A>, u64, K> {
 pub struct Diagram {}
 
 impl Answering for Diagram {
+    ghost use Rattle.std.specs.Prelude.{false};
+
+    ghost prints_replies = { false };
+
     fn open<W: Write>(&self, primitive: &str, output: &mut W) -> Result<(), Fault> {
         writeln!(output, "sequenceDiagram")?;
         writeln!(output, "    participant object as {primitive}")?;

@@ -1,13 +1,18 @@
 //! Line 1 of a script, which names the primitive.
+ghost use Rattle.std.specs.Prelude.{◌≡◌, ℕ, true};
+ghost use Rattle.esync_base.specs.Keeping.{BoundedList};
+ghost use Rattle.esync_priority.specs.Prio.{Bag};
+ghost use Rattle.esync_script.specs.Opening.{places, Plays, PlaysMessages, PlaysFair};
+
 use crate::channel::channel;
 use crate::fault::Fault;
 use crate::lines::Lines;
 use crate::semaphore::{fair, greedy};
 use crate::signal::signal;
-use crate::vocabulary::{Answering, Spoken};
+use crate::vocabulary::{Answering, Spoken, serve_new};
 use crate::words::Words;
 use esync_base::deque::Deque;
-use esync_priority::prio::{Max, Min, PrioQueue};
+use esync_priority::prio::{Kind, Max, Min, PrioQueue};
 use std::io::{Read, Write};
 
 /// How much a primitive holds, of the capacities that a script can ask for.
@@ -55,24 +60,58 @@ macro_rules! at_capacity {
 }
 
 // A script over a channel of at most `n` messages.
-macro_rules! serve_channel {
+macro_rules! serve_list {
     ($n:literal, $answering:ident, $lines:ident, $output:ident) => {
-        $answering.serve(&mut channel::<Deque<u32, $n>>(), $lines, $output)
+        serve_new($answering, channel::<Deque<u32, $n>>(), $lines, $output)
     };
+}
+
+fn serve_channel<A: Answering, R: Read + Drop, W: Write>(
+    answering: &A,
+    capacity: Capacity,
+    lines: &mut Lines<R>,
+    output: &mut W,
+) -> Result<(), Fault>
+    ensures { A.prints_replies ≡ true → PlaysMessages ⟦<u64 as PartialEq>⟧.eq (BoundedList ℕ (places capacity)) (W.contents output.old) (W.contents output.new) result }
+{
+    at_capacity!(capacity, serve_list!(answering, lines, output))
 }
 
 // A script over a priority channel of at most `n` messages.
-macro_rules! serve_priority {
+macro_rules! serve_bag {
     ($n:literal, $order:ident, $answering:ident, $lines:ident, $output:ident) => {
-        $answering.serve(&mut channel::<PrioQueue<u32, $order, $n>>(), $lines, $output)
+        serve_new($answering, channel::<PrioQueue<u32, $order, $n>>(), $lines, $output)
     };
 }
 
+fn serve_priority<P: Kind<u32>, A: Answering, R: Read + Drop, W: Write>(
+    answering: &A,
+    capacity: Capacity,
+    lines: &mut Lines<R>,
+    output: &mut W,
+) -> Result<(), Fault>
+    ensures { A.prints_replies ≡ true → PlaysMessages ⟦<u64 as PartialEq>⟧.eq (Bag ℕ P.above (places capacity)) (W.contents output.old) (W.contents output.new) result }
+{
+    at_capacity!(capacity, serve_bag!(P, answering, lines, output))
+}
+
 // A script over a fair semaphore with a queue of `n` places.
-macro_rules! serve_fair {
+macro_rules! serve_queue {
     ($n:literal, $permits:ident, $answering:ident, $lines:ident, $output:ident) => {
-        $answering.serve(&mut fair::<$n>($permits), $lines, $output)
+        serve_new($answering, fair::<$n>($permits), $lines, $output)
     };
+}
+
+fn serve_fair<A: Answering, R: Read + Drop, W: Write>(
+    answering: &A,
+    capacity: Capacity,
+    permits: usize,
+    lines: &mut Lines<R>,
+    output: &mut W,
+) -> Result<(), Fault>
+    ensures { A.prints_replies ≡ true → PlaysFair ⟦<u64 as PartialEq>⟧.eq (places capacity) permits (W.contents output.old) (W.contents output.new) result }
+{
+    at_capacity!(capacity, serve_queue!(permits, answering, lines, output))
 }
 
 /// The primitive that a script is about.
@@ -109,7 +148,7 @@ impl Spoken for Opening {
     }
 }
 
-/// Makes the primitive that line 1 names, and answers the lines after it.
+/// Goes through a script from its line 1.
 pub fn serve_script<A: Answering, R: Read + Drop, W: Write>(
     answering: &A,
     lines: &mut Lines<R>,
@@ -120,21 +159,33 @@ pub fn serve_script<A: Answering, R: Read + Drop, W: Write>(
         None => None,
     };
     match opening {
-        Some(Opening::Channel(capacity)) => {
-            at_capacity!(capacity, serve_channel!(answering, lines, output))
-        }
-        Some(Opening::Max(capacity)) => {
-            at_capacity!(capacity, serve_priority!(Max, answering, lines, output))
-        }
-        Some(Opening::Min(capacity)) => {
-            at_capacity!(capacity, serve_priority!(Min, answering, lines, output))
-        }
-        Some(Opening::Signal) => answering.serve(&mut signal(), lines, output),
-        Some(Opening::Greedy(permits)) => answering.serve(&mut greedy(permits), lines, output),
-        Some(Opening::Fair(capacity, permits)) => {
-            at_capacity!(capacity, serve_fair!(permits, answering, lines, output))
-        }
+        Some(opening) => serve_opening(answering, opening, lines, output),
         None => Err(lines.not_a_command()),
+    }
+}
+
+// Makes the primitive that line 1 names, and answers the lines after it.
+fn serve_opening<A: Answering, R: Read + Drop, W: Write>(
+    answering: &A,
+    opening: Opening,
+    lines: &mut Lines<R>,
+    output: &mut W,
+) -> Result<(), Fault>
+    ensures { A.prints_replies ≡ true → Plays ⟦<u64 as PartialEq>⟧.eq ⟦<Max as Kind<u32>>⟧.above ⟦<Min as Kind<u32>>⟧.above opening (W.contents output.old) (W.contents output.new) result }
+{
+    match opening {
+        Opening::Channel(capacity) => serve_channel(answering, capacity, lines, output),
+        Opening::Max(capacity) => {
+            serve_priority::<Max, A, R, W>(answering, capacity, lines, output)
+        }
+        Opening::Min(capacity) => {
+            serve_priority::<Min, A, R, W>(answering, capacity, lines, output)
+        }
+        Opening::Signal => serve_new(answering, signal(), lines, output),
+        Opening::Greedy(permits) => serve_new(answering, greedy(permits), lines, output),
+        Opening::Fair(capacity, permits) => {
+            serve_fair(answering, capacity, permits, lines, output)
+        }
     }
 }
 

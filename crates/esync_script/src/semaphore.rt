@@ -1,11 +1,12 @@
 //! The words of the greedy and the fair semaphore.
-ghost use Rattle.std.specs.Prelude.{◌≡◌, None};
-ghost use Rattle.std.proofs.Math.ListN.{replicate};
+ghost use Rattle.std.specs.Prelude.{◌≡◌, []};
+ghost use Rattle.esync_script.specs.Opening.{new_object};
 
 use crate::fault::Fault;
 use crate::vocabulary::{Printed, REQS, Spoken, print_option};
 use crate::words::Words;
 use esync_machine::requests::Requests;
+use esync_machine::run::Machine;
 use esync_permits::semaphore::{Amount, WaitQueueFull};
 use esync_permits_run::calls::PermitCall;
 use esync_permits_run::fair::{FairHeard, FairRun, FairSide};
@@ -75,16 +76,14 @@ impl Printed for FairHeard {
 
 /// A greedy semaphore of this number of permits, with no request.
 pub fn greedy(permits: usize) -> GreedyRun<u64, REQS, 1>
-    ensures permits { result.state.permits ≡ permits }
-    ensures requests { result.requests ≡ replicate REQS None }
+    ensures { ⟦<GreedyRun<u64, REQS, 1> as Machine>⟧.object result ≡ new_object permits }
 {
     Requests::new(GreedySide::new(permits))
 }
 
 /// A fair semaphore of this number of permits, with a queue of `N` places and no request.
 pub fn fair<const N: usize>(permits: usize) -> FairRun<u64, N, REQS, 1>
-    ensures permits { result.state.permits ≡ permits }
-    ensures requests { result.requests ≡ replicate REQS None }
+    ensures { ⟦<FairRun<u64, N, REQS, 1> as Machine>⟧.object result ≡ new_object (record { permits = permits; queue = [] }) }
 {
     Requests::new(FairSide::new(permits))
 }

@@ -1,11 +1,12 @@
 //! The words of a signal.
 ghost use Rattle.std.specs.Prelude.{◌≡◌, None};
-ghost use Rattle.std.proofs.Math.ListN.{replicate};
+ghost use Rattle.esync_script.specs.Opening.{new_object};
 
 use crate::fault::Fault;
 use crate::vocabulary::{Printed, REQS, Spoken, print_option};
 use crate::words::Words;
 use esync_machine::requests::Requests;
+use esync_machine::run::Machine;
 use esync_run::signal::{SignalCall, SignalHeard, SignalRoom, SignalRun, Wait};
 use std::io::Write;
 
@@ -48,8 +49,7 @@ impl Printed for SignalHeard<u32> {
 
 /// A signal without a value, with no request.
 pub fn signal() -> SignalRun<u32, u64, REQS, 1>
-    ensures value { result.state.state.value ≡ None }
-    ensures requests { result.requests ≡ replicate REQS None }
+    ensures { ⟦<SignalRun<u32, u64, REQS, 1> as Machine>⟧.object result ≡ new_object None }
 {
     Requests::new(SignalRoom::new())
 }

@@ -1,9 +1,9 @@
 //! What a script says to a machine, what it prints of the replies, and the loop that goes through its lines.
-ghost use Rattle.std.specs.Prelude.{ℕ, List, OnOk, IfErr, ◌++◌, codes};
+ghost use Rattle.std.specs.Prelude.{◌≡◌, ℕ, Bool, true, List, OnOk, IfErr, ◌++◌, codes};
 ghost use Rattle.std.specs.Io.KnownBytes.{Appends};
 ghost use Rattle.esync_base.specs.Rows.{items_of};
-ghost use Rattle.esync_script.specs.Played.{IsNotACommand, PrintsARun};
-ghost use Rattle.esync_script.specs.Text.{answer_text, line_text, option_text, spaced};
+ghost use Rattle.esync_script.specs.Played.{IsNotACommand, PrintsARun, PrintsFrom};
+ghost use Rattle.esync_script.specs.Text.{answer_text, line_text, reply_text, option_text, spaced};
 
 use crate::diagram::{Told, Woken};
 use crate::fault::Fault;
@@ -72,7 +72,7 @@ impl<A: Printed> Printed for Answer<A> {
 }
 
 impl<A: Printed, const K: usize> Printed for Reply<A, u64, K> {
-    ghost text = { λ reply. line_text (A.text reply.answer) reply.wakes };
+    ghost text = { reply_text A.text };
 
     fn print<W: Write>(&self, output: &mut W) -> Result<(), Fault> {
         self.answer.print(output)?;
@@ -110,6 +110,9 @@ fn print_wakers<W: Write>(wakers: &[Option<u64>], output: &mut W) -> io::Result<
 
 /// How the lines of a script are answered.
 pub trait Answering {
+    /// What is printed is the text of each reply, and nothing else.
+    ghost prints_replies: { Bool };
+
     /// What comes before the first answer, of the primitive that line 1 names.
     fn open<W: Write>(&self, primitive: &str, output: &mut W) -> Result<(), Fault>;
 
@@ -122,7 +125,8 @@ pub trait Answering {
     ) -> Result<(), Fault>
     where
         M::Command: Spoken + Told,
-        M::Reply: Printed + Woken + Drop;
+        M::Reply: Printed + Woken + Drop,
+        ensures { prints_replies ≡ true → PrintsARun M.meaning M.Reply.text (M.object machine.old) (M.object machine.new) (W.contents output.old) (W.contents output.new) result };
 }
 
 /// The answers alone, a line each.
@@ -130,6 +134,8 @@ pub trait Answering {
 pub struct Replies {}
 
 impl Answering for Replies {
+    ghost prints_replies = { true };
+
     fn open<W: Write>(&self, _primitive: &str, _output: &mut W) -> Result<(), Fault> {
         Ok(())
     }
@@ -146,6 +152,22 @@ impl Answering for Replies {
     {
         serve_lines(machine, lines, output)
     }
+}
+
+/// Goes through a script over this machine.
+pub fn serve_new<A: Answering, M: Machine + Drop, R: Read + Drop, W: Write>(
+    answering: &A,
+    machine: M,
+    lines: &mut Lines<R>,
+    output: &mut W,
+) -> Result<(), Fault>
+where
+    M::Command: Spoken + Told,
+    M::Reply: Printed + Woken + Drop,
+    ensures { A.prints_replies ≡ true → PrintsFrom M.meaning (M.object machine) M.Reply.text (W.contents output.old) (W.contents output.new) result }
+{
+    let mut machine = machine;
+    answering.serve(&mut machine, lines, output)
 }
 
 /// Answers each line that is left of the script.

@@ -1,0 +1,16 @@
+use Rattle.esync_script.proofs.opening.serve_channel.Goals as goal
+
+pub returns-in-One : goal.returns-in-One
+returns-in-One g c = rw (c.in-One.is, ← c.channel.ensures) c.serve_new.ensures
+
+pub returns-in-Two : goal.returns-in-Two
+returns-in-Two g c = rw (c.in-Two.is, ← c.channel-in-Two.ensures) c.serve_new-in-Two.ensures
+
+pub returns-in-Three : goal.returns-in-Three
+returns-in-Three g c = rw (c.in-Three.is, ← c.channel-in-Three.ensures) c.serve_new-in-Three.ensures
+
+pub returns-in-Four : goal.returns-in-Four
+returns-in-Four g c = rw (c.in-Four.is, ← c.channel-in-Four.ensures) c.serve_new-in-Four.ensures
+
+pub returns-in-Eight : goal.returns-in-Eight
+returns-in-Eight g c = rw (c.in-Eight.is, ← c.channel-in-Eight.ensures) c.serve_new-in-Eight.ensures
