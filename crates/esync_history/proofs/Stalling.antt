@@ -4,7 +4,7 @@ use Rattle.std.specs.Prelude.{slice_get, slice_set}
 use Rattle.std.specs.List.{list_any}
 use Rattle.esync_base.specs.declared.waitqueue.TaskId.{TaskId}
 use Rattle.esync_base.specs.Registration.{IsAmong}
-use Rattle.esync_machine.specs.Runs.{Meaning, Step, Each, AtSome, Polls, HandsOut}
+use Rattle.esync_machine.specs.Runs.{Meaning, Step, Each, AtSome, Polls, HandsOut, KeepsRequests}
 use Rattle.esync_machine.specs.Through.{Turn, Through}
 use Rattle.esync_history.specs.declared.executor.Act.{Act}
 use Rattle.esync_history.specs.declared.executor.Act.TheVariants.{Await, Call}
@@ -12,7 +12,7 @@ use Rattle.esync_history.specs.Line.{is_queued, put_last}
 use Rattle.esync_history.specs.Suited.{awaits_at}
 use Rattle.esync_history.specs.Todo.{Todo, Executing, has_ended, put_back_task, put_back, woken, requeued}
 use Rattle.esync_history.specs.Turns.{IsPoll, Acts, wakes_in, IsTurn}
-use Rattle.esync_history.specs.Standing.{Uses, KeepsRequests, ArePlain, IsStanding, AreStanding}
+use Rattle.esync_history.specs.Standing.{Uses, ArePlain, IsStanding, AreStanding}
 use Rattle.std.proofs.lemmas.Bool.Decides.{nat_tests}
 use Rattle.esync_history.proofs.Lines.{true_or_false, same_or_other, queued_last, queued_other, queued_behind}
 use Rattle.esync_history.proofs.Turning.{woken-append}
@@ -21,7 +21,14 @@ use Rattle.esync_history.proofs.Kept.{get_set_here, get_set_other}
 equal_numbers : (n k : ℕ) → n ≡ k → (n == k) ≡ true
 equal_numbers n k e = grind (arith, nat_tests)
 
-module _ {Command Reply : Type 0} (M : Meaning Command Reply TaskId) (L : KeepsRequests M) where
+-- equal wakers name the same task
+same_number : (n k : ℕ) → (n == k) ≡ true → n ≡ k
+same_number n k e = grind (arith, nat_tests)
+
+pub same_task : (v w : TaskId) → (v.0 == w.0) ≡ true → v ≡ w
+same_task v w e = ap (λ (x : ℕ). record { 0 = x }) (same_number v.0 w.0 e)
+
+module _ {Command Reply : Type 0} (M : Meaning Command Reply TaskId) (L : KeepsRequests M) (equal : (v w : TaskId) → M.same v w ≡ true → v ≡ w) where
   -- the step neither polls nor starts the request
   abbrev Avoids : ℕ → Step M.Object Command Reply → Type 0
   Avoids r s = (Polls M s.command r → ⊥) × (M.starts s.command ≡ Some r → ⊥)
@@ -188,7 +195,7 @@ module _ {Command Reply : Type 0} (M : Meaning Command Reply TaskId) (L : KeepsR
     among_queued queue [] k task e h a = absurd cc
     among_queued queue (v ∷ ws) k task e h a = elim (true_or_false (M.same v (record { 0 = k }))) [
       | inl s ↦ (
-          let n : v.0 ≡ k = ap (λ x. x.0) (L.same v (record { 0 = k }) s) in
+          let n : v.0 ≡ k = ap (λ x. x.0) (equal v (record { 0 = k }) s) in
           queued_woken (put_back tasks queue v.0) ws k (subst (λ x. is_queued k (put_back tasks queue x) ≡ true) (sym n) (put_queued queue k task e h)))
       | inr s ↦ among_queued (put_back tasks queue v.0) ws k task e h (let b = rw s at a in b)
     ]

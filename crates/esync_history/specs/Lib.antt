@@ -3,4 +3,3 @@ pub mod Todo
 pub mod Suited
 pub mod Turns
 pub mod Standing
-pub mod Requests

@@ -14,19 +14,6 @@ abbrev pub Uses : {Ask Command : Type 0} → ℕ → Todo Ask Command → Type 0
 Uses r task = (task.request ≡ Some r) ⊎ (list_any (awaits_at r) task.acts ≡ true)
 
 module _ {Command Reply : Type 0} (M : Meaning Command Reply TaskId) where
-  -- What a machine keeps to, so that it can be told where its tasks stand.
-  pub record KeepsRequests : Type 0 where
-    -- a start polls nothing
-    pub apart : (c : Command) (r : ℕ) → M.starts c ≡ Some r → M.polls c ≡ None
-    -- a command ends a request or doesn't
-    pub decided : (o : M.Object) (c : Command) (r : ℕ) → M.Ends o c r ⊎ (M.Ends o c r → ⊥)
-    -- a request that was ended is gone
-    pub gone : (o o2 : M.Object) (c : Command) (a : Reply) (r : ℕ) → M.allows o c a o2 → M.Ends o c r → M.IsLive o2 r → ⊥
-    -- a request is there if it was there before, or was started
-    pub made : (o o2 : M.Object) (c : Command) (a : Reply) (r : ℕ) → M.allows o c a o2 → M.IsLive o2 r → (M.starts c ≡ Some r) ⊎ M.IsLive o r
-    -- wakers that are equal name the same task
-    pub same : (v w : TaskId) → M.same v w ≡ true → v ≡ w
-
   -- no Call among the acts starts or polls
   abbrev pub ArePlain : {Ask : Type 0} → List (Act Ask Command) → Type 0
   ArePlain [] = Unit {0}
@@ -47,7 +34,7 @@ module _ {Command Reply : Type 0} (M : Meaning Command Reply TaskId) where
     -- What holds between two turns.
     pub record IsBetweenTurns {Ask : Type 0} (m : S) (tasks : List (Todo Ask Command)) (queue : Line) : Type 0 where
       pub orderly : IsOrderly tasks queue
-      pub standing : KeepsRequests → AreStanding m tasks queue.numbers
+      pub standing : AreStanding m tasks queue.numbers
 
   -- Each task that hasn't ended stands at an Await. Its request was ended, or a poll may now be answered Pending with the object
   -- left as it is.

@@ -87,7 +87,7 @@ where
 {
     ghost use Rattle.esync_history.specs.Todo.{Executing};
     ghost use Rattle.esync_history.specs.Turns.{IsTurn, Ran, Tells};
-    ghost use Rattle.esync_history.specs.Standing.{KeepsRequests, AreStanding, AreStalled};
+    ghost use Rattle.esync_history.specs.Standing.{AreStanding, AreStalled};
 
     /// An executor of these tasks. Those that have acts stand in the queue, in order.
     pub fn new(
@@ -132,7 +132,7 @@ where
     // What a run answers that stops here.
     fn outcome(&self) -> Outcome
         ensures tells { Tells result self.now }
-        ensures standing { KeepsRequests M.meaning → AreStanding M.meaning M.object M.Owes self.now.machine self.now.tasks self.now.queue }
+        ensures standing { AreStanding M.meaning M.object M.Owes self.now.machine self.now.tasks self.now.queue }
     {
         if !self.queue.is_empty() {
             Outcome::Limit
@@ -149,7 +149,7 @@ where
     pub fn run(&mut self, limit: usize) -> Outcome
         ensures run { Ran M.meaning M.object M.Owes limit self.old result self.new }
         ensures outcome { Tells result self.new }
-        ensures stalled { KeepsRequests M.meaning → result ≡ Outcome.Stalled → AreStalled M.meaning (M.object self.new.machine) self.new.tasks }
+        ensures stalled { result ≡ Outcome.Stalled → AreStalled M.meaning (M.object self.new.machine) self.new.tasks }
     {
         for _turn in 0..limit {
             if !self.take_turn() {

@@ -7,3 +7,4 @@ pub mod Served
 pub mod Idle
 pub mod Tabled
 pub mod Account
+pub mod Keeps

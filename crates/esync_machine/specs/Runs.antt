@@ -1,5 +1,5 @@
 -- Runs of a machine, and the two laws of its wakes. Nothing here speaks of a registration.
-use Rattle.std.specs.Prelude.{◌≡◌, ℕ, Bool, List, [], ◌∷◌, ◌++◌, Option, Some, ◌⊎◌}
+use Rattle.std.specs.Prelude.{◌≡◌, ℕ, Bool, List, [], ◌∷◌, ◌++◌, Option, Some, None, ◌⊎◌}
 use Rattle.esync_base.specs.Registration.{IsAmong}
 
 -- What a machine means: the objects, and which step each of them allows.
@@ -120,3 +120,14 @@ module _ {Command Reply Waker : Type 0} (M : Meaning Command Reply Waker) where
     pub run : IsRun old steps new
     pub no_lost_wake : NoLostWake steps
     pub no_idle_self_wake : (M.WakesItself → ⊥) → NoIdleSelfWake steps
+
+  -- What the commands do to the requests.
+  pub record KeepsRequests : Type 0 where
+    -- a start polls nothing
+    pub apart : (c : Command) (r : ℕ) → M.starts c ≡ Some r → M.polls c ≡ None
+    -- a command ends a request or doesn't
+    pub decided : (o : M.Object) (c : Command) (r : ℕ) → M.Ends o c r ⊎ (M.Ends o c r → ⊥)
+    -- a request that was ended is gone
+    pub gone : (o o2 : M.Object) (c : Command) (a : Reply) (r : ℕ) → M.allows o c a o2 → M.Ends o c r → M.IsLive o2 r → ⊥
+    -- a request is there if it was there before, or was started
+    pub made : (o o2 : M.Object) (c : Command) (a : Reply) (r : ℕ) → M.allows o c a o2 → M.IsLive o2 r → (M.starts c ≡ Some r) ⊎ M.IsLive o r

@@ -1,7 +1,7 @@
 //! Primitives, which see one of their requests at a time and no number.
 ghost use Rattle.std.specs.Prelude.{◌≡◌, ℕ, [], Some, None, false, IfSome, ◌⊎◌};
 ghost use Rattle.esync_base.specs.Registration.{IsAmong};
-ghost use Rattle.esync_machine.specs.Rules.{Rules, IsApart, IsOwed, IsIdle, IdleIsPending, OnlyRequests, Finds, ended};
+ghost use Rattle.esync_machine.specs.Rules.{Rules, IsApart, IsOwed, IsIdle, IdleIsPending, OnlyRequests, MakesNoRequests, Finds, ended};
 
 use esync_base::waitqueue::Wakes;
 
@@ -166,4 +166,7 @@ pub trait Primitive<const K: usize> {
     ghost no_such: { OnlyRequests rules };
 
     ghost symmetric: { (h k : Self.Held) → Apart h k → Apart k h };
+
+    /// Requests are made by `begin` alone.
+    ghost no_requests: { MakesNoRequests rules };
 }

@@ -1,7 +1,7 @@
 //! Machines that take commands, and whole runs of them.
 ghost use Rattle.std.specs.Prelude.{◌≡◌, ℕ, Some, ◌⊎◌, IfOk, OnErr, ◌↔◌, IsTrue, IsSome};
 ghost use Rattle.esync_base.specs.Rows.{items_of};
-ghost use Rattle.esync_machine.specs.Runs.{Meaning, GoodRun, IsQuiet, IsIdle, HandsOut, Polls};
+ghost use Rattle.esync_machine.specs.Runs.{Meaning, GoodRun, IsQuiet, IsIdle, HandsOut, Polls, KeepsRequests};
 
 use esync_base::waitqueue::Wakes;
 use std::alloc::{AllocError, Global};
@@ -83,6 +83,12 @@ pub trait Awaits: Machine {
     /// The wakers that the reply hands out, in order, in a row that may have empty places behind them.
     fn wakes(reply: &Self::Reply) -> &[Option<Self::Waker>]
         ensures { items_of result.now ≡ Self.meaning.wakes reply.now };
+
+    /// What the commands do to the requests.
+    ghost keeps: { KeepsRequests Self.meaning };
+
+    /// Wakers are told apart as their type does.
+    ghost same: { (v w : Self.Waker) → Self.meaning.same v w ≡ Self.Waker.eq v w };
 }
 
 /// Gives the commands to the machine, one after another.

@@ -6,11 +6,15 @@ use Rattle.esync_permits.specs.Queue.{is_front}
 use Rattle.esync_permits.specs.Fair.{Fair}
 use Rattle.esync_permits.specs.declared.queue.Entry.{Entry}
 use Rattle.esync_permits.specs.declared.semaphore.Amount.{Amount}
-use Rattle.esync_machine.specs.Rules.{IsIdle, IdleIsPending, OnlyRequests}
+use Rattle.esync_machine.specs.Rules.{IsIdle, IdleIsPending, OnlyRequests, MakesNoRequests}
+use Rattle.esync_machine.specs.declared.primitive.Answer.{Answer}
 use Rattle.esync_machine.specs.declared.primitive.Answer.TheVariants.{Pending}
 use Rattle.esync_permits_run.specs.declared.fair.FairHeld.{FairHeld}
 use Rattle.esync_permits_run.specs.declared.fair.FairHeld.TheVariants.{Waiting, Releaser}
-use Rattle.esync_permits_run.specs.Fair.{PermitQueue, Named, named, object_of, is_next, fair_rules, Enters, OwesFor, ticket_of, Differ, AreApart}
+use Rattle.esync_permits_run.specs.declared.calls.PermitCall.{PermitCall}
+use Rattle.esync_permits_run.specs.declared.calls.PermitCall.TheVariants.{Try, Disarm, Release, Set, Permits}
+use Rattle.esync_permits_run.specs.declared.fair.FairHeard.{FairHeard}
+use Rattle.esync_permits_run.specs.Fair.{PermitQueue, Named, named, object_of, is_next, fair_rules, Enters, Place, Polls, Calls, IsRequest, releaser, OwesFor, ticket_of, Differ, AreApart}
 
 pub is_next-named : {W : Type 0} (t : ℕ) (es : List (Entry W)) → is_next (Some t) (named es) ≡ is_front t es
 is_next-named t [] = refl
@@ -60,3 +64,24 @@ Differ-sym None None h = tt
 
 pub AreApart-sym : (h k : FairHeld) → AreApart h k → AreApart k h
 AreApart-sym h k a = Differ-sym (ticket_of h) (ticket_of k) a
+
+not_of_try : (got : Option ℕ) (h : FairHeld) → Some h ≡ releaser got → IsRequest h → ⊥
+not_of_try None h e live = cc
+not_of_try (Some k) h e live = (let f : h ≡ Releaser k = cc in subst (λ x. IsRequest x) f live)
+
+polled_was : (n : ℕ) (o o2 : PermitQueue) (h h2 : FairHeld) (a : Answer FairHeard) → Polls n o h a o2 (Some h2) → IsRequest h2 → IsRequest h
+polled_was n o o2 (Waiting amount t) h2 a polls live = tt
+polled_was n o o2 (Releaser k) h2 a polls live = (let e = polls.2 in let f : h2 ≡ Releaser k = cc in subst (λ x. IsRequest x) f live)
+
+called_was : (o o2 : PermitQueue) (call : PermitCall) (p : Place) (a : Answer FairHeard) (h2 : FairHeld) → Calls o call p a o2 (Some h2) → IsRequest h2 → (h : FairHeld) × (p ≡ Some h) × IsRequest h
+called_was o o2 (Try r amount) None a h2 calls live = absurd (not_of_try calls.0 h2 calls.4 live)
+called_was o o2 (Try r amount) (Some h) a h2 calls live = (h2, sym calls.2, live)
+called_was o o2 (Disarm r) None a h2 calls live = (h2, sym calls.2, live)
+called_was o o2 (Disarm r) (Some (Waiting amount t)) a h2 calls live = (h2, sym calls.2, live)
+called_was o o2 (Disarm r) (Some (Releaser k)) a h2 calls live = (let e = calls.2 in absurd cc)
+called_was o o2 (Release k) p a h2 calls live = (h2, sym calls.3, live)
+called_was o o2 (Set k) p a h2 calls live = (h2, sym calls.3, live)
+called_was o o2 Permits p a h2 calls live = (h2, sym calls.2, live)
+
+pub fair_no_requests : (n : ℕ) → MakesNoRequests (fair_rules n)
+fair_no_requests n = record { polls = polled_was n; calls = called_was }

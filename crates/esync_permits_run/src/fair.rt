@@ -238,7 +238,7 @@ impl<W: Copy + Eq, const N: usize, const K: usize> Primitive<K> for FairSide<W, 
         }
     }
 
-    ghost use Rattle.esync_permits_run.specs.FairLaws.{fair_idle, fair_pending, fair_no_such, AreApart-sym};
+    ghost use Rattle.esync_permits_run.specs.FairLaws.{fair_idle, fair_pending, fair_no_such, fair_no_requests, AreApart-sym};
 
     ghost idle = { λ m held w f h. fair_idle N W.eq m held w h };
 
@@ -247,6 +247,8 @@ impl<W: Copy + Eq, const N: usize, const K: usize> Primitive<K> for FairSide<W, 
     ghost no_such = { fair_no_such N };
 
     ghost symmetric = { AreApart-sym };
+
+    ghost no_requests = { fair_no_requests N };
 }
 
 /// A fair semaphore as a machine, with requests at the numbers below `REQS`, of which at most `N` wait.

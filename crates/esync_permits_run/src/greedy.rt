@@ -188,7 +188,7 @@ impl<W: Copy + Eq, const K: usize> Primitive<K> for GreedySide<W, K> {
         }
     }
 
-    ghost use Rattle.esync_permits_run.specs.GreedyLaws.{greedy_idle, greedy_pending, greedy_no_such};
+    ghost use Rattle.esync_permits_run.specs.GreedyLaws.{greedy_idle, greedy_pending, greedy_no_such, greedy_no_requests};
 
     ghost idle = { λ m held w f h. greedy_idle W.eq m.permits m.waiter held w h };
 
@@ -197,6 +197,8 @@ impl<W: Copy + Eq, const K: usize> Primitive<K> for GreedySide<W, K> {
     ghost no_such = { greedy_no_such };
 
     ghost symmetric = { λ h k a. tt };
+
+    ghost no_requests = { greedy_no_requests };
 }
 
 /// A greedy semaphore as a machine, with requests at the numbers below `REQS`.

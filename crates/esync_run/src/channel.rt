@@ -169,6 +169,10 @@ impl<S: Store, W: Copy + Eq, const K: usize> Primitive<K> for MailboxState<S, W,
     ghost no_such = { λ o h a o2 p n k. absurd (n tt) };
 
     ghost symmetric = { λ h k a. tt };
+
+    ghost use Rattle.esync_machine.specs.Rules.{all_requests};
+
+    ghost no_requests = { all_requests (channel_rules S.keeping) (λ h. tt) (λ o o2 call p p2 a c. c.1) };
 }
 
 /// A channel of at most `N` messages as a machine, with requests at the numbers below `REQS`.

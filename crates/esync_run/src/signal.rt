@@ -128,6 +128,10 @@ impl<T: Drop, W: Copy + Eq, const K: usize> Primitive<K> for SignalRoom<T, W, K>
     ghost no_such = { λ o h a o2 p n k. absurd (n tt) };
 
     ghost symmetric = { λ h k a. tt };
+
+    ghost use Rattle.esync_machine.specs.Rules.{all_requests};
+
+    ghost no_requests = { all_requests (signal_rules T) (λ h. tt) (λ o o2 call p p2 a c. c.1) };
 }
 
 /// A signal as a machine, with requests at the numbers below `REQS`.

@@ -125,6 +125,10 @@ impl<W: Copy + Eq, const K: usize> Primitive<K> for PostBox<W, K> {
     ghost no_such = { λ o h a o2 p n k. absurd (n tt) };
 
     ghost symmetric = { λ h k a. tt };
+
+    ghost use Rattle.esync_machine.specs.Rules.{all_requests};
+
+    ghost no_requests = { all_requests post_rules (λ h. tt) (λ o o2 call p p2 a c. c.1) };
 }
 
 /// The post box as a machine.

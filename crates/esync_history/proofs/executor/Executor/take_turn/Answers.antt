@@ -5,7 +5,7 @@ use Rattle.std.proofs.lemmas.Option.{slice_get_read}
 use Rattle.esync_history.specs.Todo.{Executing, requeued}
 use Rattle.esync_history.specs.Turns.{IsTurn, wakes_in}
 use Rattle.esync_history.proofs.Kept.{orderly_turn}
-use Rattle.esync_history.proofs.Stalling.{standing_after}
+use Rattle.esync_history.proofs.Stalling.{same_task, standing_after}
 use Rattle.esync_history.proofs.executor.Executor.take_turn.Given.{Over}
 use Rattle.esync_history.proofs.executor.Executor.take_turn.Goals as goal
 
@@ -48,7 +48,7 @@ invariant_of-self-2 g c =
     let wakers = wakes_in g.M.Machine.meaning (heard.first ∷ option_to_list heard.second) in
     record {
       orderly = orderly_turn c.self.inside.tasks.items c.deref.result.now c.self.inside.queue c.pop.new.self c.requeue.new.queue c.in-Some.number c.do_act-heard.new.task wakers heard.over c.self.invariant.orderly c.in-Some.ensures.front c.in-Some.ensures.room c.deref.ensures.value c.requeue.ensures;
-      standing = λ L. standing_after g.M.Machine.meaning L g.M.Machine.object g.M.Machine.Owes (before g c) (after g c) (turn g c) (c.self.invariant.standing L);
+      standing = standing_after g.M.Machine.meaning g.met.M.Awaits.keeps (λ v w e. same_task v w (sym (g.met.M.Awaits.same v w) ∙ e)) g.M.Machine.object g.M.Machine.Owes (before g c) (after g c) (turn g c) c.self.invariant.standing;
     }
 
 pub returns-clause-turn : goal.returns-clause-turn
