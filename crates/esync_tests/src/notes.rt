@@ -36,3 +36,10 @@ impl<R: Wait> Hand<u64> for &Notes<'_, R> {
 pub fn woken<R: Wait>(rt: &impl Abort, notes: &Notes<'_, R>, waker: Option<u64>) {
     assert_eq!(rt; notes.last.replace(None), waker);
 }
+
+/// Drops a future, if this is the point where it is to be dropped.
+pub fn drop_at<F: Drop>(future: &mut Option<F>, is_here: bool) {
+    if is_here {
+        *future = None;
+    }
+}

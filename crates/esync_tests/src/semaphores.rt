@@ -1,4 +1,4 @@
-use crate::notes::{Notes, woken};
+use crate::notes::{Notes, drop_at, woken};
 use embassy_sync::semaphore::{
     Acquire, FairSemaphore, GreedySemaphore, PermitState, Semaphore, SemaphoreReleaser,
     SharedSemaphore, WaitQueueFull,
@@ -163,6 +163,32 @@ fn a_request_that_never_waited_leaves_nothing(rt: HostRuntime) {
     first.end();
     assert_eq!(rt; semaphore.permits(), 1);
     assert!(rt; semaphore.try_acquire(1).is_some());
+}
+
+#[test]
+fn a_request_dropped_at_any_point_lets_the_next_one_have_its_turn(rt: HostRuntime) {
+    for point in 0..4 {
+        let notes = Notes::new(&rt);
+        let semaphore: FairSemaphore<u64, _, 2> = FairSemaphore::new(0, &notes);
+        let mut large = Some(semaphore.acquire(2));
+        let mut small = semaphore.acquire(1);
+        drop_at(&mut large, point == 0);
+        if let Some(large) = &mut large {
+            waits(&rt, &notes, large, 1, None);
+        }
+        drop_at(&mut large, point == 1);
+        woken(&rt, &notes, None);
+        waits(&rt, &notes, &mut small, 2, None);
+        drop_at(&mut large, point == 2);
+        woken(&rt, &notes, if point == 2 { Some(2) } else { None });
+        semaphore.release(1);
+        woken(&rt, &notes, Some(if point == 3 { 1 } else { 2 }));
+        drop_at(&mut large, point == 3);
+        woken(&rt, &notes, if point == 3 { Some(2) } else { None });
+        let releaser = is_granted(&rt, &notes, &mut small, 2, 1, None);
+        releaser.end();
+        assert_eq!(rt; semaphore.permits(), 1);
+    }
 }
 
 #[test]

@@ -1,4 +1,4 @@
-use crate::notes::{Notes, woken};
+use crate::notes::{Notes, drop_at, woken};
 use embassy_sync::blocking_mutex::CriticalSectionMutex;
 use embassy_sync::channel::{
     Channel, ChannelState, DynamicReceiveFuture, DynamicReceiver, DynamicSendFuture, DynamicSender,
@@ -185,6 +185,54 @@ fn sender_send_completes_if_capacity(rt: HostRuntime) {
     assert!(rt; send.poll(&cx) == Poll::Ready(()));
     let mut receive = channel.receive();
     assert!(rt; receive.poll(&cx) == Poll::Ready(1));
+}
+
+#[test]
+fn a_receiver_dropped_at_any_point_takes_no_message(rt: HostRuntime) {
+    let (one, two) = (Context::from_waker(1), Context::from_waker(2));
+    for (point, told) in [(0, 1), (1, 1), (2, 2), (3, 2)] {
+        let notes = Notes::new(&rt);
+        let channel: Channel<u32, u64, _, 1> = Channel::new(&notes);
+        let mut first = channel.receive();
+        let mut second = Some(channel.receive());
+        drop_at(&mut second, point == 0);
+        assert!(rt; first.poll(&one) == Poll::Pending);
+        drop_at(&mut second, point == 1);
+        if let Some(second) = &mut second {
+            assert!(rt; second.poll(&two) == Poll::Pending);
+            woken(&rt, &notes, Some(1));
+        }
+        drop_at(&mut second, point == 2);
+        woken(&rt, &notes, None);
+        assert!(rt; channel.try_send(7) == Ok(()));
+        woken(&rt, &notes, Some(told));
+        drop_at(&mut second, point == 3);
+        assert!(rt; first.poll(&one) == Poll::Ready(7));
+        woken(&rt, &notes, None);
+    }
+}
+
+#[test]
+fn a_sender_dropped_at_any_point_sends_nothing(rt: HostRuntime) {
+    let cx = Context::from_waker(1);
+    for (point, told) in [(0, None), (1, None), (2, Some(1)), (3, Some(1))] {
+        let notes = Notes::new(&rt);
+        let channel: Channel<u32, u64, _, 1> = Channel::new(&notes);
+        let mut send = Some(channel.send(8));
+        drop_at(&mut send, point == 0);
+        assert!(rt; channel.try_send(7) == Ok(()));
+        drop_at(&mut send, point == 1);
+        if let Some(send) = &mut send {
+            assert!(rt; !send.is_finished());
+            assert!(rt; send.poll(&cx) == Poll::Pending);
+        }
+        drop_at(&mut send, point == 2);
+        woken(&rt, &notes, None);
+        assert!(rt; channel.try_receive() == Ok(7));
+        woken(&rt, &notes, told);
+        drop_at(&mut send, point == 3);
+        assert!(rt; channel.is_empty());
+    }
 }
 
 #[test]
