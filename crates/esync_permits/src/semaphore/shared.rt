@@ -1,5 +1,5 @@
 //! Semaphores that tasks on several threads share by reference.
-ghost use Rattle.std.specs.Prelude.{◌≡◌, ◌<◌, ◌≤◌, length, IsSome, IfSome, IfOk, is_none};
+ghost use Rattle.std.specs.Prelude.{◌≡◌, Some, ◌<◌, ◌≤◌, length, IsSome, IfSome, IfOk, is_none};
 ghost use Rattle.esync_permits.specs.Shared.{Suits, IfReady, Leaves};
 
 use crate::semaphore::{Amount, FairRequest, FairState, GreedyRequest, GreedyState, WaitQueueFull};
@@ -174,7 +174,9 @@ impl<S: PermitState<Waker = W>, W: Copy + Eq, H: Hand<W>> SharedSemaphore<S, W, 
     }
 
     /// Takes this number of permits, when they are granted.
-    pub fn acquire(&self, permits: usize) -> Acquire<'_, S, W, H> {
+    pub fn acquire(&self, permits: usize) -> Acquire<'_, S, W, H>
+        ensures { S.wanted result.request ≡ Some (Amount.Exactly permits) }
+    {
         Acquire {
             semaphore: self,
             request: S::request(Amount::Exactly(permits)),
@@ -189,7 +191,9 @@ impl<S: PermitState<Waker = W>, W: Copy + Eq, H: Hand<W>> SharedSemaphore<S, W, 
     }
 
     /// Takes all permits, when at least `min` are granted.
-    pub fn acquire_all(&self, min: usize) -> Acquire<'_, S, W, H> {
+    pub fn acquire_all(&self, min: usize) -> Acquire<'_, S, W, H>
+        ensures { S.wanted result.request ≡ Some (Amount.AllFrom min) }
+    {
         Acquire {
             semaphore: self,
             request: S::request(Amount::AllFrom(min)),
