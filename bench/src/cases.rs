@@ -1,5 +1,6 @@
 //! What is timed: in each case both sides take the same passes.
 use embassy_sync::blocking_mutex::raw::NoopRawMutex;
+use embassy_sync::semaphore::{FairSemaphore, GreedySemaphore};
 
 use crate::host_mutex::HostMutex;
 use crate::{ours, upstream, Pass};
@@ -33,7 +34,7 @@ const fn shared(name: &'static str, case: &'static str, upstream: Pass) -> Case 
     }
 }
 
-pub const CASES: [Case; 15] = [
+pub const CASES: [Case; 25] = [
     state(
         "channel_ping_pong_4",
         ours::ping_pong_4,
@@ -80,19 +81,69 @@ pub const CASES: [Case; 15] = [
         upstream::wait_and_wake::<NoopRawMutex>,
     ),
     state(
+        "priority_fill_drain_4",
+        ours::priority_fill_drain_4,
+        upstream::priority_fill_drain::<NoopRawMutex, 4>,
+    ),
+    state(
         "priority_fill_drain_64",
         ours::priority_fill_drain_64,
-        upstream::priority_fill_drain::<NoopRawMutex>,
+        upstream::priority_fill_drain::<NoopRawMutex, 64>,
+    ),
+    state(
+        "priority_fill_drain_1024",
+        ours::priority_fill_drain_1024,
+        upstream::priority_fill_drain::<NoopRawMutex, 1024>,
+    ),
+    state(
+        "priority_steady_4",
+        ours::priority_steady_4,
+        upstream::priority_steady::<NoopRawMutex, 4>,
     ),
     state(
         "priority_steady_64",
         ours::priority_steady_64,
-        upstream::priority_steady::<NoopRawMutex>,
+        upstream::priority_steady::<NoopRawMutex, 64>,
+    ),
+    state(
+        "priority_steady_1024",
+        ours::priority_steady_1024,
+        upstream::priority_steady::<NoopRawMutex, 1024>,
     ),
     state(
         "signal_take",
         ours::signal_take,
         upstream::signal_take::<NoopRawMutex>,
+    ),
+    state(
+        "greedy_acquire",
+        ours::greedy_acquire,
+        upstream::permits_acquire::<GreedySemaphore<NoopRawMutex>>,
+    ),
+    state(
+        "greedy_try_acquire",
+        ours::greedy_try_acquire,
+        upstream::permits_try_acquire::<GreedySemaphore<NoopRawMutex>>,
+    ),
+    state(
+        "greedy_wait_and_wake",
+        ours::greedy_wait_and_wake,
+        upstream::permits_wait_and_wake::<GreedySemaphore<NoopRawMutex>>,
+    ),
+    state(
+        "fair_acquire",
+        ours::fair_acquire,
+        upstream::permits_acquire::<FairSemaphore<NoopRawMutex, 4>>,
+    ),
+    state(
+        "fair_try_acquire",
+        ours::fair_try_acquire,
+        upstream::permits_try_acquire::<FairSemaphore<NoopRawMutex, 4>>,
+    ),
+    state(
+        "fair_wait_and_wake",
+        ours::fair_wait_and_wake,
+        upstream::permits_wait_and_wake::<FairSemaphore<NoopRawMutex, 4>>,
     ),
     shared(
         "shared_ping_pong_4",

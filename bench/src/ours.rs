@@ -30,9 +30,19 @@ exports! {
     fill_drain_1024 = esync_bench_channel_fill_drain_1024;
     fill_drain_4096 = esync_bench_channel_fill_drain_4096;
     wait_and_wake = esync_bench_channel_wait_and_wake;
+    priority_fill_drain_4 = esync_bench_priority_fill_drain_4;
     priority_fill_drain_64 = esync_bench_priority_fill_drain_64;
+    priority_fill_drain_1024 = esync_bench_priority_fill_drain_1024;
+    priority_steady_4 = esync_bench_priority_steady_4;
     priority_steady_64 = esync_bench_priority_steady_64;
+    priority_steady_1024 = esync_bench_priority_steady_1024;
     signal_take = esync_bench_signal_take;
+    greedy_acquire = esync_bench_greedy_acquire;
+    greedy_try_acquire = esync_bench_greedy_try_acquire;
+    greedy_wait_and_wake = esync_bench_greedy_wait_and_wake;
+    fair_acquire = esync_bench_fair_acquire;
+    fair_try_acquire = esync_bench_fair_try_acquire;
+    fair_wait_and_wake = esync_bench_fair_wait_and_wake;
 }
 
 fn pass(export: Export, messages: &[u32]) -> Answer {

@@ -8,6 +8,7 @@ use std::task::{Context, Poll, RawWaker, RawWakerVTable, Waker};
 use embassy_sync::blocking_mutex::raw::RawMutex;
 use embassy_sync::channel::Channel;
 use embassy_sync::priority_channel::{Max, PriorityChannel};
+use embassy_sync::semaphore::{FairSemaphore, GreedySemaphore, Semaphore, SemaphoreReleaser};
 use embassy_sync::signal::Signal;
 
 use crate::Answer;
@@ -136,13 +137,13 @@ pub fn wait_and_wake<M: RawMutex>(messages: &[u32]) -> Answer {
 }
 
 #[inline(never)]
-fn priority_fill_and_drain_through<M: RawMutex>(
-    channel: &PriorityChannel<M, u32, Max, 64>,
+fn priority_fill_and_drain_through<M: RawMutex, const N: usize>(
+    channel: &PriorityChannel<M, u32, Max, N>,
     messages: &[u32],
     turn: &Turn,
 ) -> u64 {
     let mut total = 0u64;
-    for chunk in messages.chunks(64) {
+    for chunk in messages.chunks(N) {
         for message in chunk {
             let _ = channel.try_send(*message);
             turn.next();
@@ -155,10 +156,10 @@ fn priority_fill_and_drain_through<M: RawMutex>(
     total
 }
 
-pub fn priority_fill_drain<M: RawMutex>(messages: &[u32]) -> Answer {
+pub fn priority_fill_drain<M: RawMutex, const N: usize>(messages: &[u32]) -> Answer {
     answer(
         priority_fill_and_drain_through(
-            &PriorityChannel::<M, u32, Max, 64>::new(),
+            &PriorityChannel::<M, u32, Max, N>::new(),
             messages,
             &Turn::new(),
         ),
@@ -167,13 +168,13 @@ pub fn priority_fill_drain<M: RawMutex>(messages: &[u32]) -> Answer {
 }
 
 #[inline(never)]
-fn priority_steady_through<M: RawMutex>(
-    channel: &PriorityChannel<M, u32, Max, 64>,
+fn priority_steady_through<M: RawMutex, const N: usize>(
+    channel: &PriorityChannel<M, u32, Max, N>,
     messages: &[u32],
     turn: &Turn,
 ) -> u64 {
     let mut total = 0u64;
-    let (first, rest) = messages.split_at(messages.len().min(32));
+    let (first, rest) = messages.split_at(messages.len().min(N / 2));
     for message in first {
         let _ = channel.try_send(*message);
         turn.next();
@@ -191,10 +192,10 @@ fn priority_steady_through<M: RawMutex>(
     total
 }
 
-pub fn priority_steady<M: RawMutex>(messages: &[u32]) -> Answer {
+pub fn priority_steady<M: RawMutex, const N: usize>(messages: &[u32]) -> Answer {
     answer(
         priority_steady_through(
-            &PriorityChannel::<M, u32, Max, 64>::new(),
+            &PriorityChannel::<M, u32, Max, N>::new(),
             messages,
             &Turn::new(),
         ),
@@ -219,4 +220,112 @@ pub fn signal_take<M: RawMutex>(messages: &[u32]) -> Answer {
         signal_take_through(&Signal::<M, u32>::new(), messages, &Turn::new()),
         0,
     )
+}
+
+/// Either semaphore, with this number of permits.
+pub trait Permits: Semaphore {
+    fn with(permits: usize) -> Self;
+}
+
+impl<M: RawMutex> Permits for GreedySemaphore<M> {
+    fn with(permits: usize) -> Self {
+        GreedySemaphore::new(permits)
+    }
+}
+
+impl<M: RawMutex, const N: usize> Permits for FairSemaphore<M, N> {
+    fn with(permits: usize) -> Self {
+        FairSemaphore::new(permits)
+    }
+}
+
+/// What a poll took: no releaser gives it back by itself, since our side gives back in a call of its own.
+fn taken<S: Semaphore>(poll: Poll<Result<SemaphoreReleaser<'_, S>, S::Error>>) -> u64 {
+    match poll {
+        Poll::Ready(Ok(permits)) => permits.disarm() as u64,
+        _ => 0,
+    }
+}
+
+#[inline(never)]
+fn acquire_and_release_through<S: Semaphore>(
+    semaphore: &S,
+    messages: &[u32],
+    cx: &mut Context<'_>,
+    turn: &Turn,
+) -> u64 {
+    let mut total = 0u64;
+    for message in messages {
+        let acquiring = pin!(semaphore.acquire(*message as usize));
+        total = total.wrapping_add(taken(acquiring.poll(cx)));
+        turn.next();
+        semaphore.release(*message as usize);
+        turn.next();
+    }
+    total
+}
+
+pub fn permits_acquire<S: Permits>(messages: &[u32]) -> Answer {
+    let count = Cell::new(0);
+    let waker = counted(&count);
+    let total = acquire_and_release_through(
+        &S::with(u32::MAX as usize),
+        messages,
+        &mut Context::from_waker(&waker),
+        &Turn::new(),
+    );
+    answer(total, count.get())
+}
+
+#[inline(never)]
+fn take_and_release_through<S: Semaphore>(semaphore: &S, messages: &[u32], turn: &Turn) -> u64 {
+    let mut total = 0u64;
+    for message in messages {
+        if let Some(permits) = semaphore.try_acquire(*message as usize) {
+            total = total.wrapping_add(permits.disarm() as u64);
+        }
+        turn.next();
+        semaphore.release(*message as usize);
+        turn.next();
+    }
+    total
+}
+
+pub fn permits_try_acquire<S: Permits>(messages: &[u32]) -> Answer {
+    answer(
+        take_and_release_through(&S::with(u32::MAX as usize), messages, &Turn::new()),
+        0,
+    )
+}
+
+#[inline(never)]
+fn permits_wait_and_wake_through<S: Semaphore>(
+    semaphore: &S,
+    messages: &[u32],
+    cx: &mut Context<'_>,
+    turn: &Turn,
+) -> u64 {
+    let mut total = 0u64;
+    for message in messages {
+        let mut acquiring = pin!(semaphore.acquire(*message as usize));
+        total = total.wrapping_add(taken(acquiring.as_mut().poll(cx)));
+        turn.next();
+        semaphore.release(*message as usize);
+        turn.next();
+        total = total.wrapping_add(taken(acquiring.as_mut().poll(cx)));
+        turn.next();
+    }
+    total
+}
+
+pub fn permits_wait_and_wake<S: Permits>(messages: &[u32]) -> Answer {
+    let count = Cell::new(0);
+    let waker = counted(&count);
+    let total = permits_wait_and_wake_through(
+        &S::with(0),
+        messages,
+        &mut Context::from_waker(&waker),
+        &Turn::new(),
+    );
+    answer(total, count.get())
 }

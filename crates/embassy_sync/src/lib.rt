@@ -1,11 +1,13 @@
 //! Synchronization primitives for tasks that are polled, under upstream's paths.
 //!
-//! Each module is that of a crate below. `run` has the primitives as machines that take commands.
+//! Each module is that of a crate below. `run` has the primitives as machines that take commands, and `executor` runs tasks over
+//! any such machine.
 #![tactic(auto)]
 
-pub use esync_base::{blocking_mutex, waitqueue};
+pub use esync_base::{blocking_mutex, deque, shared, store, waitqueue};
 pub use esync_cells::signal;
 pub use esync_channel::channel;
+pub use esync_history::executor;
 pub use esync_permits::semaphore;
-pub use esync_priority::priority_channel;
+pub use esync_priority::{prio, priority_channel};
 pub use esync_run as run;

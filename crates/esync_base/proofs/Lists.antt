@@ -1,8 +1,8 @@
 -- Rows of optional items.
-use Rattle.std.proofs.Common.{◌≡◌, ℕ, zero, suc, ◌+◌, ◌-◌, ◌<◌, List, [], ◌∷◌, ◌++◌, length, Some, None, Option, refl, sym, ◌∙◌, ap, get_or, set, drop, arith}
-use Rattle.std.specs.Prelude.{map, slice_get, IfNone}
+use Rattle.std.proofs.Common.{◌≡◌, ℕ, zero, suc, ◌+◌, ◌-◌, ◌<◌, List, [], ◌∷◌, ◌++◌, length, Some, None, Option, refl, sym, ◌∙◌, ap, get_or, set, arith}
+use Rattle.std.specs.Prelude.{map, slice_get}
 use Rattle.std.proofs.Math.ListN.{replicate}
-use Rattle.std.proofs.lemmas.List.{length_push, map-append}
+use Rattle.std.proofs.lemmas.List.{length_push}
 use Rattle.esync_base.specs.Rows.{items_of, row_of, IsRow}
 
 pub items_of-replicate : {A : Type 0} (n : ℕ) → items_of (replicate {A = Option A} n None) ≡ []
@@ -13,10 +13,6 @@ pub items_of-row : {A : Type 0} (xs : List A) (n : ℕ) → items_of (map Some x
 items_of-row [] n = items_of-replicate n
 items_of-row (x ∷ xs) n = ap (λ ys. x ∷ ys) (items_of-row xs n)
 
-pub items_of-map : {A : Type 0} (xs : List A) → items_of (map Some xs) ≡ xs
-items_of-map [] = refl
-items_of-map (x ∷ xs) = ap (λ ys. x ∷ ys) (items_of-map xs)
-
 pub set-row : {A : Type 0} (xs : List A) (n : ℕ) (w : A) → set (map Some xs ++ replicate (suc n) None) (length xs) (Some w) ≡ map Some (xs ++ w ∷ []) ++ replicate n None
 set-row [] n w = refl
 set-row (x ∷ xs) n w = ap (λ ys. Some x ∷ ys) (set-row xs n w)
@@ -25,11 +21,6 @@ pub get-row : {A : Type 0} (xs : List A) (row : List (Option A)) (i : ℕ) (d : 
 get-row [] row i d h = absurd (omega arith)
 get-row (x ∷ xs) row zero d h = refl
 get-row (x ∷ xs) row (suc i) d h = get-row xs row i d (omega arith)
-
-pub items_of-append : {A : Type 0} (xs ys : List (Option A)) → items_of (xs ++ ys) ≡ items_of xs ++ items_of ys
-items_of-append [] ys = refl
-items_of-append (Some x ∷ xs) ys = ap (λ zs. x ∷ zs) (items_of-append xs ys)
-items_of-append (None ∷ xs) ys = items_of-append xs ys
 
 pub row_new : {A : Type 0} (n : ℕ) → IsRow {A = A} n (replicate n None) 0
 row_new n = record {
@@ -58,25 +49,3 @@ row_push n row len w r h =
       count = rw (e, length_push) (omega (arith, r.count));
       fits = rw (e, length_push) (omega (arith, r.count));
     }
-
-pub pushed_items : {A : Type 0} (row : List (Option A)) (x : A) → row ≡ map Some (items_of row) → row ++ Some x ∷ [] ≡ map Some (items_of (row ++ Some x ∷ []))
-pushed_items row x h =
-    ap (λ (r : List (Option _)). r ++ Some x ∷ []) h
-    ∙ sym (map-append Some (items_of row) (x ∷ []))
-    ∙ sym (ap (map Some) (items_of-append row (Some x ∷ [])))
-
-no_none : {A : Type 0} (row : List (Option A)) (xs : List A) → None ∷ row ≡ map Some xs → ⊥
-no_none row [] h = cc
-no_none row (x ∷ xs) h = cc
-
-pub dropped_items : {A : Type 0} (row : List (Option A)) → row ≡ map Some (items_of row) → drop 1 row ≡ map Some (items_of (drop 1 row))
-dropped_items [] h = refl
-dropped_items (Some x ∷ row) h = cc
-dropped_items (None ∷ row) h = absurd (no_none row (items_of row) h)
-
--- the item that is taken from the front of a row of items
-pub taken_none : {A : Type 0} (row : List (Option A)) (r : Option A) (P : Type 0) → row ≡ map Some (items_of row) → 0 < length row → r ≡ get_or row 0 r → IfNone r P
-taken_none [] r P h l e = absurd (omega arith)
-taken_none (None ∷ row) r P h l e = absurd (no_none row (items_of row) h)
-taken_none (Some x ∷ row) None P h l e = absurd cc
-taken_none (Some x ∷ row) (Some y) P h l e = tt

@@ -1,4 +1,9 @@
 pub mod Rows
+pub mod Listed
+pub mod ListedLaws
 pub mod Registration
+pub mod RegistrationLaws
 pub mod Keeping
 pub mod Room
+pub mod Ring
+pub mod Places

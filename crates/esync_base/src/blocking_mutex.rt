@@ -13,6 +13,7 @@ pub struct CriticalSectionMutex<T> {
 }
 
 impl<T> CriticalSectionMutex<T> {
+    /// The value under a lock that nobody has.
     pub fn new(data: T) -> Self {
         CriticalSectionMutex {
             data: Mutex::new(data),
@@ -28,7 +29,7 @@ impl<T> CriticalSectionMutex<T> {
         f(&*guard)
     }
 
-    /// The same with a value that the closure may change.
+    /// Takes the lock, lends the value to the closure, which may change it, and releases the lock.
     pub fn lock_mut<U, F: FnOnce(&mut T) -> U>(&self, rt: &impl Wait, f: F) -> U
         requires { F.IsAlwaysCallable f }
         ensures { (before : _) × (after : _) × F.post f before result after }

@@ -1,90 +1,261 @@
 //! A queue of fixed capacity that takes no memory.
-ghost use Rattle.std.specs.Prelude.{◌≡◌, ℕ, ◌<◌, ◌≤◌, ◌++◌, [], ◌∷◌, length, ◌↔◌, IsTrue, OnOk, OnErr, OnSome, IfSome, IfErr, IfNone};
+ghost use Rattle.std.specs.Prelude.{◌≡◌, ℕ, suc, ◌-◌, ◌<◌, ◌≤◌, ◌++◌, [], ◌∷◌, length, slice_get, slice_set, slice_index_or, option_copied, Some, None, ◌↔◌, IsTrue, OnOk, OnErr, OnSome, IfSome, IfErr, IfNone};
+ghost use Rattle.std.specs.List.{remove};
+ghost use Rattle.std.proofs.Math.ListN.{replicate};
+ghost use Rattle.esync_base.specs.Ring.{next, slot};
+ghost use Rattle.esync_base.specs.Places.{closed};
 
 use crate::store::Store;
-use arrayvec::ArrayVec;
 use std::marker::Model;
 
-/// At most `N` items, oldest first.
-#[derive(Drop)]
+// The place behind place i.
+#[tactic(auto, using(std::proofs::lemmas::Bool::Decides::nat_tests))]
+fn behind<const N: usize>(i: usize) -> usize
+    requires { i ≤ N - 1 }
+    ensures { result ≡ next N i }
+{
+    if i + 1 < N { i + 1 } else { 0 }
+}
+
+// N places.
+#[derive(Debug, Drop)]
+struct Row<T, const N: usize> {
+    places: [Option<T>; N],
+}
+
+impl<T: Drop, const N: usize> Row<T, N> {
+    fn new() -> Self
+        ensures { result.places ≡ replicate N None }
+    {
+        Row {
+            places: [const { None }; N],
+        }
+    }
+
+    fn get(&self, i: usize) -> &Option<T>
+        requires { i < N }
+        ensures { result.now ≡ slice_index_or self.now.places i result.now }
+    {
+        &self.places[i]
+    }
+
+    fn put(&mut self, i: usize, item: T)
+        requires { i < N }
+        ensures { self.new.places ≡ slice_set self.old.places i (Some item) }
+    {
+        self.places[i] = Some(item);
+    }
+
+    fn take(&mut self, i: usize) -> Option<T>
+        requires { i < N }
+        ensures places { self.new.places ≡ slice_set self.old.places i None }
+        ensures item { result ≡ slice_index_or self.old.places i result }
+    {
+        self.places[i].take()
+    }
+
+    fn replace(&mut self, i: usize, item: T) -> Option<T>
+        requires { i < N }
+        ensures places { self.new.places ≡ slice_set self.old.places i (Some item) }
+        ensures item { result ≡ slice_index_or self.old.places i result }
+    {
+        self.places[i].replace(item)
+    }
+
+    // Moves the items behind an empty place one place towards it, and says which place is empty then.
+    fn close(&mut self, gap: usize, count: usize) -> usize
+        requires below { gap < N }
+        requires places { length self.old.places ≡ N }
+        ensures places { self.new.places ≡ closed N self.old.places gap count }
+        ensures gap { result ≡ slot N gap count }
+    {
+        let mut gap = gap;
+        for _moved in 0..count {
+            let next = behind::<N>(gap);
+            let item = self.take(next);
+            self.places[gap] = item;
+            gap = next;
+        }
+        gap
+    }
+}
+
+/// At most `N` items, oldest first, in a ring of `N` places.
+#[derive(Debug, Drop)]
 pub struct Deque<T, const N: usize> {
-    items: ArrayVec<Option<T>, N>,
+    row: Row<T, N>,
+    start: usize,
+    end: usize,
+    full: bool,
 }
 
 impl<T, const N: usize> Model for Deque<T, N> {
-    ghost use Rattle.std.specs.Prelude.{◌≡◌, List, Some, map};
-    ghost use Rattle.std.specs.Coded.{coded_list};
-    ghost use Rattle.esync_base.specs.Rows.{items_of};
+    ghost use Rattle.esync_base.specs.Ring.{Ringed, ringed_code};
+    ghost use Rattle.esync_base.specs.Places.{items_from, IsRing};
 
-    ghost Value = { List T };
+    ghost Value = { Ringed T };
 
-    ghost coded = { coded_list T.code };
+    ghost coded = { ringed_code T.code };
 
-    ghost view = { λ a. items_of a.items.items };
+    ghost view = { λ a. record { items = items_from a.start a.row.places; front = a.start } };
 
-    ghost invariant = { λ a. a.items.items ≡ map Some (items_of a.items.items) };
+    ghost invariant = { λ a. IsRing N a.row.places a.start a.end a.full };
 }
 
 impl<T: Drop, const N: usize> Deque<T, N> {
+    /// An empty ring.
     pub fn new() -> Self
-        ensures { result ≡ [] }
+        ensures items { result.items ≡ [] }
+        ensures front { result.front ≡ 0 }
     {
         Deque {
-            items: ArrayVec::new(),
+            row: Row::new(),
+            start: 0,
+            end: 0,
+            full: false,
         }
     }
 
+    /// How many items are held.
     pub fn len(&self) -> usize
-        ensures value { result ≡ length self.now }
+        ensures value { result ≡ length self.now.items }
         ensures within { result ≤ N }
     {
-        self.items.len()
+        if self.full {
+            N
+        } else if self.end < self.start {
+            self.end + (N - self.start)
+        } else {
+            self.end - self.start
+        }
     }
 
+    /// No item is held.
     pub fn is_empty(&self) -> bool
-        ensures { IsTrue result ↔ (self.now ≡ []) }
+        ensures { IsTrue result ↔ (self.now.items ≡ []) }
     {
-        self.items.is_empty()
+        self.start == self.end && !self.full
     }
 
+    /// As many items are held as there is room for.
     pub fn is_full(&self) -> bool
-        ensures { IsTrue result ↔ (length self.now ≡ N) }
+        ensures { IsTrue result ↔ (length self.now.items ≡ N) }
     {
-        self.items.is_full()
+        self.full || N == 0
     }
 
-    /// Puts an item behind the others. At a full queue it comes back.
+    /// Puts an item behind the others. At a full ring it comes back.
     pub fn push_back(&mut self, item: T) -> Result<(), T>
-        ensures room { OnOk result (length self.old < N) }
-        ensures ok { OnOk result (self.new ≡ self.old ++ item ∷ []) }
-        ensures full { OnErr result (length self.old ≡ N) }
-        ensures err { OnErr result (self.new ≡ self.old) }
+        ensures room { OnOk result (length self.old.items < N) }
+        ensures ok { OnOk result (self.new.items ≡ self.old.items ++ item ∷ []) }
+        ensures front { self.new.front ≡ self.old.front }
+        ensures full { OnErr result (length self.old.items ≡ N) }
+        ensures err { OnErr result (self.new.items ≡ self.old.items) }
         ensures returned { IfErr result (λ back. back ≡ item) }
     {
-        if self.items.is_full() {
+        if self.is_full() {
             return Err(item);
         }
-        self.items.push(Some(item));
+        self.row.put(self.end, item);
+        self.end = behind::<N>(self.end);
+        self.full = self.end == self.start;
         Ok(())
     }
 
     /// Takes the oldest item.
     pub fn pop_front(&mut self) -> Option<T>
-        ensures item { IfSome result (λ item. self.old ≡ item ∷ self.new) }
-        ensures empty { IfNone result (self.old ≡ []) }
-        ensures none { IfNone result (self.new ≡ []) }
+        ensures item { IfSome result (λ item. self.old.items ≡ item ∷ self.new.items) }
+        ensures front { OnSome result (self.new.front ≡ next N self.old.front) }
+        ensures places { OnSome result ((i : ℕ) → slot N self.new.front i ≡ slot N self.old.front (suc i)) }
+        ensures empty { IfNone result (self.old.items ≡ []) }
+        ensures none { IfNone result (self.new ≡ self.old) }
     {
-        if self.items.is_empty() {
+        if self.is_empty() {
+            return None;
+        }
+        let item = self.row.take(self.start);
+        self.start = behind::<N>(self.start);
+        self.full = false;
+        item
+    }
+
+    /// The oldest item.
+    pub fn front(&self) -> Option<&T>
+        ensures { option_copied result ≡ slice_get self.now.items 0 }
+    {
+        if self.is_empty() {
             None
         } else {
-            self.items.remove(0)
+            Some(self.get(0))
         }
     }
 
-    pub fn clear(&mut self)
-        ensures { self.new ≡ [] }
+    /// Item `i`, counted from the front.
+    pub fn get(&self, i: usize) -> &T
+        requires { i < length self.now.items }
+        ensures { Some result.now ≡ slice_get self.now.items i }
     {
-        self.items.clear();
+        let Some(item) = self.row.get(self.slot_of(i)) else {
+            unreachable!()
+        };
+        item
+    }
+
+    /// Puts an item in the place of item `i`, and gives that one back.
+    pub fn replace(&mut self, i: usize, item: T) -> T
+        requires { i < length self.old.items }
+        ensures items { self.new.items ≡ slice_set self.old.items i item }
+        ensures front { self.new.front ≡ self.old.front }
+        ensures replaced { Some result ≡ slice_get self.old.items i }
+    {
+        let place = self.slot_of(i);
+        let Some(replaced) = self.row.replace(place, item) else {
+            unreachable!()
+        };
+        replaced
+    }
+
+    /// Takes item `i` out, counted from the front. The items behind it move one place towards the front.
+    pub fn remove(&mut self, i: usize) -> T
+        requires { i < length self.old.items }
+        ensures items { self.new.items ≡ remove self.old.items i }
+        ensures front { self.new.front ≡ self.old.front }
+        ensures removed { Some result ≡ slice_get self.old.items i }
+    {
+        let gap = self.slot_of(i);
+        let count = self.len() - 1 - i;
+        let Some(removed) = self.row.take(gap) else {
+            unreachable!()
+        };
+        self.end = self.row.close(gap, count);
+        self.full = false;
+        removed
+    }
+
+    /// The place of item `i`, counted from the front.
+    pub fn slot_of(&self, i: usize) -> usize
+        requires { i < length self.now.items }
+        ensures place { result ≡ slot N self.now.front i }
+        ensures below { result < N }
+    {
+        let before_end = N - self.start;
+        if i < before_end {
+            self.start + i
+        } else {
+            i - before_end
+        }
+    }
+
+    /// Drops all items.
+    pub fn clear(&mut self)
+        ensures items { self.new.items ≡ [] }
+        ensures front { self.new.front ≡ 0 }
+    {
+        for _item in 0..self.len() {
+            self.pop_front();
+        }
+        self.start = 0;
+        self.end = 0;
     }
 }
 
@@ -95,7 +266,7 @@ impl<T: Drop, const N: usize> Store for Deque<T, N> {
 
     ghost keeping = { BoundedList T N };
 
-    ghost held = { λ s. s };
+    ghost held = { λ s. s.items };
 
     fn new() -> Self {
         Deque::new()
@@ -105,16 +276,16 @@ impl<T: Drop, const N: usize> Store for Deque<T, N> {
         Deque::len(self)
     }
 
-    fn capacity(&self) -> usize {
+    fn capacity() -> usize {
         N
     }
 
     fn put(&mut self, message: T) -> Result<(), T> {
-        self.push_back(message)
+        Deque::push_back(self, message)
     }
 
     fn take(&mut self) -> Option<T> {
-        self.pop_front()
+        Deque::pop_front(self)
     }
 
     fn clear(&mut self) {

@@ -15,6 +15,7 @@ pub struct Shared<V, W, H> {
 }
 
 impl<V, W: Copy, H: Hand<W>> Shared<V, W, H> {
+    /// The state under a lock that nobody has, and the hand that gets its wakers.
     pub fn new(state: V, hand: H) -> Self {
         Shared {
             state: CriticalSectionMutex::new(state),
@@ -47,12 +48,16 @@ impl<V, W: Copy, H: Hand<W>> Shared<V, W, H> {
 }
 
 /// A step of a shared state: takes the lock, makes the call, releases the lock, and then gives the wakers that the call handed
-/// out to the hand.
+/// out to the hand. The list of wakes has room for one, or for the number that stands behind the shared state, which is below
+/// 65536.
 #[macro_export]
 macro_rules! step {
-    ($shared:expr, |$state:ident, $wakes:ident| $call:expr) => {{
+    ($shared:expr, |$state:ident, $wakes:ident| $call:expr) => {
+        $crate::step!($shared, 1, |$state, $wakes| $call)
+    };
+    ($shared:expr, $room:tt, |$state:ident, $wakes:ident| $call:expr) => {{
         let mut $state = $shared.guard();
-        let mut $wakes = $crate::waitqueue::Wakes::<_, 1>::new();
+        let mut $wakes = $crate::waitqueue::Wakes::<_, $room>::new();
         let answer = $call;
         drop($state);
         $shared.wake(&$wakes);

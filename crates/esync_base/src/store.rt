@@ -16,12 +16,13 @@ pub trait Store: Drop {
     fn new() -> Self
         ensures { held result ≡ [] };
 
+    /// How many messages it holds.
     fn len(&self) -> usize
         ensures value { result ≡ length (held self.now) }
         ensures within { result ≤ keeping.capacity };
 
     /// How many messages it can hold.
-    fn capacity(&self) -> usize
+    fn capacity() -> usize
         ensures { result ≡ keeping.capacity };
 
     /// Puts a message in. Where there is no room it comes back.
@@ -38,6 +39,7 @@ pub trait Store: Drop {
         ensures empty { IfNone result (held self.old ≡ []) }
         ensures none { IfNone result (held self.new ≡ []) };
 
+    /// Drops all messages.
     fn clear(&mut self)
         ensures { held self.new ≡ [] };
 }

@@ -16,7 +16,7 @@ pub enum Poll<T> {
 }
 
 /// What a poll is given: the waker of the task that polls.
-#[derive(Debug)]
+#[derive(Clone, Copy, Debug)]
 pub struct Context<W> {
     waker: W,
 }
@@ -29,27 +29,15 @@ impl<W> Model for Context<W> {
     ghost inverse = { λ w. record { waker = w } };
 }
 
-impl<W: Copy> Clone for Context<W> {
-    ghost use Rattle.std.specs.Prelude.{◌≡◌};
-
-    ghost is_clone = { λ s r. r ≡ s };
-
-    ghost is_infallible = { λ _. Unit {0} };
-
-    fn clone(&self) -> Result<Self, AllocError> {
-        Ok(*self)
-    }
-}
-
-impl<W: Copy> Copy for Context<W> {}
-
 impl<W: Copy> Context<W> {
+    /// A context of the task of this waker.
     pub fn from_waker(waker: W) -> Self
         ensures { result ≡ waker }
     {
         Context { waker }
     }
 
+    /// The waker of the task that polls.
     pub fn waker(&self) -> W
         ensures { result ≡ self.now }
     {
@@ -150,6 +138,7 @@ impl<W: Copy, const K: usize> Wakes<W, K> {
         }
     }
 
+    /// How many wakers are in the list.
     pub fn len(&self) -> usize
         ensures value { result ≡ length self.now }
         ensures within { result ≤ K }
@@ -157,6 +146,7 @@ impl<W: Copy, const K: usize> Wakes<W, K> {
         self.len
     }
 
+    /// No waker is in the list.
     pub fn is_empty(&self) -> bool
         ensures { IsTrue result ↔ (self.now ≡ []) }
     {
@@ -170,6 +160,7 @@ impl<W: Copy, const K: usize> Wakes<W, K> {
         &self.row.places
     }
 
+    /// The waker behind the first `i` ones, if there is one.
     pub fn get(&self, i: usize) -> Option<W>
         ensures { result ≡ slice_get self.now i }
     {
@@ -181,6 +172,8 @@ impl<W: Copy, const K: usize> Wakes<W, K> {
         requires { length self.old < K }
         ensures { self.new ≡ self.old ++ waker ∷ [] }
     {
+        let has_room = self.len < K;
+        prove!(has_room);
         self.row.put(self.len, waker);
         self.len += 1;
     }
@@ -202,7 +195,9 @@ impl<W> Model for WakerRegistration<W> {
 }
 
 impl<W> Default for WakerRegistration<W> {
-    fn default() -> Self {
+    fn default() -> Self
+        ensures { result ≡ [] }
+    {
         WakerRegistration { waker: None }
     }
 }

@@ -8,9 +8,9 @@ use esync_channel::channel::ChannelState;
 type State<const N: usize> = ChannelState<u32, TaskId, N>;
 
 fn send<const N: usize>(state: &mut State<N>, message: u32, woken: &mut [u64], turn: &Turn)
-    requires { length state.old.store < N }
-    ensures held { length state.new.store ≡ length state.old.store + 1 }
-    ensures total { sum state.new.store ≡ sum state.old.store + message }
+    requires { length state.old.store.items < N }
+    ensures held { length state.new.store.items ≡ length state.old.store.items + 1 }
+    ensures total { sum state.new.store.items ≡ sum state.old.store.items + message }
 {
     let mut wakes = Wakes::new();
     let _ = state.try_send(message, &mut wakes);
@@ -20,8 +20,8 @@ fn send<const N: usize>(state: &mut State<N>, message: u32, woken: &mut [u64], t
 
 // The message that is first, or 0 where there is none.
 fn receive<const N: usize>(state: &mut State<N>, woken: &mut [u64], turn: &Turn) -> u32
-    ensures held { length state.new.store ≡ length state.old.store - 1 }
-    ensures total { sum state.old.store ≡ result + sum state.new.store }
+    ensures held { length state.new.store.items ≡ length state.old.store.items - 1 }
+    ensures total { sum state.old.store.items ≡ result + sum state.new.store.items }
 {
     let mut wakes = Wakes::new();
     let message = match state.try_receive(&mut wakes) {
@@ -33,15 +33,15 @@ fn receive<const N: usize>(state: &mut State<N>, woken: &mut [u64], turn: &Turn)
     message
 }
 
-// The same of a task that waits where there is none.
+// The message that is first, for a task that waits for one, or 0 where there is none.
 fn poll<const N: usize>(
     state: &mut State<N>,
     cx: &Context<TaskId>,
     woken: &mut [u64],
     turn: &Turn,
 ) -> u32
-    ensures held { length state.new.store ≡ length state.old.store - 1 }
-    ensures total { sum state.old.store ≡ result + sum state.new.store }
+    ensures held { length state.new.store.items ≡ length state.old.store.items - 1 }
+    ensures total { sum state.old.store.items ≡ result + sum state.new.store.items }
 {
     let mut wakes = Wakes::new();
     let message = match state.poll_receive(cx, &mut wakes) {
@@ -62,7 +62,7 @@ fn ping_pong<const N: usize>(
     turn: &Turn,
 ) -> u64
     requires room { 0 < N }
-    requires empty { length state.old.store ≡ 0 }
+    requires empty { length state.old.store.items ≡ 0 }
     requires fits { sum messages.now < 2 ^ 64 }
     ensures { result ≡ sum messages.now }
 {
@@ -76,9 +76,9 @@ fn ping_pong<const N: usize>(
 
 // All messages are sent.
 fn fill<const N: usize>(state: &mut State<N>, messages: &[u32], woken: &mut [u64], turn: &Turn)
-    requires { length state.old.store + length messages.now ≤ N }
-    ensures held { length state.new.store ≡ length state.old.store + length messages.now }
-    ensures total { sum state.new.store ≡ sum state.old.store + sum messages.now }
+    requires { length state.old.store.items + length messages.now ≤ N }
+    ensures held { length state.new.store.items ≡ length state.old.store.items + length messages.now }
+    ensures total { sum state.new.store.items ≡ sum state.old.store.items + sum messages.now }
 {
     for message in messages {
         send(state, *message, woken, turn);
@@ -87,9 +87,9 @@ fn fill<const N: usize>(state: &mut State<N>, messages: &[u32], woken: &mut [u64
 
 // All messages are received.
 fn drain<const N: usize>(state: &mut State<N>, woken: &mut [u64], turn: &Turn) -> u64
-    requires { sum state.old.store < 2 ^ 64 }
-    ensures empty { length state.new.store ≡ 0 }
-    ensures total { result ≡ sum state.old.store }
+    requires { sum state.old.store.items < 2 ^ 64 }
+    ensures empty { length state.new.store.items ≡ 0 }
+    ensures total { result ≡ sum state.old.store.items }
 {
     let mut total = 0;
     for _ in 0..state.len() {
@@ -107,7 +107,7 @@ fn fill_and_drain<const N: usize>(
     turn: &Turn,
 ) -> u64
     requires room { 0 < N }
-    requires empty { length state.old.store ≡ 0 }
+    requires empty { length state.old.store.items ≡ 0 }
     requires fits { sum messages.now < 2 ^ 64 }
     ensures { result ≡ sum messages.now }
 {
@@ -131,7 +131,7 @@ fn wait_and_wake<const N: usize>(
     turn: &Turn,
 ) -> u64
     requires room { 0 < N }
-    requires empty { length state.old.store ≡ 0 }
+    requires empty { length state.old.store.items ≡ 0 }
     requires fits { sum messages.now < 2 ^ 64 }
     ensures { result ≡ sum messages.now }
 {

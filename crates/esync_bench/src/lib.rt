@@ -5,6 +5,8 @@
 #![tactic(auto)]
 
 pub mod channel;
+pub mod fair;
+pub mod greedy;
 pub mod priority;
 pub mod signal;
 pub mod tasks;

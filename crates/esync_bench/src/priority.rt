@@ -5,10 +5,10 @@ use crate::tasks::{Turn, hand_out};
 use esync_base::waitqueue::{TaskId, Wakes};
 use esync_priority::priority_channel::{ChannelState, Max};
 
-type State = ChannelState<u32, TaskId, Max, 64>;
+type State<const N: usize> = ChannelState<u32, TaskId, Max, N>;
 
-fn send(state: &mut State, message: u32, woken: &mut [u64], turn: &Turn)
-    requires { length state.old.store < 64 }
+fn send<const N: usize>(state: &mut State<N>, message: u32, woken: &mut [u64], turn: &Turn)
+    requires { length state.old.store < N }
     ensures held { length state.new.store ≡ length state.old.store + 1 }
     ensures total { sum state.new.store ≡ sum state.old.store + message }
 {
@@ -19,7 +19,7 @@ fn send(state: &mut State, message: u32, woken: &mut [u64], turn: &Turn)
 }
 
 // The message that is first, or 0 where there is none.
-fn receive(state: &mut State, woken: &mut [u64], turn: &Turn) -> u32
+fn receive<const N: usize>(state: &mut State<N>, woken: &mut [u64], turn: &Turn) -> u32
     ensures held { length state.new.store ≡ length state.old.store - 1 }
     ensures total { sum state.old.store ≡ result + sum state.new.store }
 {
@@ -34,8 +34,8 @@ fn receive(state: &mut State, woken: &mut [u64], turn: &Turn) -> u32
 }
 
 // All messages are sent.
-fn fill(state: &mut State, messages: &[u32], woken: &mut [u64], turn: &Turn)
-    requires { length state.old.store + length messages.now ≤ 64 }
+fn fill<const N: usize>(state: &mut State<N>, messages: &[u32], woken: &mut [u64], turn: &Turn)
+    requires { length state.old.store + length messages.now ≤ N }
     ensures held { length state.new.store ≡ length state.old.store + length messages.now }
     ensures total { sum state.new.store ≡ sum state.old.store + sum messages.now }
 {
@@ -45,7 +45,7 @@ fn fill(state: &mut State, messages: &[u32], woken: &mut [u64], turn: &Turn)
 }
 
 // All messages are received.
-fn drain(state: &mut State, woken: &mut [u64], turn: &Turn) -> u64
+fn drain<const N: usize>(state: &mut State<N>, woken: &mut [u64], turn: &Turn) -> u64
     requires { sum state.old.store < 2 ^ 64 }
     ensures empty { length state.new.store ≡ 0 }
     ensures total { result ≡ sum state.old.store }
@@ -59,7 +59,13 @@ fn drain(state: &mut State, woken: &mut [u64], turn: &Turn) -> u64
 
 // As many messages are sent as there is room for, and then all are received.
 #[inline(never)]
-fn fill_and_drain(state: &mut State, messages: &[u32], woken: &mut [u64], turn: &Turn) -> u64
+fn fill_and_drain<const N: usize>(
+    state: &mut State<N>,
+    messages: &[u32],
+    woken: &mut [u64],
+    turn: &Turn,
+) -> u64
+    requires room { 0 < N }
     requires empty { length state.old.store ≡ 0 }
     requires fits { sum messages.now < 2 ^ 64 }
     ensures { result ≡ sum messages.now }
@@ -67,7 +73,7 @@ fn fill_and_drain(state: &mut State, messages: &[u32], woken: &mut [u64], turn: 
     let mut total = 0;
     let mut rest = messages;
     while !rest.is_empty() {
-        let (chunk, behind) = rest.split_at(rest.len().min(64));
+        let (chunk, behind) = rest.split_at(rest.len().min(N));
         fill(state, chunk, woken, turn);
         total += drain(state, woken, turn);
         rest = behind;
@@ -76,8 +82,13 @@ fn fill_and_drain(state: &mut State, messages: &[u32], woken: &mut [u64], turn: 
 }
 
 // Each message is sent and then one is received.
-fn send_and_receive(state: &mut State, messages: &[u32], woken: &mut [u64], turn: &Turn) -> u64
-    requires room { length state.old.store < 64 }
+fn send_and_receive<const N: usize>(
+    state: &mut State<N>,
+    messages: &[u32],
+    woken: &mut [u64],
+    turn: &Turn,
+) -> u64
+    requires room { length state.old.store < N }
     requires fits { sum state.old.store + sum messages.now < 2 ^ 64 }
     ensures held { length state.new.store ≡ length state.old.store }
     ensures total { result + sum state.new.store ≡ sum state.old.store + sum messages.now }
@@ -90,16 +101,30 @@ fn send_and_receive(state: &mut State, messages: &[u32], woken: &mut [u64], turn
     total
 }
 
-// The first 32 messages are sent. Each further one is sent and then one is received, and the last 32 are received at the end.
+// Half a channel of messages is sent. Each further one is sent and then one is received, and the last are received at the end.
 #[inline(never)]
-fn steady(state: &mut State, messages: &[u32], woken: &mut [u64], turn: &Turn) -> u64
+fn steady<const N: usize>(
+    state: &mut State<N>,
+    messages: &[u32],
+    woken: &mut [u64],
+    turn: &Turn,
+) -> u64
+    requires some { 1 < N }
     requires empty { length state.old.store ≡ 0 }
     requires fits { sum messages.now < 2 ^ 64 }
     ensures { result ≡ sum messages.now }
 {
-    let (first, rest) = messages.split_at(messages.len().min(32));
+    let (first, rest) = messages.split_at(messages.len().min(N / 2));
     fill(state, first, woken, turn);
     send_and_receive(state, rest, woken, turn) + drain(state, woken, turn)
+}
+
+#[unsafe(no_mangle)]
+pub extern "C" fn esync_bench_priority_fill_drain_4(messages: &[u32], woken: &mut [u64]) -> u64
+    requires { sum messages.now < 2 ^ 64 }
+    ensures { result ≡ sum messages.now }
+{
+    fill_and_drain::<4>(&mut State::new(), messages, woken, &Turn::new())
 }
 
 #[unsafe(no_mangle)]
@@ -107,7 +132,23 @@ pub extern "C" fn esync_bench_priority_fill_drain_64(messages: &[u32], woken: &m
     requires { sum messages.now < 2 ^ 64 }
     ensures { result ≡ sum messages.now }
 {
-    fill_and_drain(&mut State::new(), messages, woken, &Turn::new())
+    fill_and_drain::<64>(&mut State::new(), messages, woken, &Turn::new())
+}
+
+#[unsafe(no_mangle)]
+pub extern "C" fn esync_bench_priority_fill_drain_1024(messages: &[u32], woken: &mut [u64]) -> u64
+    requires { sum messages.now < 2 ^ 64 }
+    ensures { result ≡ sum messages.now }
+{
+    fill_and_drain::<1024>(&mut State::new(), messages, woken, &Turn::new())
+}
+
+#[unsafe(no_mangle)]
+pub extern "C" fn esync_bench_priority_steady_4(messages: &[u32], woken: &mut [u64]) -> u64
+    requires { sum messages.now < 2 ^ 64 }
+    ensures { result ≡ sum messages.now }
+{
+    steady::<4>(&mut State::new(), messages, woken, &Turn::new())
 }
 
 #[unsafe(no_mangle)]
@@ -115,5 +156,13 @@ pub extern "C" fn esync_bench_priority_steady_64(messages: &[u32], woken: &mut [
     requires { sum messages.now < 2 ^ 64 }
     ensures { result ≡ sum messages.now }
 {
-    steady(&mut State::new(), messages, woken, &Turn::new())
+    steady::<64>(&mut State::new(), messages, woken, &Turn::new())
+}
+
+#[unsafe(no_mangle)]
+pub extern "C" fn esync_bench_priority_steady_1024(messages: &[u32], woken: &mut [u64]) -> u64
+    requires { sum messages.now < 2 ^ 64 }
+    ensures { result ≡ sum messages.now }
+{
+    steady::<1024>(&mut State::new(), messages, woken, &Turn::new())
 }

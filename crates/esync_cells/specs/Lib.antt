@@ -1,1 +1,3 @@
 pub mod Signal
+pub mod SignalRules
+pub mod SignalLaws

@@ -1,3 +1,6 @@
 pub mod Mailbox
 pub mod Channel
 pub mod Polls
+pub mod ChannelRules
+pub mod ChannelLaws
+pub mod Order

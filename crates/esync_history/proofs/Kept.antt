@@ -2,10 +2,12 @@
 use Rattle.std.proofs.Common.{◌≡◌, ℕ, zero, suc, ◌+◌, ◌<◌, Bool, true, false, List, [], ◌∷◌, ◌++◌, length, take, Option, Some, None, inl, inr, refl, sym, ap, subst, ◌∙◌, arith, length-take, append-nil}
 use Rattle.std.specs.Prelude.{slice_get, slice_set}
 use Rattle.std.specs.List.{list_all}
+use Rattle.esync_base.specs.Listed.{is_in, NoTwice}
+use Rattle.esync_base.specs.ListedLaws.{true_or_false, same_or_not, has_number-front, has_number-behind, has_number-before, distinct_back}
 use Rattle.esync_base.specs.declared.waitqueue.TaskId.{TaskId}
-use Rattle.esync_history.specs.Line.{Line, is_queued, AreDistinct, put_last}
+use Rattle.esync_history.specs.Line.{Line, put_last}
 use Rattle.esync_history.specs.Todo.{Todo, has_ended, numbers_from, unended, put_back_task, put_back, woken, requeued, IsUnendedTask, IsUnended, IsOrderly}
-use Rattle.esync_history.proofs.Lines.{same_or_other, queued_other, queued_front, queued_behind, distinct_last, true_or_false, same_line}
+use Rattle.esync_history.proofs.Lines.{same_line}
 
 pub get_set_here : {A : Type 0} (xs : List A) (i : ℕ) (x y : A) → slice_get xs i ≡ Some x → slice_get (slice_set xs i y) i ≡ Some y
 get_set_here [] i x y e = absurd cc
@@ -27,14 +29,14 @@ length_set (z ∷ xs) (suc i) y = ap suc (length_set xs i y)
 module _ {Ask Command : Type 0} (tasks : List (Todo Ask Command)) where
   -- a task that is there and hasn't ended is put at the back
   pub orderly_last : (room : ℕ) (queue : List ℕ) (k : ℕ) → IsOrderly tasks (record { room = room; numbers = queue }) → IsUnended tasks k → IsOrderly tasks (record { room = room; numbers = put_last queue k })
-  orderly_last room queue k o u = elim (true_or_false (is_queued k queue)) [
+  orderly_last room queue k o u = elim (true_or_false (is_in k queue)) [
     | inl e ↦ rw e o
     | inr e ↦ rw e (record {
       room = o.room;
-      distinct = distinct_last queue k o.distinct e;
-      unended = λ j q. elim (same_or_other j k) [
+      distinct = distinct_back (λ n. n) queue k o.distinct e;
+      unended = λ j q. elim (same_or_not j k) [
         | inl s ↦ subst (λ x. IsUnended tasks x) (sym s) u
-        | inr ne ↦ o.unended j (sym (queued_other queue j k ne) ∙ q)
+        | inr ne ↦ o.unended j (sym (has_number-before (λ n. n) j queue k ne) ∙ q)
       ];
     })
   ]
@@ -60,7 +62,7 @@ module _ {Ask Command : Type 0} (tasks : List (Todo Ask Command)) where
   pub orderly_empty : (queue : Line) → queue.numbers ≡ [] → queue.room ≡ length tasks → IsOrderly tasks queue
   orderly_empty queue e r = record {
     room = r;
-    distinct = subst AreDistinct (sym e) tt;
+    distinct = subst NoTwice (sym e) tt;
     unended = λ k q. absurd (let h = rw e at q in cc);
   }
 
@@ -73,9 +75,9 @@ module _ {Ask Command : Type 0} (tasks : List (Todo Ask Command)) where
   orderly_taken room behind k left o = record {
     room = o.room ∙ sym (length_set tasks k left);
     distinct = o.distinct.1;
-    unended = λ j q. elim (same_or_other j k) [
-      | inl s ↦ absurd (let h = o.distinct.0 in let i : is_queued k behind ≡ true = subst (λ x. is_queued x behind ≡ true) s q in cc)
-      | inr ne ↦ subst (λ x. IsUnendedTask x) (sym (get_set_other tasks k j left ne)) (o.unended j (queued_behind behind j k ne ∙ q))
+    unended = λ j q. elim (same_or_not j k) [
+      | inl s ↦ absurd (let h = o.distinct.0 in let i : is_in k behind ≡ true = subst (λ x. is_in x behind ≡ true) s q in cc)
+      | inr ne ↦ subst (λ x. IsUnendedTask x) (sym (get_set_other tasks k j left ne)) (o.unended j (has_number-behind (λ n. n) j k behind ne ∙ q))
     ];
   }
 
@@ -98,13 +100,13 @@ module _ {Ask Command : Type 0} where
       ]
 
   -- each of them is that of a task
-  pub numbers_within : (k : ℕ) (xs : List (Todo Ask Command)) (j : ℕ) → is_queued j (numbers_from k xs) ≡ true → j < k + length xs
+  pub numbers_within : (k : ℕ) (xs : List (Todo Ask Command)) (j : ℕ) → is_in j (numbers_from k xs) ≡ true → j < k + length xs
   numbers_within k [] j e = absurd cc
   numbers_within k (x ∷ xs) j e = elim (true_or_false (has_ended x)) [
     | inl h ↦ (let q = rw h at e in omega (arith, numbers_within (k + 1) xs j q))
-    | inr h ↦ (let q = rw h at e in elim (same_or_other j k) [
+    | inr h ↦ (let q = rw h at e in elim (same_or_not j k) [
       | inl s ↦ omega arith
-      | inr ne ↦ omega (arith, numbers_within (k + 1) xs j (sym (queued_behind (numbers_from (k + 1) xs) j k ne) ∙ q))
+      | inr ne ↦ omega (arith, numbers_within (k + 1) xs j (sym (has_number-behind (λ n. n) j k (numbers_from (k + 1) xs) ne) ∙ q))
     ])
   ]
 
@@ -124,7 +126,7 @@ module _ {Ask Command : Type 0} where
       let t = there_or_past tasks i l in
       let x = t.0 in
       let n : 0 + length (take i tasks) ≡ i = omega (arith, length-take i tasks) in
-      let apart : is_queued i (unended (take i tasks)) ≡ false = elim (true_or_false (is_queued i (unended (take i tasks)))) [
+      let apart : is_in i (unended (take i tasks)) ≡ false = elim (true_or_false (is_in i (unended (take i tasks)))) [
         | inl e ↦ absurd (omega (arith, n, numbers_within 0 (take i tasks) i e))
         | inr e ↦ e
       ] in
@@ -141,4 +143,4 @@ one_unended (t ∷ tasks) (suc k) h = elim (true_or_false (has_ended t)) [ inl e
 -- while a task is queued, not all have ended
 pub not_all_ended : {Ask Command : Type 0} (tasks : List (Todo Ask Command)) (queue : Line) (numbers : List ℕ) → IsOrderly tasks queue → queue.numbers ≡ numbers → (numbers ≡ [] → ⊥) → list_all has_ended tasks ≡ false
 not_all_ended tasks queue [] o e n = absurd (n refl)
-not_all_ended tasks queue (k ∷ ks) o e n = one_unended tasks k (o.unended k (subst (λ ns. is_queued k ns ≡ true) (sym e) (queued_front ks k)))
+not_all_ended tasks queue (k ∷ ks) o e n = one_unended tasks k (o.unended k (subst (λ ns. is_in k ns ≡ true) (sym e) (has_number-front (λ n. n) k ks)))

@@ -1,39 +1,9 @@
 -- A queue of numbers and its flags, as numbers are put in and taken out.
-use Rattle.std.proofs.Common.{◌≡◌, ℕ, zero, suc, ◌<◌, ◌≤◌, ◌==◌, Bool, true, false, List, [], ◌∷◌, ◌++◌, length, get_or, ◌⊎◌, inl, inr, refl, sym, ap, arith, ◌∙◌, subst, length-append, length-set, get_or-set_same, get_or-set_other}
+use Rattle.std.proofs.Common.{◌≡◌, ℕ, zero, suc, ◌<◌, ◌≤◌, Bool, true, false, List, [], ◌∷◌, ◌++◌, length, get_or, inl, inr, refl, sym, ap, arith, ◌∙◌, subst, length-append, length-set, get_or-set_same, get_or-set_other}
 use Rattle.std.proofs.Math.ListN.{set, replicate, length-replicate}
-use Rattle.std.proofs.lemmas.Bool.Decides.{nat_tests}
-use Rattle.esync_history.specs.Line.{Line, is_queued, AreDistinct, put_last, raised, IsLine}
-
-pub true_or_false : (b : Bool) → (b ≡ true) ⊎ (b ≡ false)
-true_or_false true = inl refl
-true_or_false false = inr refl
-
-pub same_number : (n k : ℕ) → (n == k) ≡ true → n ≡ k
-same_number n k e = grind (arith, nat_tests)
-
-pub other_number : (n k : ℕ) → (n == k) ≡ false → n ≡ k → ⊥
-other_number n k e s = grind (arith, nat_tests)
-
-pub same_or_other : (j k : ℕ) → (j ≡ k) ⊎ (j ≡ k → ⊥)
-same_or_other j k = elim (true_or_false (j == k)) [ inl e ↦ inl (same_number j k e) | inr e ↦ inr (other_number j k e) ]
-
--- a number that was put at the back is queued
-pub queued_last : (ns : List ℕ) (k : ℕ) → is_queued k (ns ++ k ∷ []) ≡ true
-queued_last [] k = grind (arith, nat_tests)
-queued_last (n ∷ ns) k = elim (true_or_false (n == k)) [ inl e ↦ rw e refl | inr e ↦ rw e (queued_last ns k) ]
-
--- and all others are as before
-pub queued_other : (ns : List ℕ) (j k : ℕ) → (j ≡ k → ⊥) → is_queued j (ns ++ k ∷ []) ≡ is_queued j ns
-queued_other [] j k ne = grind (arith, nat_tests)
-queued_other (n ∷ ns) j k ne = elim (true_or_false (n == j)) [ inl e ↦ rw e refl | inr e ↦ rw e (queued_other ns j k ne) ]
-
-pub distinct_last : (ns : List ℕ) (k : ℕ) → AreDistinct ns → is_queued k ns ≡ false → AreDistinct (ns ++ k ∷ [])
-distinct_last [] k d h = (refl, tt)
-distinct_last (n ∷ ns) k d h =
-    elim (true_or_false (n == k)) [
-      | inl e ↦ (let b = rw e at h in absurd cc)
-      | inr e ↦ (let b = rw e at h in (queued_other ns n k (other_number n k e) ∙ d.0, distinct_last ns k d.1 b))
-    ]
+use Rattle.esync_base.specs.Listed.{is_in}
+use Rattle.esync_base.specs.ListedLaws.{same_or_not, has_number-front, has_number-behind, has_number-back, has_number-before, distinct_back}
+use Rattle.esync_history.specs.Line.{Line, put_last, raised, IsLine}
 
 pub raised-set_up : (fs : List Bool) (k : ℕ) → k < length fs → get_or fs k false ≡ false → raised (set fs k true) ≡ suc (raised fs)
 raised-set_up [] k l h = absurd (omega arith)
@@ -81,49 +51,43 @@ line_flag : (fs : List Bool) (k j : ℕ) (b : Bool) → j < length fs → j < le
 line_flag fs k j b l = omega (arith, length-set {A = Bool})
 
 -- a number that wasn't queued is put at the back, and its flag raised
-pub line_push : (ns : List ℕ) (fs : List Bool) (capacity k : ℕ) → IsLine ns fs capacity → k < length fs → is_queued k ns ≡ false → IsLine (ns ++ k ∷ []) (set fs k true) capacity
+pub line_push : (ns : List ℕ) (fs : List Bool) (capacity k : ℕ) → IsLine ns fs capacity → k < length fs → is_in k ns ≡ false → IsLine (ns ++ k ∷ []) (set fs k true) capacity
 line_push ns fs capacity k i l h =
     let down : get_or fs k false ≡ false = i.flagged k l ∙ h in
     record {
-      below = λ j e. line_flag fs k j true (elim (same_or_other j k) [
+      below = λ j e. line_flag fs k j true (elim (same_or_not j k) [
         | inl s ↦ omega arith
-        | inr ne ↦ i.below j (sym (queued_other ns j k ne) ∙ e)
+        | inr ne ↦ i.below j (sym (has_number-before (λ n. n) j ns k ne) ∙ e)
       ]);
-      distinct = distinct_last ns k i.distinct h;
-      flagged = λ j m. elim (same_or_other j k) [
-        | inl s ↦ subst (λ x. get_or (set fs k true) x false ≡ is_queued x (ns ++ k ∷ [])) (sym s) (get_or-set_same fs k true false l ∙ sym (queued_last ns k))
-        | inr ne ↦ get_or-set_other fs k j true false ne ∙ i.flagged j (omega (arith, length-set {A = Bool})) ∙ sym (queued_other ns j k ne)
+      distinct = distinct_back (λ n. n) ns k i.distinct h;
+      flagged = λ j m. elim (same_or_not j k) [
+        | inl s ↦ subst (λ x. get_or (set fs k true) x false ≡ is_in x (ns ++ k ∷ [])) (sym s) (get_or-set_same fs k true false l ∙ sym (has_number-back (λ n. n) ns k))
+        | inr ne ↦ get_or-set_other fs k j true false ne ∙ i.flagged j (omega (arith, length-set {A = Bool})) ∙ sym (has_number-before (λ n. n) j ns k ne)
       ];
       count = raised-set_up fs k l down ∙ ap suc i.count ∙ omega (arith, length-append ns (k ∷ []));
       room = omega (arith, i.room, length-set {A = Bool});
     }
 
-pub queued_front : (ns : List ℕ) (k : ℕ) → is_queued k (k ∷ ns) ≡ true
-queued_front ns k = elim (true_or_false (k == k)) [ inl e ↦ rw e refl | inr e ↦ absurd (other_number k k e refl) ]
-
-pub queued_behind : (ns : List ℕ) (j k : ℕ) → (j ≡ k → ⊥) → is_queued j (k ∷ ns) ≡ is_queued j ns
-queued_behind ns j k ne = elim (true_or_false (k == j)) [ inl e ↦ absurd (ne (sym (same_number k j e))) | inr e ↦ rw e refl ]
-
 -- the number at the front is below the bound
 pub line_front : (ns : List ℕ) (fs : List Bool) (capacity k : ℕ) → IsLine (k ∷ ns) fs capacity → k < length fs
-line_front ns fs capacity k i = i.below k (queued_front ns k)
+line_front ns fs capacity k i = i.below k (has_number-front (λ n. n) k ns)
 
 -- it is taken, and its flag lowered
 pub line_pop : (ns : List ℕ) (fs : List Bool) (capacity k : ℕ) → IsLine (k ∷ ns) fs capacity → IsLine ns (set fs k false) capacity
 line_pop ns fs capacity k i =
     let l = line_front ns fs capacity k i in
-    let up : get_or fs k false ≡ true = i.flagged k l ∙ queued_front ns k in
+    let up : get_or fs k false ≡ true = i.flagged k l ∙ has_number-front (λ n. n) k ns in
     let fewer = raised-set_down fs k l up in
     let all : raised fs ≡ suc (length ns) = i.count in
     record {
-      below = λ j e. line_flag fs k j false (elim (same_or_other j k) [
+      below = λ j e. line_flag fs k j false (elim (same_or_not j k) [
         | inl s ↦ omega arith
-        | inr ne ↦ i.below j (queued_behind ns j k ne ∙ e)
+        | inr ne ↦ i.below j (has_number-behind (λ n. n) j k ns ne ∙ e)
       ]);
       distinct = i.distinct.1;
-      flagged = λ j m. elim (same_or_other j k) [
-        | inl s ↦ subst (λ x. get_or (set fs k false) x false ≡ is_queued x ns) (sym s) (get_or-set_same fs k false false l ∙ sym i.distinct.0)
-        | inr ne ↦ get_or-set_other fs k j false false ne ∙ i.flagged j (omega (arith, length-set {A = Bool})) ∙ queued_behind ns j k ne
+      flagged = λ j m. elim (same_or_not j k) [
+        | inl s ↦ subst (λ x. get_or (set fs k false) x false ≡ is_in x ns) (sym s) (get_or-set_same fs k false false l ∙ sym i.distinct.0)
+        | inr ne ↦ get_or-set_other fs k j false false ne ∙ i.flagged j (omega (arith, length-set {A = Bool})) ∙ has_number-behind (λ n. n) j k ns ne
       ];
       count = omega arith;
       room = omega (arith, i.room, length-set {A = Bool});
@@ -133,7 +97,7 @@ line_pop ns fs capacity k i =
 pub line_made : (ns : List ℕ) (fs : List Bool) (capacity n : ℕ) → ns ≡ [] → fs ≡ replicate n false → n ≤ capacity → IsLine ns fs capacity
 line_made ns fs capacity n e f h = subst (λ x. IsLine x fs capacity) (sym e) (subst (λ x. IsLine [] x capacity) (sym f) (line_new n capacity h))
 
-pub line_pushed : (ns ms : List ℕ) (fs : List Bool) (capacity more k : ℕ) → IsLine ns fs capacity → k < length fs → is_queued k ns ≡ false → ms ≡ ns ++ k ∷ [] → capacity ≤ more → IsLine ms (set fs k true) more
+pub line_pushed : (ns ms : List ℕ) (fs : List Bool) (capacity more k : ℕ) → IsLine ns fs capacity → k < length fs → is_in k ns ≡ false → ms ≡ ns ++ k ∷ [] → capacity ≤ more → IsLine ms (set fs k true) more
 line_pushed ns ms fs capacity more k i l h e m =
     let j = line_push ns fs capacity k i l h in
     subst (λ x. IsLine x (set fs k true) more) (sym e) (record {
@@ -152,10 +116,10 @@ pub below_popped : (all ns : List ℕ) (fs : List Bool) (capacity k : ℕ) → I
 below_popped all ns fs capacity k i e = line_front ns fs capacity k (subst (λ x. IsLine x fs capacity) e i)
 
 -- there is room for one that isn't queued
-pub line_room : (ns : List ℕ) (fs : List Bool) (capacity k : ℕ) → IsLine ns fs capacity → k < length fs → is_queued k ns ≡ false → length ns < capacity
+pub line_room : (ns : List ℕ) (fs : List Bool) (capacity k : ℕ) → IsLine ns fs capacity → k < length fs → is_in k ns ≡ false → length ns < capacity
 line_room ns fs capacity k i l h = omega (arith, raised-lt-length fs k l (i.flagged k l ∙ h), i.count, i.room)
 
-pub put_last-new : (ns : List ℕ) (k : ℕ) → is_queued k ns ≡ false → put_last ns k ≡ ns ++ k ∷ []
+pub put_last-new : (ns : List ℕ) (k : ℕ) → is_in k ns ≡ false → put_last ns k ≡ ns ++ k ∷ []
 put_last-new ns k h = rw h refl
 
 pub same_line : (m n : ℕ) (ms ns : List ℕ) → m ≡ n → ms ≡ ns → ◌≡◌ {A = Line} (record { room = m; numbers = ms }) (record { room = n; numbers = ns })

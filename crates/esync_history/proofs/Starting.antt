@@ -3,15 +3,15 @@ use Rattle.std.proofs.Common.{◌≡◌, ℕ, zero, suc, ◌+◌, Bool, true, fa
 use Rattle.std.specs.Prelude.{slice_get}
 use Rattle.std.specs.List.{list_any}
 use Rattle.std.proofs.lemmas.List.Folds.{list_any-append}
+use Rattle.esync_base.specs.Listed.{is_in}
+use Rattle.esync_base.specs.ListedLaws.{true_or_false, same_number, has_number-front, has_number-behind}
 use Rattle.esync_base.specs.declared.waitqueue.TaskId.{TaskId}
-use Rattle.esync_machine.specs.Runs.{Meaning}
+use Rattle.esync_machine.specs.Runs.{Meaning, Semantics}
 use Rattle.esync_history.specs.declared.executor.Act.{Act}
 use Rattle.esync_history.specs.declared.executor.Act.TheVariants.{Await, Call}
-use Rattle.esync_history.specs.Line.{is_queued}
 use Rattle.esync_history.specs.Suited.{awaits_at, all_acts, AreSuited}
 use Rattle.esync_history.specs.Todo.{Todo, fresh, has_ended, numbers_from, unended}
 use Rattle.esync_history.specs.Standing.{Uses, ArePlain, AreStanding}
-use Rattle.esync_history.proofs.Lines.{true_or_false, same_number, queued_front, queued_behind}
 
 second_false : (a b : Bool) → (a || b) ≡ false → b ≡ false
 second_false true b e = absurd cc
@@ -81,39 +81,40 @@ module _ {Command Reply : Type 0} (M : Meaning Command Reply TaskId) (numbers : 
   fresh_uses r t xs e (inl h) = (let n = ap (λ x. x.request) e in absurd cc)
   fresh_uses r t xs e (inr h) = subst (λ x. list_any (awaits_at r) x.acts ≡ true) e h
 
-  unended_queued : (k : ℕ) (tasks : List (Todo Ask Command)) (i : ℕ) (t : Todo Ask Command) → slice_get tasks i ≡ Some t → has_ended t ≡ false → is_queued (k + i) (numbers_from k tasks) ≡ true
+  unended_queued : (k : ℕ) (tasks : List (Todo Ask Command)) (i : ℕ) (t : Todo Ask Command) → slice_get tasks i ≡ Some t → has_ended t ≡ false → is_in (k + i) (numbers_from k tasks) ≡ true
   unended_queued k [] i t e h = absurd cc
   unended_queued k (x ∷ tasks) zero t e h =
       let s : x ≡ t = cc in
       let n : k + 0 ≡ k = omega arith in
-      rw (n, s, h) (queued_front (numbers_from (k + 1) tasks) k)
+      rw (n, s, h) (has_number-front (λ n. n) k (numbers_from (k + 1) tasks))
   unended_queued k (x ∷ tasks) (suc i) t e h =
       let n : k + suc i ≡ k + 1 + i = omega arith in
       let ne : k + 1 + i ≡ k → ⊥ = λ f. omega arith in
       let rest = unended_queued (k + 1) tasks i t e h in
       rw n (elim (true_or_false (has_ended x)) [
         | inl b ↦ rw b rest
-        | inr b ↦ rw b (queued_behind (numbers_from (k + 1) tasks) (k + 1 + i) k ne ∙ rest)
+        | inr b ↦ rw b (has_number-behind (λ n. n) (k + 1 + i) k (numbers_from (k + 1) tasks) ne ∙ rest)
       ])
-
-  pub standing_first : {S : Type 0} (object : S → M.Object) (Owes : S → ℕ → TaskId → Type 0) (m : S) (lists : List (List (Act Ask Command))) → AreSuited M numbers (all_acts lists) → AreStanding M object Owes m (map fresh lists) (unended (map fresh lists))
-  standing_first object Owes m lists h = record {
-    apart = λ j k a b r ha hb ua ub.
-        let p = fresh_at lists j a ha in
-        let q = fresh_at lists k b hb in
-        lists_apart lists j k r p.0 q.0 h p.1 q.1 (fresh_uses r a p.0 p.2 ua) (fresh_uses r b q.0 q.2 ub);
-    plain = λ k a ha. (let p = fresh_at lists k a ha in subst (λ x. ArePlain M x.acts) (sym p.2) (lists_plain lists k p.0 h p.1));
-    idle = λ k a ha u q. absurd (let n = unended_queued 0 (map fresh lists) k a ha u in let z : 0 + k ≡ k = omega arith in let n1 = rw z at n in cc);
-  }
 
   fresh_all : {V : Type 0} (items : V → List (Act Ask Command)) (vs : List V) → map fresh (map items vs) ≡ map (λ v. fresh (items v)) vs
   fresh_all items [] = refl
   fresh_all items (v ∷ vs) = ap (λ ts. fresh (items v) ∷ ts) (fresh_all items vs)
 
+module _ {S Command Reply : Type 0} (X : Semantics S Command Reply TaskId) (numbers : ℕ) {Ask : Type 0} where
+  pub standing_first : (m : S) (lists : List (List (Act Ask Command))) → AreSuited X.meaning numbers (all_acts lists) → AreStanding X m (map fresh lists) (unended (map fresh lists))
+  standing_first m lists h = record {
+    apart = λ j k a b r ha hb ua ub.
+        let p = fresh_at X.meaning numbers lists j a ha in
+        let q = fresh_at X.meaning numbers lists k b hb in
+        lists_apart X.meaning numbers lists j k r p.0 q.0 h p.1 q.1 (fresh_uses X.meaning numbers r a p.0 p.2 ua) (fresh_uses X.meaning numbers r b q.0 q.2 ub);
+    plain = λ k a ha. (let p = fresh_at X.meaning numbers lists k a ha in subst (λ x. ArePlain X.meaning x.acts) (sym p.2) (lists_plain X.meaning numbers lists k p.0 h p.1));
+    idle = λ k a ha u q. absurd (let n = unended_queued X.meaning numbers 0 (map fresh lists) k a ha u in let z : 0 + k ≡ k = omega arith in let n1 = rw z at n in cc);
+  }
+
   -- the same of lists that are told by equations
-  pub standing_new : {S V : Type 0} (object : S → M.Object) (Owes : S → ℕ → TaskId → Type 0) (m : S) (items : V → List (Act Ask Command)) (vs given : List V) (tasks lent : List (Todo Ask Command)) (queue : List ℕ) → given ≡ vs → AreSuited M numbers (all_acts (map items given)) → tasks ≡ map (λ v. fresh (items v)) vs → lent ≡ tasks → queue ≡ unended lent → AreStanding M object Owes m tasks queue
-  standing_new object Owes m items vs given tasks lent queue g h t l q =
-      let first = standing_first object Owes m (map items vs) (subst (λ xs. AreSuited M numbers (all_acts (map items xs))) g h) in
-      let made : tasks ≡ map fresh (map items vs) = t ∙ sym (fresh_all items vs) in
+  pub standing_new : {V : Type 0} (m : S) (items : V → List (Act Ask Command)) (vs given : List V) (tasks lent : List (Todo Ask Command)) (queue : List ℕ) → given ≡ vs → AreSuited X.meaning numbers (all_acts (map items given)) → tasks ≡ map (λ v. fresh (items v)) vs → lent ≡ tasks → queue ≡ unended lent → AreStanding X m tasks queue
+  standing_new m items vs given tasks lent queue g h t l q =
+      let first = standing_first m (map items vs) (subst (λ xs. AreSuited X.meaning numbers (all_acts (map items xs))) g h) in
+      let made : tasks ≡ map fresh (map items vs) = t ∙ sym (fresh_all X.meaning numbers items vs) in
       let queued : queue ≡ unended (map fresh (map items vs)) = q ∙ ap unended (l ∙ made) in
-      subst (λ xs. AreStanding M object Owes m xs queue) (sym made) (subst (λ ns. AreStanding M object Owes m (map fresh (map items vs)) ns) (sym queued) first)
+      subst (λ xs. AreStanding X m xs queue) (sym made) (subst (λ ns. AreStanding X m (map fresh (map items vs)) ns) (sym queued) first)

@@ -1,15 +1,16 @@
 -- What a turn makes of the task, the queue and the machine.
-use Rattle.std.proofs.Common.{◌≡◌, ℕ, zero, suc, ◌*◌, ◌<◌, ◌≤◌, length-append, Bool, true, false, not, List, [], ◌∷◌, length, get_or, take, Option, Some, None, inl, inr, refl, ap, ◌↔◌, IsTrue, arith, ◌++◌, subst}
+use Rattle.std.proofs.Common.{◌≡◌, ℕ, zero, suc, ◌*◌, ◌<◌, ◌≤◌, length-append, Bool, true, false, not, List, [], ◌∷◌, length, get_or, take, Option, Some, None, inl, inr, refl, sym, ap, ◌∙◌, ◌↔◌, IsTrue, arith, ◌++◌, subst}
 use Rattle.esync_base.specs.declared.waitqueue.TaskId.{TaskId}
 use Rattle.esync_base.specs.Rows.{items_of}
-use Rattle.esync_machine.specs.Runs.{Meaning, Step}
-use Rattle.esync_machine.specs.Through.{Through, run_of}
+use Rattle.esync_machine.specs.Runs.{Meaning, Semantics, Step, OwedAreIdle}
+use Rattle.esync_machine.specs.Histories.{Through}
+use Rattle.esync_machine.specs.HistoriesLaws.{joined, good_run_by, good_run_by-steps}
 use Rattle.esync_history.specs.declared.executor.Act.{Act}
 use Rattle.esync_history.specs.declared.executor.Act.TheVariants.{Await, Call}
 use Rattle.esync_history.specs.declared.executor.Outcome.{Outcome}
 use Rattle.esync_history.specs.declared.executor.Outcome.TheVariants.{Limit}
 use Rattle.esync_history.specs.Todo.{Todo, Executing, put_back, woken}
-use Rattle.esync_history.specs.Turns.{IsPoll, IsAwait, Acts, Turns, Ran}
+use Rattle.esync_history.specs.Turns.{IsPoll, Acts, Turns, Ran}
 
 module _ {Command Reply : Type 0} (M : Meaning Command Reply TaskId) where
   pub poll_waits : (w : TaskId) (r : ℕ) (s : Step M.Object Command Reply) (pending : Bool) (request : Option ℕ) → M.polls s.command ≡ Some (r, w) → (IsTrue pending ↔ M.IsPending s.reply) → pending ≡ true → request ≡ Some r → IsPoll M w r s (not pending) request
@@ -20,59 +21,57 @@ module _ {Command Reply : Type 0} (M : Meaning Command Reply TaskId) where
   poll_hears w r s true request polls e h q = absurd cc
   poll_hears w r s false request polls e h q = (polls, inr ((λ p. let t = e.1 p in absurd cc), refl, q))
 
-module _ {Command Reply : Type 0} (M : Meaning Command Reply TaskId) {S : Type 0} (object : S → M.Object) (Owes : S → ℕ → TaskId → Type 0) where
-  pub through_append : (old mid new : S) (xs ys : List (Step M.Object Command Reply)) → Through M object Owes old xs mid → Through M object Owes mid ys new → Through M object Owes old (xs ++ ys) new
-  through_append old mid new [] ys h k = subst (λ m. Through M object Owes m ys new) h k
-  through_append old mid new (s ∷ xs) ys h k = (h.0, h.1, through_append h.0 mid new xs ys h.2 k)
-
   -- the act of a task that stands at a call
-  pub called : {Ask : Type 0} (w : TaskId) (request : Option ℕ) (acts behind : List (Act Ask Command)) (act : Act Ask Command) (c : Command) (s : Step M.Object Command Reply) (left : Todo Ask Command) → request ≡ None → acts ≡ act ∷ behind → act ≡ Call c → s.command ≡ c → left.request ≡ None → left.acts ≡ behind → Acts M w request acts (s ∷ []) true left
-  called w (Some r) acts behind act c s left e f a h q l = absurd cc
-  called w None [] behind act c s left e f a h q l = absurd cc
-  called w None (Await r ask ∷ acts) behind act c s left e f a h q l = absurd cc
-  called {Ask} w None (Call d ∷ acts) behind act c s left e f a h q l =
+  pub called : {Ask : Type 0} (starting : ℕ → Ask → Command) (w : TaskId) (request : Option ℕ) (acts behind : List (Act Ask Command)) (act : Act Ask Command) (c : Command) (s : Step M.Object Command Reply) (left : Todo Ask Command) → request ≡ None → acts ≡ act ∷ behind → act ≡ Call c → s.command ≡ c → left.request ≡ None → left.acts ≡ behind → Acts M starting w request acts (s ∷ []) true left
+  called starting w (Some r) acts behind act c s left e f a h q l = absurd cc
+  called starting w None [] behind act c s left e f a h q l = absurd cc
+  called starting w None (Await r ask ∷ acts) behind act c s left e f a h q l = absurd cc
+  called {Ask} starting w None (Call d ∷ acts) behind act c s left e f a h q l =
       let same : ◌≡◌ {A = Act Ask Command} (Call d) (Call c) = cc in
       (s, refl, cc, refl, q, cc)
 
   -- an act takes one or two steps
-  act_steps : {Ask : Type 0} (w : TaskId) (request : Option ℕ) (acts : List (Act Ask Command)) (steps : List (Step M.Object Command Reply)) (over : Bool) (left : Todo Ask Command) → Acts M w request acts steps over left → (1 ≤ length steps) × (length steps ≤ 2)
-  act_steps w (Some r) acts steps over left h = (omega (arith, ap length h.1), omega (arith, ap length h.1))
-  act_steps w None [] steps over left h = absurd h
-  act_steps w None (Await r ask ∷ acts) steps over left h = elim h.0.2 [
+  act_steps : {Ask : Type 0} (starting : ℕ → Ask → Command) (w : TaskId) (request : Option ℕ) (acts : List (Act Ask Command)) (steps : List (Step M.Object Command Reply)) (over : Bool) (left : Todo Ask Command) → Acts M starting w request acts steps over left → (1 ≤ length steps) × (length steps ≤ 2)
+  act_steps starting w (Some r) acts steps over left h = (omega (arith, ap length h.1), omega (arith, ap length h.1))
+  act_steps starting w None [] steps over left h = absurd h
+  act_steps starting w None (Await r ask ∷ acts) steps over left h = elim h.0.2 [
     | inl q ↦ (omega (arith, ap length q.1), omega (arith, ap length q.1))
     | inr q ↦ (omega (arith, ap length q.1.1), omega (arith, ap length q.1.1))
   ]
-  act_steps w None (Call c ∷ acts) steps over left h = (omega (arith, ap length h.1), omega (arith, ap length h.1))
+  act_steps starting w None (Call c ∷ acts) steps over left h = (omega (arith, ap length h.1), omega (arith, ap length h.1))
 
-  -- the steps of the turns, one after another
-  turns_steps : {Ask : Type 0} (t : ℕ) (old new : Executing S Ask Command) → Turns M object Owes t old new → (steps : List (Step M.Object Command Reply)) × Through M object Owes old.machine steps new.machine × (t ≤ length steps) × (length steps ≤ 2 * t)
-  turns_steps zero old new h = ([], ap (λ e. e.machine) h, omega arith, omega arith)
-  turns_steps (suc t) old new h =
-      let so_far = turns_steps t old h.0 h.1 in
-      let turn = h.2 in
-      let few = act_steps (record { 0 = turn.number }) turn.task.request turn.task.acts turn.steps turn.over turn.left turn.act in
-      let all = length-append so_far.0 turn.steps in
-      (so_far.0 ++ turn.steps, through_append old.machine h.0.machine new.machine so_far.0 turn.steps so_far.1 turn.run, omega (arith, so_far.2, few.0), omega (arith, so_far.3, few.1))
+module _ {S Ask Command Reply : Type 0} (X : Semantics S Command Reply TaskId) (starting : ℕ → Ask → Command) where
+  -- the steps of the turns are those of the machine
+  turns_through : (t : ℕ) (old new : Executing S Ask Command) (steps : List (Step X.meaning.Object Command Reply)) → Turns X starting t old steps new → Through X old.machine steps new.machine
+  turns_through zero old new steps h = subst (λ xs. Through X old.machine xs new.machine) (sym h.1) (ap (λ e. e.machine) h.0)
+  turns_through (suc t) old new steps h =
+      let turn = h.3.0 in
+      subst (λ xs. Through X old.machine xs new.machine) (sym h.3.1) (joined X old.machine h.0.machine new.machine h.1 turn.steps (turns_through t old h.0 h.1 h.2) turn.run)
 
-  pub ran : {Ask : Type 0} (limit t : ℕ) (old : Executing S Ask Command) (outcome : Outcome) (new : Executing S Ask Command) → t ≤ limit → (outcome ≡ Limit → t ≡ limit) → Turns M object Owes t old new → Ran M object Owes limit old outcome new
-  ran limit t old outcome new within limited taken =
-      let s = turns_steps t old new taken in
+  -- one or two of them a turn
+  turns_count : (t : ℕ) (old new : Executing S Ask Command) (steps : List (Step X.meaning.Object Command Reply)) → Turns X starting t old steps new → (t ≤ length steps) × (length steps ≤ 2 * t)
+  turns_count zero old new steps h = (omega (arith, ap length h.1), omega (arith, ap length h.1))
+  turns_count (suc t) old new steps h =
+      let turn = h.3.0 in
+      let so_far = turns_count t old h.0 h.1 h.2 in
+      let few = act_steps X.meaning starting (record { 0 = turn.number }) turn.task.request turn.task.acts turn.steps turn.over turn.left turn.act in
+      let all = ap length h.3.1 ∙ length-append h.1 turn.steps in
+      (omega (arith, so_far.0, few.0, all), omega (arith, so_far.1, few.1, all))
+
+  pub ran : OwedAreIdle X → (limit t : ℕ) (old : Executing S Ask Command) (outcome : Outcome) (new : Executing S Ask Command) (steps : List (Step X.meaning.Object Command Reply)) → t ≤ limit → (outcome ≡ Limit → t ≡ limit) → Turns X starting t old steps new → Ran X starting limit old outcome new
+  ran idle limit t old outcome new steps within limited taken =
+      let count = turns_count t old new steps taken in
       record {
         turns = t;
-        steps = s.0;
+        steps = steps;
         within = within;
         limited = limited;
         taken = taken;
-        run = run_of M object Owes old.machine new.machine s.0 s.1;
-        at_least = s.2;
-        at_most = s.3;
+        good = good_run_by X idle old.machine new.machine steps (turns_through t old new steps taken);
+        same = good_run_by-steps X idle old.machine new.machine steps (turns_through t old new steps taken);
+        at_least = count.0;
+        at_most = count.1;
       }
-
-  pub await_refused : (w : TaskId) (r : ℕ) (s : Step M.Object Command Reply) (request : Option ℕ) → M.starts s.command ≡ Some r → M.IsNoSuch s.reply → request ≡ None → IsAwait M w r (s ∷ []) true request
-  await_refused w r s request starts refused q = (s, starts, inl (refused, refl, refl, q))
-
-  pub await_polls : (w : TaskId) (r : ℕ) (s p : Step M.Object Command Reply) (over : Bool) (request : Option ℕ) → M.starts s.command ≡ Some r → (M.IsNoSuch s.reply → ⊥) → IsPoll M w r p over request → IsAwait M w r (s ∷ p ∷ []) over request
-  await_polls w r s p over request starts accepted poll = (s, starts, inr (accepted, (p, refl, poll)))
 
 module _ {Ask Command : Type 0} (tasks : List (Todo Ask Command)) where
   -- a waker more in the row

@@ -1,11 +1,12 @@
 -- Where the tasks stand that wait for no turn.
 use Rattle.std.specs.Prelude.{◌≡◌, ℕ, true, false, List, [], ◌∷◌, Some, None, ◌⊎◌, slice_get}
 use Rattle.std.specs.List.{list_any}
+use Rattle.esync_base.specs.Listed.{is_in}
 use Rattle.esync_base.specs.declared.waitqueue.TaskId.{TaskId}
-use Rattle.esync_machine.specs.Runs.{Meaning, IsIdle}
+use Rattle.esync_machine.specs.Runs.{Meaning, Semantics, IsIdle}
 use Rattle.esync_history.specs.declared.executor.Act.{Act}
 use Rattle.esync_history.specs.declared.executor.Act.TheVariants.{Await, Call}
-use Rattle.esync_history.specs.Line.{Line, is_queued}
+use Rattle.esync_history.specs.Line.{Line}
 use Rattle.esync_history.specs.Suited.{awaits_at}
 use Rattle.esync_history.specs.Todo.{Todo, has_ended, IsOrderly}
 
@@ -20,25 +21,36 @@ module _ {Command Reply : Type 0} (M : Meaning Command Reply TaskId) where
   ArePlain (Await r ask ∷ acts) = ArePlain acts
   ArePlain (Call c ∷ acts) = (M.starts c ≡ None) × (M.polls c ≡ None) × ArePlain acts
 
-  module _ {S : Type 0} (object : S → M.Object) (Owes : S → ℕ → TaskId → Type 0) where
-    -- the request was ended, or its waker is registered where it will be handed out
-    abbrev pub IsStanding : S → ℕ → TaskId → Type 0
-    IsStanding m r w = (M.IsLive (object m) r → ⊥) ⊎ Owes m r w
+module _ {S Command Reply : Type 0} (X : Semantics S Command Reply TaskId) where
+  -- the request was ended, or its waker is registered where it will be handed out
+  abbrev pub IsStanding : S → ℕ → TaskId → Type 0
+  IsStanding m r w = (X.meaning.IsLive (X.object m) r → ⊥) ⊎ X.Owes m r w
 
-    -- The tasks use different numbers, and each that is neither queued nor ended stands at such a request.
-    pub record AreStanding {Ask : Type 0} (m : S) (tasks : List (Todo Ask Command)) (queue : List ℕ) : Type 0 where
-      pub apart : (j k : ℕ) (s t : Todo Ask Command) (r : ℕ) → slice_get tasks j ≡ Some s → slice_get tasks k ≡ Some t → Uses r s → Uses r t → j ≡ k
-      pub plain : (k : ℕ) (t : Todo Ask Command) → slice_get tasks k ≡ Some t → ArePlain t.acts
-      pub idle : (k : ℕ) (t : Todo Ask Command) → slice_get tasks k ≡ Some t → has_ended t ≡ false → is_queued k queue ≡ false → (r : ℕ) × (t.request ≡ Some r) × IsStanding m r (record { 0 = k })
+  -- The tasks use different numbers, and each that is neither queued nor ended stands at such a request.
+  pub record AreStanding {Ask : Type 0} (m : S) (tasks : List (Todo Ask Command)) (queue : List ℕ) : Type 0 where
+    pub apart : (j k : ℕ) (s t : Todo Ask Command) (r : ℕ) → slice_get tasks j ≡ Some s → slice_get tasks k ≡ Some t → Uses r s → Uses r t → j ≡ k
+    pub plain : (k : ℕ) (t : Todo Ask Command) → slice_get tasks k ≡ Some t → ArePlain X.meaning t.acts
+    pub idle : (k : ℕ) (t : Todo Ask Command) → slice_get tasks k ≡ Some t → has_ended t ≡ false → is_in k queue ≡ false → (r : ℕ) × (t.request ≡ Some r) × IsStanding m r (record { 0 = k })
 
-    -- What holds between two turns.
-    pub record IsBetweenTurns {Ask : Type 0} (m : S) (tasks : List (Todo Ask Command)) (queue : Line) : Type 0 where
-      pub orderly : IsOrderly tasks queue
-      pub standing : AreStanding m tasks queue.numbers
+  -- What holds between two turns.
+  pub record IsBetweenTurns {Ask : Type 0} (m : S) (tasks : List (Todo Ask Command)) (queue : Line) : Type 0 where
+    pub orderly : IsOrderly tasks queue
+    pub standing : AreStanding m tasks queue.numbers
 
-  -- Each task that hasn't ended stands at an Await. Its request was ended, or a poll may now be answered Pending with the object
-  -- left as it is.
+module _ {Command Reply : Type 0} (M : Meaning Command Reply TaskId) where
+  -- a poll of the request is now answered like this, and leaves this object
+  abbrev pub EachPoll : M.Object → ℕ → (Reply → M.Object → Type 0) → Type 0
+  EachPoll o r Is = (c : Command) (w : TaskId) (a : Reply) (o2 : M.Object) → M.polls c ≡ Some (r, w) → M.allows o c a o2 → Is a o2
+
+  -- a poll of the request would be answered Pending, with the object as it is
+  abbrev pub WouldWait : M.Object → ℕ → Type 0
+  WouldWait o r = IsIdle M o r × EachPoll o r (λ a o2. M.IsPending a × (o2 ≡ o))
+
+  -- the request was ended, and a poll would name what isn't there
+  abbrev pub WouldMiss : M.Object → ℕ → Type 0
+  WouldMiss o r = (M.IsLive o r → ⊥) × EachPoll o r (λ a o2. M.IsNoSuch a)
+
+  -- Each task that hasn't ended stands at an Await, of such a request.
   abbrev pub AreStalled : {Ask : Type 0} → M.Object → List (Todo Ask Command) → Type 0
   AreStalled {Ask} o tasks =
-      (k : ℕ) (t : Todo Ask Command) → slice_get tasks k ≡ Some t → has_ended t ≡ false
-      → (r : ℕ) × (t.request ≡ Some r) × ((M.IsLive o r → ⊥) ⊎ IsIdle M o r)
+      (k : ℕ) (t : Todo Ask Command) → slice_get tasks k ≡ Some t → has_ended t ≡ false → (r : ℕ) × (t.request ≡ Some r) × (WouldMiss o r ⊎ WouldWait o r)

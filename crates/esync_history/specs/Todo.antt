@@ -1,8 +1,9 @@
 -- Tasks, and the queue in which they wait for their turn.
 use Rattle.std.specs.Prelude.{◌≡◌, ℕ, ◌+◌, Bool, true, false, List, [], ◌∷◌, Option, Some, None, slice_get, length, if◌then◌else◌}
+use Rattle.esync_base.specs.Listed.{is_in, NoTwice}
 use Rattle.esync_base.specs.declared.waitqueue.TaskId.{TaskId}
 use Rattle.esync_history.specs.declared.executor.Act.{Act}
-use Rattle.esync_history.specs.Line.{Line, put_last, is_queued, AreDistinct}
+use Rattle.esync_history.specs.Line.{Line, put_last}
 
 -- What a task has still to do.
 pub record Todo (Ask Command : Type 0) : Type 0 where
@@ -68,5 +69,5 @@ IsUnended tasks k = IsUnendedTask (slice_get tasks k)
 -- What holds between two turns: each queued task is there and hasn't ended, and none is queued twice.
 pub record IsOrderly {Ask Command : Type 0} (tasks : List (Todo Ask Command)) (queue : Line) : Type 0 where
   pub room : queue.room ≡ length tasks
-  pub distinct : AreDistinct queue.numbers
-  pub unended : (k : ℕ) → is_queued k queue.numbers ≡ true → IsUnended tasks k
+  pub distinct : NoTwice queue.numbers
+  pub unended : (k : ℕ) → is_in k queue.numbers ≡ true → IsUnended tasks k

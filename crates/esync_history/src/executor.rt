@@ -76,7 +76,7 @@ impl<M: Awaits<Waker = TaskId>> Model for Executor<M> {
 
     ghost view = { λ a. record { machine = a.machine; tasks = a.tasks.items; queue = a.queue.numbers } };
 
-    ghost invariant = { λ a. IsBetweenTurns M.meaning M.object M.Owes a.machine a.tasks.items a.queue };
+    ghost invariant = { λ a. IsBetweenTurns M.semantics a.machine a.tasks.items a.queue };
 }
 
 impl<M: Awaits<Waker = TaskId> + Drop> Executor<M>
@@ -95,8 +95,8 @@ where
         machine: M,
         tasks: Vec<Vec<Act<M::Ask, M::Command>>>,
     ) -> Result<Self, NewError>
-        ensures unsuited { result ≡ Err NewError.NoSuch → AreSuited M.meaning M.REQS (all_acts (map (λ acts. acts.items) tasks.items)) → ⊥ }
-        ensures suited { (result ≡ Err NewError.NoSuch) ⊎ AreSuited M.meaning M.REQS (all_acts (map (λ acts. acts.items) tasks.items)) }
+        ensures unsuited { result ≡ Err NewError.NoSuch → AreSuited M.semantics.meaning M.REQS (all_acts (map (λ acts. acts.items) tasks.items)) → ⊥ }
+        ensures suited { (result ≡ Err NewError.NoSuch) ⊎ AreSuited M.semantics.meaning M.REQS (all_acts (map (λ acts. acts.items) tasks.items)) }
         ensures machine { IfOk result (λ executor. executor.machine ≡ machine) }
         ensures tasks { IfOk result (λ executor. executor.tasks ≡ map (λ acts. fresh acts.items) tasks.items) }
         ensures queue { IfOk result (λ executor. executor.queue ≡ unended executor.tasks) }
@@ -116,7 +116,7 @@ where
 
     // The turn of the task at the front of the queue, if there is one.
     fn take_turn(&mut self) -> bool
-        ensures turn { OnTrue result (IsTurn M.meaning M.object M.Owes self.old self.new) }
+        ensures turn { OnTrue result (IsTurn M.semantics M.starting self.old self.new) }
         ensures none { OnFalse result (self.old.queue ≡ []) }
         ensures unchanged { OnFalse result (self.new ≡ self.old) }
     {
@@ -132,7 +132,7 @@ where
     // What a run answers that stops here.
     fn outcome(&self) -> Outcome
         ensures tells { Tells result self.now }
-        ensures standing { AreStanding M.meaning M.object M.Owes self.now.machine self.now.tasks self.now.queue }
+        ensures standing { AreStanding M.semantics self.now.machine self.now.tasks self.now.queue }
     {
         if !self.queue.is_empty() {
             Outcome::Limit
@@ -147,9 +147,9 @@ where
     ///
     /// It takes no memory beyond what the machine's steps take. A later run goes on where this one stopped.
     pub fn run(&mut self, limit: usize) -> Outcome
-        ensures run { Ran M.meaning M.object M.Owes limit self.old result self.new }
+        ensures run { Ran M.semantics M.starting limit self.old result self.new }
         ensures outcome { Tells result self.new }
-        ensures stalled { result ≡ Outcome.Stalled → AreStalled M.meaning (M.object self.new.machine) self.new.tasks }
+        ensures stalled { result ≡ Outcome.Stalled → AreStalled M.semantics.meaning (M.semantics.object self.new.machine) self.new.tasks }
     {
         for _turn in 0..limit {
             if !self.take_turn() {

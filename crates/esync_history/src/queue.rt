@@ -1,6 +1,7 @@
 //! A queue of numbers, each of which stands in it at most once.
 ghost use Rattle.std.specs.Prelude.{◌≡◌, ℕ, ◌<◌, [], ◌∷◌, IfOk, IfSome, IfNone, IsTrue, false, ◌↔◌};
-ghost use Rattle.esync_history.specs.Line.{Line, is_queued, put_last, AreDistinct};
+ghost use Rattle.esync_base.specs.Listed.{is_in};
+ghost use Rattle.esync_history.specs.Line.{Line, put_last};
 
 use std::alloc::{AllocError, Global};
 use std::collections::VecDeque;
@@ -36,6 +37,7 @@ impl Queue {
         })
     }
 
+    /// No number is queued.
     pub fn is_empty(&self) -> bool
         ensures { IsTrue result ↔ (self.now.numbers ≡ []) }
     {
@@ -57,7 +59,7 @@ impl Queue {
     pub fn pop(&mut self) -> Option<usize>
         ensures front { IfSome result (λ number. self.old.numbers ≡ number ∷ self.new.numbers) }
         ensures below { IfSome result (λ number. number < self.old.room) }
-        ensures once { IfSome result (λ number. is_queued number self.new.numbers ≡ false) }
+        ensures once { IfSome result (λ number. is_in number self.new.numbers ≡ false) }
         ensures empty { IfNone result (self.old.numbers ≡ []) }
         ensures none { IfNone result (self.new.numbers ≡ []) }
         ensures room { self.new.room ≡ self.old.room }

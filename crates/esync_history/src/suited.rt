@@ -44,7 +44,7 @@ fn is_suited<M: Awaits<Waker = TaskId>>(
     behind: &[Act<M::Ask, M::Command>],
     later: &[Vec<Act<M::Ask, M::Command>>],
 ) -> bool
-    ensures { IsTrue result ↔ IsSuited M.meaning M.REQS act.now (behind.now ++ all_acts (map (λ acts. acts.items) later.now)) }
+    ensures { IsTrue result ↔ IsSuited M.semantics.meaning M.REQS act.now (behind.now ++ all_acts (map (λ acts. acts.items) later.now)) }
 {
     match act {
         Act::Await(r, _) => *r < M::REQS && !later_awaits_at(behind, later, *r),
@@ -57,7 +57,7 @@ fn is_suited_task<M: Awaits<Waker = TaskId>>(
     acts: &[Act<M::Ask, M::Command>],
     later: &[Vec<Act<M::Ask, M::Command>>],
 ) -> bool
-    ensures { let others = all_acts (map (λ acts. acts.items) later.now) in AreSuited M.meaning M.REQS (acts.now ++ others) ↔ (IsTrue result × AreSuited M.meaning M.REQS others) }
+    ensures { let others = all_acts (map (λ acts. acts.items) later.now) in AreSuited M.semantics.meaning M.REQS (acts.now ++ others) ↔ (IsTrue result × AreSuited M.semantics.meaning M.REQS others) }
 {
     let mut rest = acts;
     while let Some((act, behind)) = rest.split_first() {
@@ -72,7 +72,7 @@ fn is_suited_task<M: Awaits<Waker = TaskId>>(
 /// The tasks are ones that an executor takes: no number is used twice, each is one of the machine's, and no call starts or
 /// polls.
 pub fn are_suited<M: Awaits<Waker = TaskId>>(tasks: &[Vec<Act<M::Ask, M::Command>>]) -> bool
-    ensures { IsTrue result ↔ AreSuited M.meaning M.REQS (all_acts (map (λ acts. acts.items) tasks.now)) }
+    ensures { IsTrue result ↔ AreSuited M.semantics.meaning M.REQS (all_acts (map (λ acts. acts.items) tasks.now)) }
 {
     let mut rest = tasks;
     while let Some((acts, later)) = rest.split_first() {

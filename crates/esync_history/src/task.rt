@@ -91,7 +91,7 @@ pub fn put_back<A, C>(tasks: &[Task<A, C>], queue: &mut Queue, number: usize)
     }
 }
 
-/// The same of the tasks that the wakers name, in order.
+/// Puts the tasks that the wakers name at the back of the queue, in order, as `put_back` does.
 pub fn wake_all<A, C>(tasks: &[Task<A, C>], queue: &mut Queue, wakers: &[Option<TaskId>])
     requires { queue.old.room ≡ length tasks.now }
     ensures { queue.new ≡ record { room = queue.old.room; numbers = woken tasks.now queue.old.numbers (items_of wakers.now) } }

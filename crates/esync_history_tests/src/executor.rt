@@ -1,9 +1,8 @@
 use esync_base::waitqueue::TaskId;
+use esync_channel::channel::ChannelState;
 use esync_history::executor::{Act, Executor, NewError, Outcome};
 use esync_machine::run::Machine;
-use esync_run::channel::{
-    ChannelAsk, ChannelCall, ChannelCommand, ChannelHeard, ChannelRun, MailboxState,
-};
+use esync_run::channel::{ChannelAsk, ChannelCall, ChannelCommand, ChannelHeard, ChannelRun};
 use esync_run::primitive::{Answer, Command};
 use esync_run::requests::Requests;
 use std::alloc::{AllocError, Global};
@@ -17,7 +16,7 @@ type ChannelAct = Act<ChannelAsk<u32>, ChannelCommand<u32, TaskId>>;
 type Tasks = Vec<Vec<ChannelAct>>;
 
 fn channel() -> Channel {
-    Requests::new(MailboxState::new())
+    Requests::new(ChannelState::new())
 }
 
 fn receive(r: usize) -> ChannelAct {

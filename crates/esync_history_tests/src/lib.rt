@@ -1,6 +1,12 @@
-//! Executors over a channel: what no clause says, and each call once.
+//! Executors over the machines: what no clause says, and each call once.
 #![tactic(auto)]
 
 #[cfg(test)]
+mod cells;
+#[cfg(test)]
 mod executor;
+#[cfg(test)]
+mod permits;
+#[cfg(test)]
+mod priority;
 pub mod stalls;

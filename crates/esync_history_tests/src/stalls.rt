@@ -2,7 +2,8 @@
 ghost use Rattle.std.specs.Prelude.{◌≡◌};
 ghost use Rattle.esync_base.specs.Keeping.{BoundedList};
 ghost use Rattle.esync_machine.specs.Object.{Object, requests_meaning};
-ghost use Rattle.esync_run.specs.Channel.{channel_rules};
+ghost use Rattle.esync_machine.specs.declared.primitive.Command.TheVariants.{Start};
+ghost use Rattle.esync_channel.specs.ChannelRules.{channel_rules, channel_wakings};
 ghost use Rattle.esync_history.specs.Standing.{AreStalled};
 ghost use Rattle.esync_history.specs.Turns.{Ran, Tells};
 
@@ -19,9 +20,9 @@ pub fn run_tasks<T: Drop, const N: usize, const REQS: usize, const K: usize>(
     executor: &mut Executor<ChannelRun<T, TaskId, N, REQS, K>>,
     limit: usize,
 ) -> Outcome
-    ensures run { Ran ⟦<ChannelRun<T, TaskId, N, REQS, K> as Machine>⟧.meaning ⟦<ChannelRun<T, TaskId, N, REQS, K> as Machine>⟧.object ⟦<ChannelRun<T, TaskId, N, REQS, K> as Machine>⟧.Owes limit executor.old result executor.new }
+    ensures run { Ran ⟦<ChannelRun<T, TaskId, N, REQS, K> as Machine>⟧.semantics Start limit executor.old result executor.new }
     ensures outcome { Tells result executor.new }
-    ensures stalled { result ≡ Outcome.Stalled → AreStalled (requests_meaning (channel_rules (BoundedList T N)) TaskId ⟦<TaskId as PartialEq>⟧.eq K) (record { core = executor.new.machine.state.state.store; requests = executor.new.machine.requests }) executor.new.tasks }
+    ensures stalled { result ≡ Outcome.Stalled → AreStalled (requests_meaning (channel_rules (BoundedList T N)) (channel_wakings ⟦<TaskId as PartialEq>⟧.eq (BoundedList T N)) ⟦<TaskId as PartialEq>⟧.eq K) (record { core = executor.new.machine.state.store.items; requests = executor.new.machine.requests }) executor.new.tasks }
 {
     executor.run(limit)
 }

@@ -2,23 +2,30 @@
 use Rattle.std.proofs.Common.{◌≡◌, ℕ, Bool, true, false, List, [], Option, Some, None, ◌⊎◌, inl, inr, refl, sym, ap, ◌∙◌, subst}
 use Rattle.std.specs.Prelude.{slice_get, slice_set, IfSome}
 use Rattle.esync_base.specs.Registration.{IsAmong}
+use Rattle.esync_base.specs.ListedLaws.{same_or_not, true_or_false}
 use Rattle.esync_machine.specs.Numbers.{at_number, swept, IsTied, AllPairs}
+use Rattle.esync_machine.specs.NumbersLaws.{at_of, get_set_here, at_set_here, at_set_other, at_set, swept_at, at_swept}
 use Rattle.esync_machine.specs.declared.primitive.Answer.{Answer}
 use Rattle.esync_machine.specs.declared.primitive.Answer.TheVariants.{Done, Pending, NoSuch}
 use Rattle.esync_machine.specs.declared.primitive.Reach.{Reach}
 use Rattle.esync_machine.specs.declared.primitive.Reach.TheVariants.{Nobody, Number, Leavers}
 use Rattle.esync_machine.specs.declared.primitive.Command.{Command}
 use Rattle.esync_machine.specs.declared.primitive.Command.TheVariants.{Start, Poll, End, Call}
-use Rattle.esync_machine.specs.Rules.{Rules, IsApart, IsOwed, OwesAt, IsIdle, IdleIsPending, OnlyRequests, Finds, reach_of, ended, ended_by}
-use Rattle.esync_machine.specs.Object.{Object, Allows, AllowsAt, AllowsReach, Turns, IsLive, poll_of, end_of}
-use Rattle.esync_machine.specs.Idle.{polls_is}
+use Rattle.esync_machine.specs.Rules.{Rules, IsApart, IsOwed, OwesAt, Finds, reach_of, ended, ended_by}
+use Rattle.esync_machine.specs.Object.{AllowsAt, AllowsReach, found, poll_of, end_of}
+use Rattle.esync_machine.specs.Wakings.{Wakings, IsHanded, nothing, polled, called, handed_at}
+use Rattle.esync_machine.specs.IdleLaws.{polls_is}
 use Rattle.esync_machine.specs.Served.{Turned, Served}
-use Rattle.esync_machine.specs.Numbers.{same_or_not, at_of, get_set_here, at_set_here, at_set_other, at_set, swept_at}
-use Rattle.esync_machine.proofs.Tables.{true_or_false, at_swept}
 
 -- a command on a number may find anything
 pub finds_any : {Held : Type 0} (o : Reach) (r : ℕ) (p : Option Held) → o ≡ Number r → Finds o p
 finds_any o r p e = rw e tt
+
+-- a command on no number finds nothing
+found_nothing : {Held : Type 0} (o : Reach) → ((r : ℕ) → o ≡ Number r → ⊥) → (q : List (Option Held)) → found o q ≡ None
+found_nothing Nobody n q = refl
+found_nothing (Number r) n q = absurd (n r refl)
+found_nothing Leavers n q = refl
 
 module _ {Ask Held C A W : Type 0} (R : Rules Ask Held C A) where
   pub poll_number : (c : Command Ask W C) (r : ℕ) (w : W) → poll_of c ≡ Some (r, w) → reach_of R c ≡ Number r
@@ -43,31 +50,21 @@ module _ {Ask Held C A W : Type 0} (R : Rules Ask Held C A) where
   spares_alone o (End s) h e = refl
   spares_alone o (Call call) h e = rw (e, ended) refl
 
-module _ {Ask Held C A W S : Type 0} (R : Rules Ask Held C A) (core : S → R.Core) (Fits : S → Held → Type 0) (Apart : Held → Held → Type 0) (Owes : S → Held → W → Type 0) (same : W → W → Bool) where
-  -- nothing happened
-  pub nothing_turned : (s : S) (c : Command Ask W C) (p : Option Held) → Turns R (core s) c p NoSuch (core s) p → IfSome p (λ h. Fits s h) → Turned R core Fits Apart Owes same s c p NoSuch [] s p
-  nothing_turned s c p h fits = record {
-    allowed = h;
-    quiet = λ n r w e i j k m. let d : ⊥ = cc in d;
-    registered = λ r w e i. absurd cc;
-    own = λ w np ne o. inr o;
-    kept = λ other w f a b o. inr o;
-    fits = fits;
-    others = λ other f a b. (f, a);
-  }
-
+module _ {Ask Held C A W S : Type 0} (R : Rules Ask Held C A) (core : S → R.Core) (T : Wakings R.Core Held C A W) (registrations : S → T.Registered) (Fits : S → Held → Type 0) (Apart : Held → Held → Type 0) (Owes : S → Held → W → Type 0) (same : W → W → Bool) where
   pub poll_turned : (s s2 : S) (r : ℕ) (w : W) (h : Held) (a : Answer A) (p2 : Option Held) (wakes : List W)
       → R.polls (core s) h a (core s2) p2
+      → IsHanded (polled T (core s) (registrations s) h w a p2) wakes (registrations s2)
       → ((R.WakesItself → ⊥) → a ≡ Pending → core s2 ≡ core s → p2 ≡ Some h → IsAmong same w wakes → ⊥)
       → (a ≡ Pending → IsAmong same w wakes ⊎ IsOwed Owes s2 p2 w)
       → ((other : Held) (v : W) → Fits s other → Apart h other → Owes s other v → IsAmong same v wakes ⊎ Owes s2 other v)
       → IfSome p2 (λ k. Fits s2 k)
       → ((other : Held) → Fits s other → Apart h other → Fits s2 other × IsApart Apart p2 other)
-      → Turned R core Fits Apart Owes same s (Poll r w) (Some h) a wakes s2 p2
-  poll_turned s s2 r w h a p2 wakes polls quiet registered kept fits others = record {
+      → Turned R core T registrations Fits Apart Owes same s (Poll r w) (Some h) a wakes s2 p2
+  poll_turned s s2 r w h a p2 wakes polls exact quiet registers kept fits others = record {
     allowed = polls;
+    exact = exact;
     quiet = λ n t v e i j k m. let b : ◌≡◌ {A = ℕ × W} (r, w) (t, v) = cc in quiet n i j k (subst (λ x. IsAmong same x wakes) (ap (λ x. x.1) (sym b)) m);
-    registered = λ t v e i. let b : ◌≡◌ {A = ℕ × W} (r, w) (t, v) = cc in subst (λ x. IsAmong same x.1 wakes ⊎ IsOwed Owes s2 p2 x.1) b (registered i);
+    registered = λ t v e i. let b : ◌≡◌ {A = ℕ × W} (r, w) (t, v) = cc in subst (λ x. IsAmong same x.1 wakes ⊎ IsOwed Owes s2 p2 x.1) b (registers i);
     own = λ v np ne o. absurd (np r w refl);
     kept = λ other v f ap' b o. kept other v f ap' o;
     fits = fits;
@@ -76,11 +73,13 @@ module _ {Ask Held C A W S : Type 0} (R : Rules Ask Held C A) (core : S → R.Co
 
   pub end_turned : (s s2 : S) (r : ℕ) (h : Held) (wakes : List W)
       → R.ends (core s) h (core s2)
+      → IsHanded (T.ends (core s) (registrations s) h) wakes (registrations s2)
       → ((other : Held) (v : W) → Fits s other → Apart h other → Owes s other v → IsAmong same v wakes ⊎ Owes s2 other v)
       → ((other : Held) → Fits s other → Apart h other → Fits s2 other)
-      → Turned R core Fits Apart Owes same s (End r) (Some h) Done wakes s2 None
-  end_turned s s2 r h wakes ends kept others = record {
+      → Turned R core T registrations Fits Apart Owes same s (End r) (Some h) Done wakes s2 None
+  end_turned s s2 r h wakes ends exact kept others = record {
     allowed = (ends, refl, refl);
+    exact = exact;
     quiet = λ n t v e i j k m. let d : ⊥ = cc in d;
     registered = λ t v e i. absurd cc;
     own = λ v np ne o. absurd (ne r refl);
@@ -105,18 +104,25 @@ module _ {Ask Held C A W S : Type 0} (R : Rules Ask Held C A) (core : S → R.Co
   fits_at s q r None tied there = tt
   fits_at s q r (Some h) tied there = tied.0 r h (at_of q r (Some h) there)
 
-  module _ (symmetric : (h k : Held) → Apart h k → Apart k h) (s s2 : S) (q : List (Option Held)) (c : Command Ask W C) (a : Answer A) (wakes : List W) (tied : IsTied Fits Apart s q) where
-    -- a command on a number that is out of range
-    pub served_nowhere : (r : ℕ) → reach_of R c ≡ Number r → slice_get q r ≡ None → a ≡ NoSuch → s2 ≡ s → wakes ≡ [] → Served R core Fits Apart Owes same s q c NoSuch [] s q
-    served_nowhere r reach there e f g = record {
-      allowed = rw (reach, AllowsReach) (rw (there, AllowsAt) (refl, refl));
-      quiet = λ n t v p i j k m. let d : ⊥ = cc in d;
-      registered = λ t v p i. absurd cc;
-      kept = λ t v o np ne. inr o;
-      tied = tied;
-    }
+  nothing_nowhere : (o : R.Core) (g : T.Registered) (c : Command Ask W C) → nothing g ≡ handed_at T o g c None NoSuch None
+  nothing_nowhere o g (Start r ask) = refl
+  nothing_nowhere o g (Poll r w) = refl
+  nothing_nowhere o g (End r) = refl
+  nothing_nowhere o g (Call call) = refl
 
-    module _ (r : ℕ) (p p2 : Option Held) (reach : reach_of R c ≡ Number r) (there : slice_get q r ≡ Some p) (t : Turned R core Fits Apart Owes same s c p a wakes s2 p2) where
+  -- a command on a number that is out of range
+  pub served_nowhere : (s : S) (q : List (Option Held)) (c : Command Ask W C) (r : ℕ) → IsTied Fits Apart s q → reach_of R c ≡ Number r → slice_get q r ≡ None → Served R core T registrations Fits Apart Owes same s q c NoSuch [] s q
+  served_nowhere s q c r tied reach there = record {
+    allowed = rw (reach, AllowsReach) (rw (there, AllowsAt) (refl, refl));
+    exact = rw (reach, found) (rw there (subst (λ h. IsHanded h [] (registrations s)) (nothing_nowhere (core s) (registrations s) c) (refl, refl)));
+    quiet = λ n t v p i j k m. absurd cc;
+    registered = λ t v p i. absurd cc;
+    kept = λ t v o np ne. inr o;
+    tied = tied;
+  }
+
+  module _ (symmetric : (h k : Held) → Apart h k → Apart k h) (s s2 : S) (q : List (Option Held)) (c : Command Ask W C) (a : Answer A) (wakes : List W) (tied : IsTied Fits Apart s q) where
+    module _ (r : ℕ) (p p2 : Option Held) (reach : reach_of R c ≡ Number r) (there : slice_get q r ≡ Some p) (t : Turned R core T registrations Fits Apart Owes same s c p a wakes s2 p2) where
       others_at : (u : ℕ) (k : Held) → at_number q u ≡ Some k → (r ≡ u → ⊥) → Fits s2 k × IsApart Apart p2 k
       others_at u k e n = t.others k (tied.0 u k e) (apart_from q tied.1 r u p k there e n) (spares R (core s) c r k reach)
 
@@ -149,9 +155,10 @@ module _ {Ask Held C A W S : Type 0} (R : Rules Ask Held C A) (core : S → R.Co
       same_number : (u : ℕ) → reach_of R c ≡ Number u → r ≡ u
       same_number u e = (let f = sym reach ∙ e in cc)
 
-      pub served_number : Served R core Fits Apart Owes same s q c a wakes s2 (slice_set q r p2)
+      pub served_number : Served R core T registrations Fits Apart Owes same s q c a wakes s2 (slice_set q r p2)
       served_number = record {
         allowed = rw (reach, AllowsReach) (rw (there, AllowsAt) (core s2, p2, t.allowed, refl));
+        exact = rw (reach, found) (rw (at_of q r p there, here) t.exact);
         quiet = λ n u w e i j k m.
             let b : Some p2 ≡ Some p = sym (get_set_here q r p p2 there) ∙ ap (λ l. slice_get l r) k ∙ there in
             let d : p2 ≡ p = cc in t.quiet n u w e i j d m;
@@ -179,7 +186,7 @@ module _ {Ask Held C A W S : Type 0} (R : Rules Ask Held C A) (core : S → R.Co
         tied = tied_after;
       }
 
-    module _ (p2 : Option Held) (no_number : (r : ℕ) → reach_of R c ≡ Number r → ⊥) (t : Turned R core Fits Apart Owes same s c None a wakes s2 p2) where
+    module _ (p2 : Option Held) (no_number : (r : ℕ) → reach_of R c ≡ Number r → ⊥) (t : Turned R core T registrations Fits Apart Owes same s c None a wakes s2 p2) where
       kept_alone : (u : ℕ) (w : W) (o : Option Held) → at_number q u ≡ o → ((h : Held) → o ≡ Some h → ended_by R (core s) c h ≡ true → ⊥) → OwesAt Fits Owes s o w → IsAmong same w wakes ⊎ OwesAt Fits Owes s2 (at_number (swept (ended_by R (core s) c) q) u) w
       kept_alone u w None e n h = absurd h
       kept_alone u w (Some k) e n h =
@@ -196,9 +203,16 @@ module _ {Ask Held C A W S : Type 0} (R : Rules Ask Held C A) (core : S → R.Co
       allowed_alone (Number r) e = absurd (no_number r e)
       allowed_alone Leavers e = (core s2, p2, t.allowed, refl)
 
-      pub served_alone : Served R core Fits Apart Owes same s q c a wakes s2 (swept (ended_by R (core s) c) q)
+      handed_alone : (d : Command Ask W C) → ((r : ℕ) → reach_of R d ≡ Number r → ⊥) → (q2 : List (Option Held)) → handed_at T (core s) (registrations s) d None a p2 ≡ handed_at T (core s) (registrations s) d (found (reach_of R d) q) a (found (reach_of R d) q2)
+      handed_alone (Start r ask) n q2 = refl
+      handed_alone (Poll r w) n q2 = absurd (n r refl)
+      handed_alone (End r) n q2 = absurd (n r refl)
+      handed_alone (Call call) n q2 = ap (λ p. called T (core s) (registrations s) call p a) (sym (found_nothing (R.reach call) n q))
+
+      pub served_alone : Served R core T registrations Fits Apart Owes same s q c a wakes s2 (swept (ended_by R (core s) c) q)
       served_alone = record {
         allowed = allowed_alone (reach_of R c) refl;
+        exact = subst (λ h. IsHanded h wakes (registrations s2)) (handed_alone c no_number (swept (ended_by R (core s) c) q)) t.exact;
         quiet = λ n u w e i j k m. absurd (no_number u (poll_number R c u w e));
         registered = λ u w e i. absurd (no_number u (poll_number R c u w e));
         kept = λ u w o np ne. kept_alone u w (at_number q u) refl (λ h e b. ne (inr (h, e, b))) o;
@@ -207,30 +221,3 @@ module _ {Ask Held C A W S : Type 0} (R : Rules Ask Held C A) (core : S → R.Co
           (λ u v k l e f n. tied.1 u v k l (swept_at (ended_by R (core s) c) q u k e).0 (swept_at (ended_by R (core s) c) q v l f).0 n),
         );
       }
-
-  -- the clauses of a step that the laws give
-  pending_at : IdleIsPending R → (o : Object R.Core Held) (r : ℕ) (w : W) (p : Option (Option Held)) (a b : Answer A) (o2 : Object R.Core Held) → slice_get o.requests r ≡ p → b ≡ Pending → AllowsAt R o (Poll r w) r p b o → AllowsAt R o (Poll r w) r p a o2 → (a ≡ Pending) × (o2 ≡ o)
-  pending_at law o r w None a b o2 at e h k = (let f = h.0 in absurd cc)
-  pending_at law o r w (Some None) a b o2 at e h k = (let f = h.2.0 in absurd cc)
-  pending_at law o r w (Some (Some x)) a b o2 at e h k =
-      let c : o.core ≡ h.0 = ap (λ z. z.core) h.3 in
-      let g : Some (Some x) ≡ Some h.1 = sym at ∙ ap (λ z. slice_get z.requests r) h.3 ∙ get_set_here o.requests r (Some x) h.1 at in
-      let p : Some x ≡ h.1 = cc in
-      let i : IsIdle R o.core x = subst (λ z. R.polls o.core x z o.core (Some x)) e (subst (λ z. R.polls o.core x b z (Some x)) (sym c) (subst (λ z. R.polls o.core x b h.0 z) (sym p) h.2)) in
-      let d = law o.core x a k.0 k.1 i k.2 in
-      (d.0, k.3 ∙ ap (λ z. record { core = z; requests = slice_set o.requests r k.1 }) d.1 ∙ ap (λ z. record { core = o.core; requests = slice_set o.requests r z }) (d.2 ∙ p) ∙ sym (subst (λ z. o ≡ record { core = z; requests = slice_set o.requests r h.1 }) (sym c) h.3))
-
-  no_such_at : OnlyRequests R → (o : Object R.Core Held) (r : ℕ) (w : W) (p : Option (Option Held)) (a : Answer A) (o2 : Object R.Core Held) → slice_get o.requests r ≡ p → (IsLive R o r → ⊥) → AllowsAt R o (Poll r w) r p a o2 → a ≡ NoSuch
-  no_such_at law o r w None a o2 at n k = k.0
-  no_such_at law o r w (Some None) a o2 at n k = k.2.0
-  no_such_at law o r w (Some (Some x)) a o2 at n k = law o.core x a k.0 k.1 (λ i. n (x, at_of o.requests r (Some x) at, i)) k.2
-
-  pub pending_here : IdleIsPending R → (o : Object R.Core Held) (c : Command Ask W C) (r : ℕ) (w : W) (a b : Answer A) (o2 : Object R.Core Held) → poll_of c ≡ Some (r, w) → b ≡ Pending → Allows R o c b o → Allows R o c a o2 → (a ≡ Pending) × (o2 ≡ o)
-  pending_here law o c r w a b o2 polls e h k =
-      let p = polls_is c r w polls in
-      pending_at law o r w (slice_get o.requests r) a b o2 refl e (rw p at h) (rw p at k)
-
-  pub no_such_here : OnlyRequests R → (o : Object R.Core Held) (c : Command Ask W C) (r : ℕ) (w : W) (a : Answer A) (o2 : Object R.Core Held) → poll_of c ≡ Some (r, w) → (IsLive R o r → ⊥) → Allows R o c a o2 → a ≡ NoSuch
-  no_such_here law o c r w a o2 polls n k =
-      let p = polls_is c r w polls in
-      no_such_at law o r w (slice_get o.requests r) a o2 refl n (rw p at k)

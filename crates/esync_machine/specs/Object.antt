@@ -10,6 +10,7 @@ use Rattle.esync_machine.specs.declared.primitive.Reach.TheVariants.{Nobody, Num
 use Rattle.esync_machine.specs.declared.primitive.Command.{Command}
 use Rattle.esync_machine.specs.declared.primitive.Command.TheVariants.{Start, Poll, End, Call}
 use Rattle.esync_machine.specs.Rules.{Rules, reach_of, ended_by}
+use Rattle.esync_machine.specs.Wakings.{Wakings, Handed, handed_at}
 
 pub record Object (Core Held : Type 0) : Type 0 where
   pub core : Core
@@ -39,6 +40,12 @@ end_of (Start r ask) = None
 end_of (Poll r w) = None
 end_of (Call call) = None
 
+-- what stands at the number that a command concerns
+abbrev pub found : {Held : Type 0} → Reach → List (Option Held) → Option Held
+found (Number r) q = at_number q r
+found Nobody q = None
+found Leavers q = None
+
 module _ {Ask Held C A : Type 0} (R : Rules Ask Held C A) where
   -- it names what isn't there, and nothing changes
   abbrev pub Nowhere : R.Core → Option Held → Answer A → R.Core → Option Held → Type 0
@@ -54,10 +61,14 @@ module _ {Ask Held C A : Type 0} (R : Rules Ask Held C A) where
   Turns o (End r) (Some h) a o2 p2 = R.ends o h o2 × (a ≡ Done) × (p2 ≡ None)
   Turns o (Call call) p a o2 p2 = R.calls o call p a o2 p2
 
+  -- the object with another core, and something else at the number
+  abbrev pub written : Object R.Core Held → ℕ → R.Core → Option Held → Object R.Core Held
+  written o r core p = record { core = core; requests = slice_set o.requests r p }
+
   -- a command on one number, which is out of range or has this place: all other numbers stay
   abbrev pub AllowsAt : {W : Type 0} → Object R.Core Held → Command Ask W C → ℕ → Option (Option Held) → Answer A → Object R.Core Held → Type 0
   AllowsAt o c r None a o2 = (a ≡ NoSuch) × (o2 ≡ o)
-  AllowsAt o c r (Some p) a o2 = (core : R.Core) × (p2 : Option Held) × Turns o.core c p a core p2 × (o2 ≡ record { core = core; requests = slice_set o.requests r p2 })
+  AllowsAt o c r (Some p) a o2 = (core : R.Core) × (p2 : Option Held) × Turns o.core c p a core p2 × (o2 ≡ written o r core p2)
 
   -- a command on no number: all stay but those that it ends
   abbrev pub AllowsAlone : {W : Type 0} → Object R.Core Held → Command Ask W C → Answer A → Object R.Core Held → Type 0
@@ -78,15 +89,20 @@ module _ {Ask Held C A : Type 0} (R : Rules Ask Held C A) where
   abbrev pub IsLive : Object R.Core Held → ℕ → Type 0
   IsLive o r = (h : Held) × (at_number o.requests r ≡ Some h) × R.IsRequest h
 
-  -- what a machine of these rules means
-  abbrev pub requests_meaning : (W : Type 0) → (W → W → Bool) → (K : ℕ) → Meaning (Command Ask W C) (Reply (Answer A) W K) W
-  requests_meaning W same K = record {
+  abbrev pub handed : {W : Type 0} (T : Wakings R.Core Held C A W) → Object R.Core Held → T.Registered → Command Ask W C → Answer A → Object R.Core Held → Handed T.Registered W
+  handed T o g c a o2 = handed_at T o.core g c (found (reach_of R c) o.requests) a (found (reach_of R c) o2.requests)
+
+  -- what a machine of these rules and wakes means
+  abbrev pub requests_meaning : {W : Type 0} → Wakings R.Core Held C A W → (W → W → Bool) → (K : ℕ) → Meaning (Command Ask W C) (Reply (Answer A) W K) W
+  requests_meaning T same K = record {
     Object = Object R.Core Held;
     allows = λ o c a o2. Allows o c a.answer o2;
     polls = poll_of;
     Ends = Ends;
     IsPending = λ a. a.answer ≡ Pending;
     wakes = λ a. a.wakes;
+    Registered = T.Registered;
+    handed = λ o g c a o2. handed T o g c a.answer o2;
     same = same;
     starts = start_of;
     ends = end_of;

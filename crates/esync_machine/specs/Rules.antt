@@ -1,6 +1,5 @@
 -- What a primitive means, a request at a time and without numbers.
 use Rattle.std.specs.Prelude.{◌≡◌, Bool, false, Option, Some, None}
-use Rattle.std.proofs.Common.{sym}
 use Rattle.esync_machine.specs.declared.primitive.Answer.{Answer}
 use Rattle.esync_machine.specs.declared.primitive.Answer.TheVariants.{Pending, NoSuch}
 use Rattle.esync_machine.specs.declared.primitive.Reach.{Reach}
@@ -64,13 +63,6 @@ module _ {Ask Held C A : Type 0} (R : Rules Ask Held C A) where
   pub record MakesNoRequests : Type 0 where
     pub polls : (o o2 : R.Core) (h h2 : Held) (a : Answer A) → R.polls o h a o2 (Some h2) → R.IsRequest h2 → R.IsRequest h
     pub calls : (o o2 : R.Core) (call : C) (p : Option Held) (a : Answer A) (h2 : Held) → R.calls o call p a o2 (Some h2) → R.IsRequest h2 → (h : Held) × (p ≡ Some h) × R.IsRequest h
-
-  -- where all that stands at a number are requests, and no call leaves another there
-  pub all_requests : ((h : Held) → R.IsRequest h) → ((o o2 : R.Core) (call : C) (p p2 : Option Held) (a : Answer A) → R.calls o call p a o2 p2 → p2 ≡ p) → MakesNoRequests
-  all_requests is_request stays = record {
-    polls = λ o o2 h h2 a polls live. is_request h;
-    calls = λ o o2 call p a h2 calls live. (h2, sym (stays o o2 call p (Some h2) a calls), is_request h2);
-  }
 
   abbrev pub OnlyRequests : Type 0
   OnlyRequests = (o : R.Core) (h : Held) (a : Answer A) (o2 : R.Core) (p : Option Held) → (R.IsRequest h → ⊥) → R.polls o h a o2 p → a ≡ NoSuch

@@ -1,6 +1,7 @@
--- Runs of a machine, and the two laws of its wakes. Nothing here speaks of a registration.
-use Rattle.std.specs.Prelude.{◌≡◌, ℕ, Bool, List, [], ◌∷◌, ◌++◌, Option, Some, None, ◌⊎◌}
+-- Runs of a machine, its table of wakes, and the two laws of its wakes, which speak of no registration.
+use Rattle.std.specs.Prelude.{◌≡◌, ℕ, Bool, List, [], ◌∷◌, ◌++◌, map, Option, Some, ◌⊎◌}
 use Rattle.esync_base.specs.Registration.{IsAmong}
+use Rattle.esync_machine.specs.Wakings.{Handed}
 
 -- What a machine means: the objects, and which step each of them allows.
 pub record Meaning (Command Reply Waker : Type 0) : Type 1 where
@@ -14,6 +15,10 @@ pub record Meaning (Command Reply Waker : Type 0) : Type 1 where
   pub IsPending : Reply → Type 0
   -- the wakers that were handed out, in order
   pub wakes : Reply → List Waker
+  -- which wakers are registered where
+  pub Registered : Type 0
+  -- which wakers a step hands out, from the object before it to that after it, and which are registered after it
+  pub handed : Object → Registered → Command → Reply → Object → Handed Registered Waker
   -- whether two wakers are equal
   pub same : Waker → Waker → Bool
   -- the number of a request that the command makes
@@ -61,6 +66,15 @@ module _ {Command Reply Waker : Type 0} (M : Meaning Command Reply Waker) where
   abbrev pub IsIdle : M.Object → ℕ → Type 0
   IsIdle o r = (c : Command) (w : Waker) → M.polls c ≡ Some (r, w) → (a : Reply) × M.IsPending a × M.allows o c a o
 
+  -- where Pending with the object left as it is is allowed for a poll, nothing else is
+  abbrev pub IdleIsPending : Type 0
+  IdleIsPending =
+      (o o2 : M.Object) (c : Command) (r : ℕ) (w : Waker) (a b : Reply) → M.polls c ≡ Some (r, w) → M.IsPending a → M.allows o c a o → M.allows o c b o2 → M.IsPending b × (o2 ≡ o)
+
+  -- a poll of what is no live request names what isn't there
+  abbrev pub OnlyLiveArePolled : Type 0
+  OnlyLiveArePolled = (o o2 : M.Object) (c : Command) (r : ℕ) (w : Waker) (a : Reply) → M.polls c ≡ Some (r, w) → (M.IsLive o r → ⊥) → M.allows o c a o2 → M.IsNoSuch a
+
   abbrev pub Polls : Command → ℕ → Type 0
   Polls c r = (w : Waker) × (M.polls c ≡ Some (r, w))
 
@@ -91,11 +105,15 @@ module _ {Command Reply Waker : Type 0} (M : Meaning Command Reply Waker) where
   object_after s [] = s.after
   object_after s (t ∷ steps) = object_after t steps
 
-  -- At every beginning of the run a request that waits and is due was woken.
-  abbrev pub NoLostWake : List (Step M.Object Command Reply) → Type 0
-  NoLostWake steps =
+  -- At every beginning of the run a request that waits, and of which this holds, was woken.
+  abbrev pub AreWoken : (M.Object → ℕ → Type 0) → List (Step M.Object Command Reply) → Type 0
+  AreWoken Is steps =
       (beginning rest : List (Step M.Object Command Reply)) → steps ≡ beginning ++ rest
-      → (r : ℕ) (p : LastPoll beginning r) → IsWaiting beginning r p → IsDue (object_after p.poll p.later) r → IsWoken beginning r p
+      → (r : ℕ) (p : LastPoll beginning r) → IsWaiting beginning r p → Is (object_after p.poll p.later) r → IsWoken beginning r p
+
+  -- Every request that waits and is due was woken, and so was every one that is ready.
+  abbrev pub NoLostWake : List (Step M.Object Command Reply) → Type 0
+  NoLostWake steps = AreWoken IsDue steps × AreWoken IsReady steps
 
   -- A poll that answers Pending and leaves the object as it was doesn't hand out its own waker.
   abbrev pub IsQuiet : M.Object → Command → Reply → M.Object → Type 0
@@ -104,30 +122,45 @@ module _ {Command Reply Waker : Type 0} (M : Meaning Command Reply Waker) where
   abbrev pub NoIdleSelfWake : List (Step M.Object Command Reply) → Type 0
   NoIdleSelfWake steps = Each (λ s. IsQuiet s.before s.command s.reply s.after) steps
 
-  -- these answers to these commands
-  abbrev pub Answers : List Command → List Reply → List (Step M.Object Command Reply) → Type 0
-  Answers [] [] [] = Unit {0}
-  Answers (c ∷ cs) (a ∷ as') (s ∷ steps) = (s.command ≡ c) × (s.reply ≡ a) × Answers cs as' steps
-  Answers [] [] (s ∷ steps) = ⊥
-  Answers [] (a ∷ as') steps = ⊥
-  Answers (c ∷ cs) [] steps = ⊥
-  Answers (c ∷ cs) (a ∷ as') [] = ⊥
+  -- the wakers that are registered after the steps, where these are before them
+  abbrev pub registered_after : M.Registered → List (Step M.Object Command Reply) → M.Registered
+  registered_after g [] = g
+  registered_after g (s ∷ steps) = registered_after (M.handed s.before g s.command s.reply s.after).after steps
 
-  -- The answers to the commands are those of a run with both laws.
-  pub record GoodRun (old : M.Object) (commands : List Command) (replies : List Reply) (new : M.Object) : Type 0 where
+  -- Each step hands out the wakers that the table of wakes says, no others and in this order.
+  abbrev pub HandsOutExactly : M.Registered → List (Step M.Object Command Reply) → Type 0
+  HandsOutExactly g [] = Unit {0}
+  HandsOutExactly g (s ∷ steps) =
+      (M.wakes s.reply ≡ (M.handed s.before g s.command s.reply s.after).wakes) × HandsOutExactly (M.handed s.before g s.command s.reply s.after).after steps
+
+  -- the steps are these commands with these answers
+  abbrev pub Answers : List Command → List Reply → List (Step M.Object Command Reply) → Type 0
+  Answers commands replies steps = (commands ≡ map (λ s. s.command) steps) × (replies ≡ map (λ s. s.reply) steps)
+
+  -- The answers to the commands are those of a run with both laws, and the wakes are those of the table.
+  pub record GoodRun (old : M.Object) (before : M.Registered) (commands : List Command) (replies : List Reply) (new : M.Object) (after : M.Registered) : Type 0 where
     pub steps : List (Step M.Object Command Reply)
     pub answers : Answers commands replies steps
     pub run : IsRun old steps new
     pub no_lost_wake : NoLostWake steps
     pub no_idle_self_wake : (M.WakesItself → ⊥) → NoIdleSelfWake steps
+    pub wakes : HandsOutExactly before steps
+    pub registered : after ≡ registered_after before steps
 
-  -- What the commands do to the requests.
-  pub record KeepsRequests : Type 0 where
-    -- a start polls nothing
-    pub apart : (c : Command) (r : ℕ) → M.starts c ≡ Some r → M.polls c ≡ None
-    -- a command ends a request or doesn't
-    pub decided : (o : M.Object) (c : Command) (r : ℕ) → M.Ends o c r ⊎ (M.Ends o c r → ⊥)
-    -- a request that was ended is gone
-    pub gone : (o o2 : M.Object) (c : Command) (a : Reply) (r : ℕ) → M.allows o c a o2 → M.Ends o c r → M.IsLive o2 r → ⊥
-    -- a request is there if it was there before, or was started
-    pub made : (o o2 : M.Object) (c : Command) (a : Reply) (r : ℕ) → M.allows o c a o2 → M.IsLive o2 r → (M.starts c ≡ Some r) ⊎ M.IsLive o r
+-- A machine: what it means, and how its states are read.
+pub record Semantics (S Command Reply Waker : Type 0) : Type 1 where
+  pub meaning : Meaning Command Reply Waker
+  pub object : S → meaning.Object
+  -- which wakers are registered where
+  pub registrations : S → meaning.Registered
+  -- the waker is registered where it will be handed out for the request, which is live and not due
+  pub Owes : S → ℕ → Waker → Type 0
+
+module _ {S Command Reply Waker : Type 0} (X : Semantics S Command Reply Waker) where
+  -- The same of a machine's states.
+  abbrev pub GoodRunOf : S → List Command → List Reply → S → Type 0
+  GoodRunOf old commands replies new = GoodRun X.meaning (X.object old) (X.registrations old) commands replies (X.object new) (X.registrations new)
+
+  -- to whom a waker is owed, a poll may now be answered Pending with the object left as it is
+  abbrev pub OwedAreIdle : Type 0
+  OwedAreIdle = (m : S) (r : ℕ) (w : Waker) → X.Owes m r w → IsIdle X.meaning (X.object m) r

@@ -1,7 +1,8 @@
 //! Primitives, which see one of their requests at a time and no number.
-ghost use Rattle.std.specs.Prelude.{◌≡◌, ℕ, [], Some, None, false, IfSome, ◌⊎◌};
+ghost use Rattle.std.specs.Prelude.{◌≡◌, ◌≤◌, ℕ, [], Some, None, false, IfSome, ◌⊎◌};
 ghost use Rattle.esync_base.specs.Registration.{IsAmong};
 ghost use Rattle.esync_machine.specs.Rules.{Rules, IsApart, IsOwed, IsIdle, IdleIsPending, OnlyRequests, MakesNoRequests, Finds, ended};
+ghost use Rattle.esync_machine.specs.Wakings.{Wakings, IsHanded, polled, called};
 
 use esync_base::waitqueue::Wakes;
 
@@ -95,6 +96,15 @@ pub trait Primitive<const K: usize> {
     /// Its object, without the requests.
     ghost core: { Self → rules.Core };
 
+    /// The table of its wakes.
+    ghost wakings: { Wakings rules.Core Self.Held Self.Call Self.Heard Self.Waker };
+
+    /// Which wakers are registered where.
+    ghost registrations: { Self → wakings.Registered };
+
+    /// The greatest number of wakers that a step hands out.
+    ghost most: { ℕ };
+
     /// The waker is registered where it will be handed out for the request, which is not due.
     ghost Owes: { Self → Self.Held → Self.Waker → Type 0 };
 
@@ -110,6 +120,7 @@ pub trait Primitive<const K: usize> {
         ensures fits { IfSome result (λ held. Fits self.now held) }
         ensures others { (other : Self.Held) → Fits self.now other → IsApart Apart result other };
 
+    /// Polls the request with the waker, and tells what stands at its number then.
     fn poll(
         &mut self,
         held: Self::Held,
@@ -117,18 +128,23 @@ pub trait Primitive<const K: usize> {
         wakes: &mut Wakes<Self::Waker, K>,
     ) -> Turn<Self::Heard, Self::Held>
         requires empty { wakes.old ≡ [] }
+        requires room { most ≤ K }
         requires fits { Fits self.old held }
         ensures allowed { rules.polls (core self.old) held result.answer (core self.new) result.place }
+        ensures exact { IsHanded (polled wakings (core self.old) (registrations self.old) held waker result.answer result.place) wakes.new (registrations self.new) }
         ensures quiet { (rules.WakesItself → ⊥) → result.answer ≡ Answer.Pending → core self.new ≡ core self.old → result.place ≡ Some held → IsAmong Self.Waker.eq waker wakes.new → ⊥ }
         ensures registered { result.answer ≡ Answer.Pending → IsAmong Self.Waker.eq waker wakes.new ⊎ IsOwed Owes self.new result.place waker }
         ensures kept { (other : Self.Held) (v : Self.Waker) → Fits self.old other → Apart held other → Owes self.old other v → IsAmong Self.Waker.eq v wakes.new ⊎ Owes self.new other v }
         ensures fits { IfSome result.place (λ after. Fits self.new after) }
         ensures others { (other : Self.Held) → Fits self.old other → Apart held other → Fits self.new other × IsApart Apart result.place other };
 
+    /// Ends what stands at a number, which is free then.
     fn end(&mut self, held: Self::Held, wakes: &mut Wakes<Self::Waker, K>)
         requires empty { wakes.old ≡ [] }
+        requires room { most ≤ K }
         requires fits { Fits self.old held }
         ensures allowed { rules.ends (core self.old) held (core self.new) }
+        ensures exact { IsHanded (wakings.ends (core self.old) (registrations self.old) held) wakes.new (registrations self.new) }
         ensures kept { (other : Self.Held) (v : Self.Waker) → Fits self.old other → Apart held other → Owes self.old other v → IsAmong Self.Waker.eq v wakes.new ⊎ Owes self.new other v }
         ensures others { (other : Self.Held) → Fits self.old other → Apart held other → Fits self.new other };
 
@@ -148,9 +164,11 @@ pub trait Primitive<const K: usize> {
         wakes: &mut Wakes<Self::Waker, K>,
     ) -> Answer<Self::Heard>
         requires empty { wakes.old ≡ [] }
+        requires room { most ≤ K }
         requires finds { Finds (rules.reach call) place.old }
         requires fits { IfSome place.old (λ held. Fits self.old held) }
         ensures allowed { rules.calls (core self.old) call place.old result (core self.new) place.new }
+        ensures exact { IsHanded (called wakings (core self.old) (registrations self.old) call place.old result) wakes.new (registrations self.new) }
         ensures own { (v : Self.Waker) → IsOwed Owes self.old place.old v → IsAmong Self.Waker.eq v wakes.new ⊎ IsOwed Owes self.new place.new v }
         ensures kept { (other : Self.Held) (v : Self.Waker) → Fits self.old other → IsApart Apart place.old other → ended rules (core self.old) (rules.reach call) call other ≡ false → Owes self.old other v → IsAmong Self.Waker.eq v wakes.new ⊎ Owes self.new other v }
         ensures fits { IfSome place.new (λ after. Fits self.new after) }

@@ -1,129 +1,132 @@
 -- The entries of a queue.
-use Rattle.std.proofs.Common.{◌≡◌, ℕ, suc, ◌+◌, ◌<◌, ◌≤◌, Bool, true, false, List, [], ◌∷◌, ◌++◌, length, get_or, set, take, drop, Option, Some, refl, sym, ◌∙◌, ap, arith, add-one, ◌⊎◌, inl, inr, below_more, subst}
-use Rattle.std.specs.Prelude.{◌==◌, ◌||◌, is_some, map, eqb}
-use Rattle.std.specs.List.{list_any, refill}
-use Rattle.std.proofs.lemmas.Map.Steps.{le-length_from_below}
-use Rattle.std.proofs.lemmas.List.{set_split, drop_more, length-map, length_push, take_at}
-use Rattle.std.proofs.lemmas.Bool.Decides.{nat_tests}
+use Rattle.std.proofs.Common.{◌≡◌, ℕ, zero, suc, ◌+◌, ◌<◌, Bool, true, false, List, [], ◌∷◌, ◌++◌, length, get_or, take, drop, refl, sym, ◌∙◌, ap, subst, arith, add-one, inl, inr}
+use Rattle.std.specs.Prelude.{◌==◌, ◌||◌, map, slice_get, slice_set, Some, None, IsTrue, ◌↔◌, if◌then◌else◌}
+use Rattle.std.specs.List.{remove}
 use Rattle.esync_permits.specs.declared.queue.Entry.{Entry}
-use Rattle.esync_permits.specs.Queue.{has_number, is_front, with_waker, from_waiting, IsLeastFree, IsDistinct, FrontWaits, IsQueue}
+use Rattle.esync_base.specs.Listed.{is_in}
+use Rattle.esync_permits.specs.Queue.{without, is_front, is_next, numbers, wakers_at, front_wakers, entered, with_waker, left_by, StandsAt}
+use Rattle.esync_base.specs.ListedLaws.{true_or_false, neither, equal_number, unequal_number}
+use Rattle.esync_permits.proofs.Numbers.{not_another}
 
-true_or_false : (b : Bool) → (b ≡ true) ⊎ (b ≡ false)
-true_or_false true = inl refl
-true_or_false false = inr refl
+module _ {W : Type 0} where
+  pub numbers-entered : (t : ℕ) (w : W) (es : List (Entry W)) → numbers (entered t w es) ≡ numbers es ++ t ∷ []
+  numbers-entered t w [] = refl
+  numbers-entered t w (e ∷ es) = ap (λ xs. e.number ∷ xs) (numbers-entered t w es)
 
-with_waker-here : {W : Type 0} (t : ℕ) (w : Option W) (e : Entry W) (es : List (Entry W)) → e.number ≡ t → with_waker t w (e ∷ es) ≡ record { number = e.number; waker = w } ∷ es
-with_waker-here t w e es h = grind (arith, nat_tests)
+  -- another waker is no change of the numbers
+  pub numbers-with_waker : (t : ℕ) (w : W) (es : List (Entry W)) → numbers (with_waker t w es) ≡ numbers es
+  numbers-with_waker t w [] = refl
+  numbers-with_waker t w (e ∷ es) = elim (true_or_false (e.number == t)) [ inl i ↦ rw i refl | inr i ↦ rw i (ap (λ xs. e.number ∷ xs) (numbers-with_waker t w es)) ]
 
--- the write at the entry of this number
-pub set-with_waker : {W : Type 0} (t : ℕ) (w : Option W) (es : List (Entry W)) (i : ℕ) (d : Entry W) → i < length es → (get_or es i d).number ≡ t → take i es ++ with_waker t w (drop i es) ≡ with_waker t w es → set es i (record { number = (get_or es i d).number; waker = w }) ≡ with_waker t w es
-set-with_waker t w es i d l h e =
-    set_split es i _ l
-    ∙ ap (λ n. take i es ++ record { number = (get_or es i d).number; waker = w } ∷ drop n es) (sym (add-one i))
-    ∙ ap (λ (x : List (Entry _)). take i es ++ x) (sym (with_waker-here t w (get_or es i d) (drop (i + 1) es) h))
-    ∙ ap (λ (x : List (Entry _)). take i es ++ with_waker t w x) (sym (drop_more es i d l))
-    ∙ e
+  pub numbers-left_by : (t : ℕ) (es : List (Entry W)) → numbers (left_by t es) ≡ without t (numbers es)
+  numbers-left_by t [] = refl
+  numbers-left_by t (e ∷ es) = elim (true_or_false (e.number == t)) [ inl i ↦ rw i refl | inr i ↦ rw i (ap (λ xs. e.number ∷ xs) (numbers-left_by t es)) ]
 
-has_number-map : {W : Type 0} (k : ℕ) (es : List (Entry W)) → list_any (eqb k) (map (λ e. e.number) es) ≡ has_number k es
-has_number-map k [] = refl
-has_number-map k (e ∷ es) = rw (has_number-map k es) (ap (λ b. b || has_number k es) (grind (arith, nat_tests)))
+  pub left_by-front : (t : ℕ) (es : List (Entry W)) → is_front t (numbers es) ≡ true → left_by t es ≡ drop 1 es
+  left_by-front t [] h = refl
+  left_by-front t (e ∷ es) h = rw h refl
 
--- entries that have every number below n are at least n
-all_below : {W : Type 0} (es : List (Entry W)) (n : ℕ) → ((k : ℕ) → k < n → has_number k es ≡ true) → n ≤ length es
-all_below es n h =
-    let l = le-length_from_below (map (λ e. e.number) es) n (λ k i. has_number-map k es ∙ h k i) in
-    rw (length-map es (λ e. e.number)) at l
+  pub wakers_at-entered : (t : ℕ) (w : W) (es : List (Entry W)) → is_in t (numbers es) ≡ false → wakers_at t (entered t w es) ≡ w ∷ []
+  wakers_at-entered t w [] h = rw (equal_number t t refl) refl
+  wakers_at-entered t w (e ∷ es) h = (let o = neither (e.number == t) (is_in t (numbers es)) h in rw o.0 (wakers_at-entered t w es o.1))
 
--- where the entries have every number below their length, that length is free
-pub length_free : {W : Type 0} (es : List (Entry W)) → ((k : ℕ) → k < length es → has_number k es ≡ true) → IsLeastFree (length es) es
-length_free es h = record {
-  free = elim (true_or_false (has_number (length es) es)) [
-    | inl e ↦ absurd (let l = all_below es (length es + 1) (below_more (λ k. has_number k es ≡ true) (length es) h e) in omega arith)
-    | inr e ↦ e
-  ];
-  least = h;
-}
+  pub wakers_at-append : (u t : ℕ) (w : W) (es : List (Entry W)) → is_in u (numbers es) ≡ true → wakers_at u (entered t w es) ≡ wakers_at u es
+  wakers_at-append u t w [] h = absurd cc
+  wakers_at-append u t w (e ∷ es) h = elim (true_or_false (e.number == u)) [ inl i ↦ rw i refl | inr i ↦ rw i (wakers_at-append u t w es (rw i at h)) ]
 
-has_number-enter : {W : Type 0} (k : ℕ) (es : List (Entry W)) (e : Entry W) → has_number k (es ++ e ∷ []) ≡ (has_number k es || e.number == k)
-has_number-enter k [] e = grind (arith, nat_tests)
-has_number-enter k (x ∷ es) e = rw (has_number-enter k es e) (grind (arith, nat_tests))
+  pub wakers_at-same : (t : ℕ) (w : W) (es : List (Entry W)) → is_in t (numbers es) ≡ true → wakers_at t (with_waker t w es) ≡ w ∷ []
+  wakers_at-same t w [] h = absurd cc
+  wakers_at-same t w (e ∷ es) h = elim (true_or_false (e.number == t)) [ inl i ↦ rw i (rw i refl) | inr i ↦ rw i (rw i (wakers_at-same t w es (rw i at h))) ]
 
-neither : (a b : Bool) → (a || b) ≡ false → (a ≡ false) × (b ≡ false)
-neither true b h = absurd cc
-neither false b h = (refl, h)
+  pub wakers_at-other : (t u : ℕ) (w : W) (es : List (Entry W)) → (t ≡ u → ⊥) → wakers_at u (with_waker t w es) ≡ wakers_at u es
+  wakers_at-other t u w [] n = refl
+  wakers_at-other t u w (e ∷ es) n = elim (true_or_false (e.number == t)) [
+    | inl i ↦ rw i (rw (not_another e.number t u i n) refl)
+    | inr i ↦ rw i (ap (λ (x : List W). if e.number == u then e.waker ∷ [] else x) (wakers_at-other t u w es n))
+  ]
 
-nor_back : (n m : ℕ) (b : Bool) → b ≡ false → (n == m) ≡ false → (b || m == n) ≡ false
-nor_back n m b h i = grind (arith, nat_tests)
+  pub wakers_at-left_by : (t u : ℕ) (es : List (Entry W)) → (t ≡ u → ⊥) → wakers_at u (left_by t es) ≡ wakers_at u es
+  wakers_at-left_by t u [] n = refl
+  wakers_at-left_by t u (e ∷ es) n = elim (true_or_false (e.number == t)) [
+    | inl i ↦ rw i (rw (not_another e.number t u i n) refl)
+    | inr i ↦ rw i (ap (λ (x : List W). if e.number == u then e.waker ∷ [] else x) (wakers_at-left_by t u es n))
+  ]
 
--- an entry of a number that no other has
-distinct_enter : {W : Type 0} (es : List (Entry W)) (e : Entry W) → IsDistinct es → has_number e.number es ≡ false → IsDistinct (es ++ e ∷ [])
-distinct_enter [] e d h = (refl, tt)
-distinct_enter (x ∷ es) e d h =
-    let o = neither (x.number == e.number) (has_number e.number es) h in
-    (has_number-enter x.number es e ∙ nor_back x.number e.number (has_number x.number es) d.0 o.0, distinct_enter es e d.1 o.1)
+  pub front_wakers-front : (u : ℕ) (es : List (Entry W)) → is_front u (numbers es) ≡ true → front_wakers es ≡ wakers_at u es
+  front_wakers-front u [] f = absurd cc
+  front_wakers-front u (e ∷ es) f = rw f refl
 
-waits_enter : {W : Type 0} (t : ℕ) (w : W) (es : List (Entry W)) → FrontWaits es → FrontWaits (es ++ record { number = t; waker = Some w } ∷ [])
-waits_enter t w [] h = refl
-waits_enter t w (e ∷ es) h = h
+  -- what is in the queue where the entry of a number stands
+  is_in-split : (t : ℕ) (xs ys : List (Entry W)) (e : Entry W) → e.number ≡ t → is_in t (numbers (xs ++ e ∷ ys)) ≡ true
+  is_in-split t [] ys e h = rw (equal_number e.number t h) refl
+  is_in-split t (x ∷ xs) ys e h = elim (true_or_false (x.number == t)) [ inl i ↦ rw i refl | inr i ↦ rw i (is_in-split t xs ys e h) ]
 
-pub IsQueue-enter : {W : Type 0} (n t : ℕ) (w : W) (es : List (Entry W)) → IsQueue n es → length es < n → has_number t es ≡ false → IsQueue n (es ++ record { number = t; waker = Some w } ∷ [])
-IsQueue-enter n t w es q l h = record {
-  fits = rw length_push (omega arith);
-  distinct = distinct_enter es _ q.distinct h;
-  waits = waits_enter t w es q.waits;
-}
+  remove-split : (t : ℕ) (xs ys : List (Entry W)) (e : Entry W) → is_in t (numbers xs) ≡ false → e.number ≡ t → remove (xs ++ e ∷ ys) (length xs) ≡ left_by t (xs ++ e ∷ ys)
+  remove-split t [] ys e f h = rw (equal_number e.number t h) refl
+  remove-split t (x ∷ xs) ys e f h = (let o = neither (x.number == t) (is_in t (numbers xs)) f in rw o.0 (ap (λ zs. x ∷ zs) (remove-split t xs ys e o.1 h)))
 
-length-with_waker : {W : Type 0} (t : ℕ) (w : Option W) (es : List (Entry W)) → length (with_waker t w es) ≡ length es
-length-with_waker t w [] = refl
-length-with_waker t w (e ∷ es) = elim (true_or_false (e.number == t)) [ inl h ↦ rw h refl | inr h ↦ rw h (ap suc (length-with_waker t w es)) ]
+  set-split : (t : ℕ) (w : W) (xs ys : List (Entry W)) (e : Entry W) → is_in t (numbers xs) ≡ false → e.number ≡ t → slice_set (xs ++ e ∷ ys) (length xs) (record { number = t; waker = w }) ≡ with_waker t w (xs ++ e ∷ ys)
+  set-split t w [] ys e f h = rw (equal_number e.number t h, h) refl
+  set-split t w (x ∷ xs) ys e f h = (let o = neither (x.number == t) (is_in t (numbers xs)) f in rw o.0 (ap (λ zs. x ∷ zs) (set-split t w xs ys e o.1 h)))
 
-has_number-with_waker : {W : Type 0} (k t : ℕ) (w : Option W) (es : List (Entry W)) → has_number k (with_waker t w es) ≡ has_number k es
-has_number-with_waker k t w [] = refl
-has_number-with_waker k t w (e ∷ es) =
-    elim (true_or_false (e.number == t)) [ inl h ↦ rw h refl | inr h ↦ rw h (ap (λ b. e.number == k || b) (has_number-with_waker k t w es)) ]
+  below-split : (xs ys : List (Entry W)) (e : Entry W) → length xs < length (xs ++ e ∷ ys)
+  below-split [] ys e = omega arith
+  below-split (x ∷ xs) ys e = omega (arith, below-split xs ys e)
 
-distinct_with_waker : {W : Type 0} (t : ℕ) (w : Option W) (es : List (Entry W)) → IsDistinct es → IsDistinct (with_waker t w es)
-distinct_with_waker t w [] d = tt
-distinct_with_waker t w (e ∷ es) d =
-    elim (true_or_false (e.number == t)) [
-      | inl h ↦ rw h (d.0, d.1)
-      | inr h ↦ rw h (has_number-with_waker e.number t w es ∙ d.0, distinct_with_waker t w es d.1)
-    ]
+  module _ (t i : ℕ) (es : List (Entry W)) (s : StandsAt t i es) where
+    pub stands-below : i < length es
+    stands-below = rw (← s.count, s.split) (below-split s.before s.behind s.entry)
 
-waits_with_waker : {W : Type 0} (t : ℕ) (w : Option W) (es : List (Entry W)) → FrontWaits es → (is_front t es ≡ false) ⊎ (is_some w ≡ true) → FrontWaits (with_waker t w es)
-waits_with_waker t w [] f h = tt
-waits_with_waker t w (e ∷ es) f h =
-    elim (true_or_false (e.number == t)) [
-      | inl i ↦ rw i (elim h [ inl j ↦ absurd (let k = sym i ∙ j in cc) | inr j ↦ j ])
-      | inr i ↦ rw i f
-    ]
+    pub stands-in : is_in t (numbers es) ≡ true
+    stands-in = rw s.split (is_in-split t s.before s.behind s.entry s.number)
 
--- the front entry keeps a waker
-pub IsQueue-with_waker : {W : Type 0} (n t : ℕ) (w : Option W) (es : List (Entry W)) → IsQueue n es → (is_front t es ≡ false) ⊎ (is_some w ≡ true) → IsQueue n (with_waker t w es)
-IsQueue-with_waker n t w es q h = record {
-  fits = rw length-with_waker q.fits;
-  distinct = distinct_with_waker t w es q.distinct;
-  waits = waits_with_waker t w es q.waits h;
-}
+    pub stands-remove : remove es i ≡ left_by t es
+    stands-remove = rw (← s.count, s.split) (remove-split t s.before s.behind s.entry s.first s.number)
 
-IsQueue-from_waiting : {W : Type 0} (n : ℕ) (es : List (Entry W)) → length es ≤ n → IsDistinct es → IsQueue n (from_waiting es)
-IsQueue-from_waiting n [] l d = record { fits = l; distinct = d; waits = tt }
-IsQueue-from_waiting n (e ∷ es) l d =
-    elim (true_or_false (is_some e.waker)) [
-      | inl h ↦ rw h (record { fits = l; distinct = d; waits = h })
-      | inr h ↦ rw h (IsQueue-from_waiting n es (omega arith) d.1)
-    ]
+    pub stands-set : (w : W) → slice_set es i (record { number = t; waker = w }) ≡ with_waker t w es
+    stands-set w = rw (← s.count, s.split) (set-split t w s.before s.behind s.entry s.first s.number)
 
-pub IsQueue-behind : {W : Type 0} (n : ℕ) (es : List (Entry W)) → IsQueue n es → IsQueue n (from_waiting (drop 1 es))
-IsQueue-behind n [] q = q
-IsQueue-behind n (e ∷ es) q = let l : suc (length es) ≤ n = q.fits in IsQueue-from_waiting n es (omega arith) q.distinct.1
+  pub left_by-none : (t : ℕ) (es : List (Entry W)) → is_in t (numbers es) ≡ false → left_by t es ≡ es
+  left_by-none t [] h = refl
+  left_by-none t (e ∷ es) h = (let o = neither (e.number == t) (is_in t (numbers es)) h in rw o.0 (ap (λ xs. e ∷ xs) (left_by-none t es o.1)))
 
-pub refill_all : {X : Type 0} (xs ys : List X) → length ys ≡ length xs → refill (length xs) xs ys ≡ ys
-refill_all xs ys h = take_at ys (drop (length ys) xs) (length xs) h
+  pub with_waker-none : (t : ℕ) (w : W) (es : List (Entry W)) → is_in t (numbers es) ≡ false → with_waker t w es ≡ es
+  with_waker-none t w [] h = refl
+  with_waker-none t w (e ∷ es) h = (let o = neither (e.number == t) (is_in t (numbers es)) h in rw o.0 (ap (λ xs. e ∷ xs) (with_waker-none t w es o.1)))
 
--- a write of all entries as a slice
-pub IsQueue-written : {W : Type 0} (n t : ℕ) (w : Option W) (es new : List (Entry W)) → new ≡ with_waker t w es → IsQueue n es → (is_front t es ≡ false) ⊎ (is_some w ≡ true) → IsQueue n (refill (length es) es new)
-IsQueue-written n t w es new e q h =
-    subst (λ xs. IsQueue n xs)
-    (sym (ap (λ xs. refill (length es) es xs) e ∙ refill_all es (with_waker t w es) (length-with_waker t w es)))
-    (IsQueue-with_waker n t w es q h)
+  -- what tells an empty queue
+  pub empty_next : (b : Bool) (es : List (Entry W)) → (IsTrue b ↔ (es ≡ [])) → b ≡ is_next None (numbers es)
+  empty_next b [] h = h.1 refl
+  empty_next true (e ∷ es) h = (let k = h.0 refl in absurd cc)
+  empty_next false (e ∷ es) h = refl
+
+  -- what stands at a place
+  split_at : (es : List (Entry W)) (i : ℕ) (e : Entry W) → Some e ≡ slice_get es i → es ≡ take i es ++ e ∷ drop (suc i) es
+  split_at [] i e h = absurd cc
+  split_at (x ∷ es) zero e h = (let s : e ≡ x = cc in ap (λ y. y ∷ es) (sym s))
+  split_at (x ∷ es) (suc i) e h = ap (λ xs. x ∷ xs) (split_at es i e h)
+
+  count_at : (es : List (Entry W)) (i : ℕ) (e : Entry W) → Some e ≡ slice_get es i → length (take i es) ≡ i
+  count_at [] i e h = absurd cc
+  count_at (x ∷ es) zero e h = refl
+  count_at (x ∷ es) (suc i) e h = ap suc (count_at es i e h)
+
+  pub stands_found : (t i : ℕ) (es : List (Entry W)) (e : Entry W) → Some e ≡ slice_get es i → is_in t (numbers (take i es)) ≡ false → e.number ≡ t → StandsAt t i es
+  stands_found t i es e h f n = record { before = take i es; entry = e; behind = drop (suc i) es; split = split_at es i e h; count = count_at es i e h; first = f; number = n }
+
+  not_in_more : (t i : ℕ) (es : List (Entry W)) (e : Entry W) → Some e ≡ slice_get es i → is_in t (numbers (take i es)) ≡ false → (e.number == t) ≡ false → is_in t (numbers (take (suc i) es)) ≡ false
+  not_in_more t i [] e h f n = absurd cc
+  not_in_more t zero (x ∷ es) e h f n = (let s : e ≡ x = cc in let m : (x.number == t) ≡ false = subst (λ y. (y.number == t) ≡ false) s n in rw m refl)
+  not_in_more t (suc i) (x ∷ es) e h f n = (let o = neither (x.number == t) (is_in t (numbers (take i es))) f in rw o.0 (not_in_more t i es e h o.1 n))
+
+  pub not_found : (t i : ℕ) (es : List (Entry W)) (e : Entry W) → Some e ≡ slice_get es i → is_in t (numbers (take i es)) ≡ false → (e.number ≡ t → ⊥) → is_in t (numbers (take (i + 1) es)) ≡ false
+  not_found t i es e h f n = ap (λ k. is_in t (numbers (take k es))) (add-one i) ∙ not_in_more t i es e h f (unequal_number e.number t n)
+
+  -- the entry in front
+  pub front_is : (t : ℕ) (es : List (Entry W)) (e : Entry W) → Some e ≡ slice_get es 0 → (e.number == t) ≡ is_front t (numbers es)
+  front_is t [] e h = absurd cc
+  front_is t (x ∷ es) e h = (let s : e ≡ x = cc in ap (λ y. y.number == t) s)
+
+  pub no_front : (t : ℕ) (es : List (Entry W)) → None ≡ slice_get es 0 → false ≡ is_front t (numbers es)
+  no_front t [] h = refl
+  no_front t (x ∷ es) h = absurd cc

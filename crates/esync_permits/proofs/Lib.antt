@@ -1,1 +1,6 @@
+pub mod Numbers
 pub mod Entries
+pub mod FairKept
+pub mod Handed
+pub mod Sums
+pub mod FairOrder

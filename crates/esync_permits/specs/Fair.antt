@@ -1,5 +1,5 @@
 -- The fair semaphore: its permits, and the queue of who waits.
-use Rattle.std.specs.Prelude.{◌≡◌, ℕ, ◌<◌, ◌==◌, Bool, List, [], ◌∷◌, ◌++◌, length, Option, Some, None, Result, Ok, Err, IsTrue, refl}
+use Rattle.std.specs.Prelude.{◌≡◌, ℕ, ◌<◌, Bool, List, [], length, Option, Some, None, Result, Ok, Err, IsTrue, refl}
 use Rattle.std.specs.Coded.{Coded, code_by, coded×, coded_ℕ, coded_list}
 use Rattle.esync_base.specs.declared.waitqueue.Poll.{Poll}
 use Rattle.esync_base.specs.declared.waitqueue.Poll.TheVariants.{Pending as Waits, Ready as Heard}
@@ -9,7 +9,8 @@ use Rattle.esync_permits.specs.declared.semaphore.WaitQueueFull.{WaitQueueFull}
 use Rattle.esync_permits.specs.declared.semaphore.FairPoll.{FairPoll}
 use Rattle.esync_permits.specs.declared.semaphore.FairPoll.TheVariants.{Pending, Ready}
 use Rattle.esync_permits.specs.Permits.{woken_if}
-use Rattle.esync_permits.specs.Queue.{is_waiting, is_front, front_wakers, with_waker, behind, entries_after_end, IsLeastFree, entry_code}
+use Rattle.esync_base.specs.Listed.{is_in}
+use Rattle.esync_permits.specs.Queue.{is_front, numbers, front_wakers, entered, with_waker, left_by, IsLeastFree, entry_code}
 
 pub record Fair (W : Type 0) : Type 0 where
   pub permits : ℕ
@@ -47,17 +48,12 @@ OnRefusal (Some (Err e)) P = P
 OnRefusal None P = Unit {0}
 
 module _ {W : Type 0} where
-  -- a ticket names a waiting entry
+  -- a ticket names a request that waits
   abbrev pub NamesWaiting : Option ℕ → List (Entry W) → Type 0
   NamesWaiting None es = Unit {0}
-  NamesWaiting (Some t) es = IsTrue (is_waiting t es)
+  NamesWaiting (Some t) es = IsTrue (is_in t (numbers es))
 
-  -- whose turn it is: who is in front, and who has no ticket only where nobody waits
-  abbrev pub is_turn : Option ℕ → List (Entry W) → Bool
-  is_turn None es = length es == 0
-  is_turn (Some t) es = is_front t es
-
-  -- n entries leave no place for a request without a ticket
+  -- n requests that wait leave no place for one without a ticket
   abbrev pub HasNoPlace : ℕ → Option ℕ → List (Entry W) → Type 0
   HasNoPlace n None es = length es ≡ n
   HasNoPlace n (Some t) es = ⊥
@@ -65,9 +61,9 @@ module _ {W : Type 0} where
   -- the entries after a poll with this waker: of a request with this ticket, which has that one after it
   abbrev pub Queues : ℕ → W → Option ℕ → List (Entry W) → Option ℕ → List (Entry W) → Type 0
   Queues n w None es None es2 = es2 ≡ es
-  Queues n w None es (Some t) es2 = (length es < n) × IsLeastFree t es × (es2 ≡ es ++ record { number = t; waker = Some w } ∷ [])
-  Queues n w (Some t) es None es2 = es2 ≡ behind es
-  Queues n w (Some t) es (Some u) es2 = (u ≡ t) × (es2 ≡ with_waker t (Some w) es)
+  Queues n w None es (Some t) es2 = (length es < n) × IsLeastFree t (numbers es) × (es2 ≡ entered t w es)
+  Queues n w (Some t) es None es2 = es2 ≡ left_by t es
+  Queues n w (Some t) es (Some u) es2 = (u ≡ t) × (es2 ≡ with_waker t w es)
 
   -- a grant to the front entry wakes the one that is then in front, and a grant without a ticket wakes nobody
   abbrev pub wakes_of_grant : Option ℕ → Option ℕ → List (Entry W) → List W
@@ -78,11 +74,12 @@ module _ {W : Type 0} where
   -- the end of a request, which may have no ticket yet
   abbrev pub entries_after_request : Option ℕ → List (Entry W) → List (Entry W)
   entries_after_request None es = es
-  entries_after_request (Some t) es = entries_after_end (is_front t es) t es
+  entries_after_request (Some t) es = left_by t es
 
-  abbrev pub wakes_of_request : Option ℕ → List (Entry W) → List (Entry W) → List W
-  wakes_of_request None es es2 = []
-  wakes_of_request (Some t) es es2 = woken_if (is_front t es) (front_wakers es2)
+  -- it wakes the one that is then in front, where the request was in front itself
+  abbrev pub wakes_of_request : Option ℕ → List (Entry W) → List W
+  wakes_of_request None es = []
+  wakes_of_request (Some t) es = woken_if (is_front t (numbers es)) (front_wakers (left_by t es))
 
 -- a request: what it is for, its ticket while it waits, and whether it heard its answer
 pub record Request : Type 0 where

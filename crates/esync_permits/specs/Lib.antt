@@ -3,3 +3,12 @@ pub mod Greedy
 pub mod Queue
 pub mod Fair
 pub mod Shared
+pub mod PermitRules
+pub mod PermitLaws
+pub mod PermitSums
+pub mod GreedyRules
+pub mod GreedyLaws
+pub mod FairRules
+pub mod FairTurns
+pub mod FairLaws
+pub mod FairOrder

@@ -5,8 +5,9 @@
 ghost use Rattle.std.specs.Prelude.{◌≡◌, ℕ, ◌<◌, ◌++◌, [], length, nat_lt, ◌↔◌, Some, None, true, false, IsTrue, IsSome, IfSome, is_some, is_none};
 ghost use Rattle.esync_permits.specs.Permits.{least, taken, Takes, TakesInTurn, released, granted, woken_if};
 ghost use Rattle.esync_permits.specs.Greedy.{slot_after_poll, wakes_of_poll, slot_after_more, rest_of};
-ghost use Rattle.esync_permits.specs.Queue.{is_waiting, is_front, front_wakers, entries_after_end};
-ghost use Rattle.esync_permits.specs.Fair.{heard, ticket_after, request_heard, granted_by, OnRefusal, NamesWaiting, is_turn, HasNoPlace, Queues, wakes_of_grant, entries_after_request, wakes_of_request};
+ghost use Rattle.esync_base.specs.Listed.{is_in};
+ghost use Rattle.esync_permits.specs.Queue.{is_front, is_next, numbers, front_wakers, left_by};
+ghost use Rattle.esync_permits.specs.Fair.{heard, ticket_after, request_heard, granted_by, OnRefusal, NamesWaiting, HasNoPlace, Queues, wakes_of_grant, entries_after_request, wakes_of_request};
 
 use crate::queue::Queue;
 use esync_base::waitqueue::{Context, Poll, WakerRegistration, Wakes};
@@ -16,7 +17,9 @@ pub use shared::{
 };
 use std::marker::Model;
 use std::mem;
+use thiserror::Error;
 
+pub mod machine;
 mod shared;
 
 /// How many permits a request is for.
@@ -240,6 +243,7 @@ impl Model for GreedyRequest {
 }
 
 impl GreedyRequest {
+    /// A request for this amount, which has heard nothing yet.
     pub fn new(amount: Amount) -> Self
         ensures { result ≡ Some amount }
     {
@@ -283,7 +287,8 @@ impl GreedyRequest {
 }
 
 /// The queue of a fair semaphore is full.
-#[derive(Clone, Copy, Debug, PartialEq, Eq)]
+#[derive(Clone, Copy, Debug, PartialEq, Eq, Error)]
+#[error("the queue of the semaphore is full")]
 pub struct WaitQueueFull;
 
 /// What a waiting request of a fair semaphore is known by: the least number that no other one had when it came to wait.
@@ -314,7 +319,7 @@ pub enum FairPoll {
 /// The state of a fair semaphore: its permits, and a queue of at most `N` requests that wait for some.
 ///
 /// Requests are granted in the order in which they came to wait. One that waits for many permits keeps all others from
-/// theirs until it is granted. Cancelled entries keep their place until they are in front.
+/// theirs until it is granted or ends. A request that ends gives its place back at once.
 #[derive(Drop)]
 pub struct FairState<W, const N: usize> {
     permits: usize,
@@ -361,14 +366,14 @@ impl<W: Copy + Eq, const N: usize> FairState<W, N> {
 
     /// The request of this ticket waits.
     pub fn is_waiting(&self, ticket: Ticket) -> bool
-        ensures { result ≡ is_waiting ticket self.now.entries }
+        ensures { result ≡ is_in ticket (numbers self.now.entries) }
     {
         self.queue.is_waiting(ticket.number)
     }
 
     // Takes the permits of a request that has no ticket: only where nobody waits.
     fn try_take(&mut self, amount: Amount) -> Option<usize>
-        ensures permits { TakesInTurn (is_turn None self.old.entries) self.old.permits amount result self.new.permits }
+        ensures permits { TakesInTurn (is_next None (numbers self.old.entries)) self.old.permits amount result self.new.permits }
         ensures entries { self.new.entries ≡ self.old.entries }
     {
         if !self.queue.is_empty() {
@@ -379,7 +384,7 @@ impl<W: Copy + Eq, const N: usize> FairState<W, N> {
 
     /// Takes this number of permits, if they are there and nobody waits.
     pub fn try_acquire(&mut self, permits: usize) -> Option<usize>
-        ensures permits { TakesInTurn (is_turn None self.old.entries) self.old.permits (Amount.Exactly permits) result self.new.permits }
+        ensures permits { TakesInTurn (is_next None (numbers self.old.entries)) self.old.permits (Amount.Exactly permits) result self.new.permits }
         ensures entries { self.new.entries ≡ self.old.entries }
     {
         self.try_take(Amount::Exactly(permits))
@@ -387,7 +392,7 @@ impl<W: Copy + Eq, const N: usize> FairState<W, N> {
 
     /// Takes all permits, if at least `min` are there and nobody waits.
     pub fn try_acquire_all(&mut self, min: usize) -> Option<usize>
-        ensures permits { TakesInTurn (is_turn None self.old.entries) self.old.permits (Amount.AllFrom min) result self.new.permits }
+        ensures permits { TakesInTurn (is_next None (numbers self.old.entries)) self.old.permits (Amount.AllFrom min) result self.new.permits }
         ensures entries { self.new.entries ≡ self.old.entries }
     {
         self.try_take(Amount::AllFrom(min))
@@ -395,7 +400,7 @@ impl<W: Copy + Eq, const N: usize> FairState<W, N> {
 
     // The poll of a request that has no ticket yet.
     fn poll_new(&mut self, amount: Amount, waker: W) -> FairPoll
-        ensures permits { TakesInTurn (is_turn None self.old.entries) self.old.permits amount (granted_by (heard result)) self.new.permits }
+        ensures permits { TakesInTurn (is_next None (numbers self.old.entries)) self.old.permits amount (granted_by (heard result)) self.new.permits }
         ensures full { OnRefusal (heard result) (HasNoPlace N None self.old.entries) }
         ensures entries { Queues N waker None self.old.entries (ticket_after result) self.new.entries }
     {
@@ -417,14 +422,14 @@ impl<W: Copy + Eq, const N: usize> FairState<W, N> {
         wakes: &mut Wakes<W, K>,
     ) -> FairPoll
         requires { length wakes.old < K }
-        ensures permits { TakesInTurn (is_turn (Some ticket) self.old.entries) self.old.permits amount (granted_by (heard result)) self.new.permits }
+        ensures permits { TakesInTurn (is_next (Some ticket) (numbers self.old.entries)) self.old.permits amount (granted_by (heard result)) self.new.permits }
         ensures full { OnRefusal (heard result) (HasNoPlace N (Some ticket) self.old.entries) }
         ensures entries { Queues N waker (Some ticket) self.old.entries (ticket_after result) self.new.entries }
         ensures wakes { wakes.new ≡ wakes.old ++ wakes_of_grant (Some ticket) (granted_by (heard result)) self.new.entries }
     {
         if self.queue.is_front(ticket.number) {
             if let Some(taken) = take(&mut self.permits, amount) {
-                self.queue.leave();
+                self.queue.pop_front();
                 self.tell(true, wakes);
                 return FairPoll::Ready(Ok(taken));
             }
@@ -441,7 +446,7 @@ impl<W: Copy + Eq, const N: usize> FairState<W, N> {
         wakes: &mut Wakes<W, K>,
     ) -> FairPoll
         requires { length wakes.old < K }
-        ensures permits { TakesInTurn (is_turn ticket self.old.entries) self.old.permits amount (granted_by (heard result)) self.new.permits }
+        ensures permits { TakesInTurn (is_next ticket (numbers self.old.entries)) self.old.permits amount (granted_by (heard result)) self.new.permits }
         ensures full { OnRefusal (heard result) (HasNoPlace N ticket self.old.entries) }
         ensures entries { Queues N waker ticket self.old.entries (ticket_after result) self.new.entries }
         ensures wakes { wakes.new ≡ wakes.old ++ wakes_of_grant ticket (granted_by (heard result)) self.new.entries }
@@ -466,7 +471,7 @@ impl<W: Copy + Eq, const N: usize> FairState<W, N> {
     ) -> FairPoll
         requires room { length wakes.old < K }
         requires waits { NamesWaiting ticket self.old.entries }
-        ensures permits { TakesInTurn (is_turn ticket self.old.entries) self.old.permits (Amount.Exactly permits) (granted_by (heard result)) self.new.permits }
+        ensures permits { TakesInTurn (is_next ticket (numbers self.old.entries)) self.old.permits (Amount.Exactly permits) (granted_by (heard result)) self.new.permits }
         ensures full { OnRefusal (heard result) (HasNoPlace N ticket self.old.entries) }
         ensures entries { Queues N cx.now ticket self.old.entries (ticket_after result) self.new.entries }
         ensures wakes { wakes.new ≡ wakes.old ++ wakes_of_grant ticket (granted_by (heard result)) self.new.entries }
@@ -474,7 +479,10 @@ impl<W: Copy + Eq, const N: usize> FairState<W, N> {
         self.poll(Amount::Exactly(permits), ticket, cx.waker(), wakes)
     }
 
-    /// The same for all permits, if at least `min` are there.
+    /// Takes all permits, if at least `min` are there and it is the request's turn, as in `poll_acquire`. If not, the context's
+    /// waker waits for them. A request without a ticket waits at the back, if there is a place.
+    ///
+    /// A ticket names a request that waits (`is_waiting`).
     pub fn poll_acquire_all<const K: usize>(
         &mut self,
         min: usize,
@@ -484,7 +492,7 @@ impl<W: Copy + Eq, const N: usize> FairState<W, N> {
     ) -> FairPoll
         requires room { length wakes.old < K }
         requires waits { NamesWaiting ticket self.old.entries }
-        ensures permits { TakesInTurn (is_turn ticket self.old.entries) self.old.permits (Amount.AllFrom min) (granted_by (heard result)) self.new.permits }
+        ensures permits { TakesInTurn (is_next ticket (numbers self.old.entries)) self.old.permits (Amount.AllFrom min) (granted_by (heard result)) self.new.permits }
         ensures full { OnRefusal (heard result) (HasNoPlace N ticket self.old.entries) }
         ensures entries { Queues N cx.now ticket self.old.entries (ticket_after result) self.new.entries }
         ensures wakes { wakes.new ≡ wakes.old ++ wakes_of_grant ticket (granted_by (heard result)) self.new.entries }
@@ -492,17 +500,18 @@ impl<W: Copy + Eq, const N: usize> FairState<W, N> {
         self.poll(Amount::AllFrom(min), ticket, cx.waker(), wakes)
     }
 
-    /// Ends a request that waits. Where it was in front, the one that is in front then is woken.
+    /// Ends a request that waits, which leaves the queue. Where it was in front, the one that is in front then is woken.
     ///
     /// The ticket names a request that waits (`is_waiting`).
     pub fn cancel<const K: usize>(&mut self, ticket: Ticket, wakes: &mut Wakes<W, K>)
         requires room { length wakes.old < K }
         requires waits { NamesWaiting (Some ticket) self.old.entries }
         ensures permits { self.new.permits ≡ self.old.permits }
-        ensures entries { self.new.entries ≡ entries_after_end (is_front ticket self.old.entries) ticket self.old.entries }
-        ensures wakes { wakes.new ≡ wakes.old ++ woken_if (is_front ticket self.old.entries) (front_wakers self.new.entries) }
+        ensures entries { self.new.entries ≡ left_by ticket self.old.entries }
+        ensures wakes { wakes.new ≡ wakes.old ++ woken_if (is_front ticket (numbers self.old.entries)) (front_wakers self.new.entries) }
     {
-        let was_front = self.queue.end(ticket.number);
+        let was_front = self.queue.is_front(ticket.number);
+        self.queue.remove(ticket.number);
         self.tell(was_front, wakes);
     }
 
@@ -556,6 +565,7 @@ impl Model for FairRequest {
 }
 
 impl FairRequest {
+    /// A request for this amount, which has heard nothing yet.
     pub fn new(amount: Amount) -> Self
         ensures { result ≡ record { amount = amount; ticket = None; finished = false } }
     {
@@ -613,7 +623,7 @@ impl FairRequest {
         requires room { length wakes.old < K }
         requires unfinished { self.old.finished ≡ false }
         requires waits { NamesWaiting self.old.ticket state.old.entries }
-        ensures permits { TakesInTurn (is_turn self.old.ticket state.old.entries) state.old.permits self.old.amount (granted_by (request_heard result)) state.new.permits }
+        ensures permits { TakesInTurn (is_next self.old.ticket (numbers state.old.entries)) state.old.permits self.old.amount (granted_by (request_heard result)) state.new.permits }
         ensures full { OnRefusal (request_heard result) (HasNoPlace N self.old.ticket state.old.entries) }
         ensures entries { Queues N cx.now self.old.ticket state.old.entries self.new.ticket state.new.entries }
         ensures wakes { wakes.new ≡ wakes.old ++ wakes_of_grant self.old.ticket (granted_by (request_heard result)) state.new.entries }
@@ -649,7 +659,7 @@ impl FairRequest {
         requires waits { NamesWaiting self.ticket state.old.entries }
         ensures permits { state.new.permits ≡ state.old.permits }
         ensures entries { state.new.entries ≡ entries_after_request self.ticket state.old.entries }
-        ensures wakes { wakes.new ≡ wakes.old ++ wakes_of_request self.ticket state.old.entries state.new.entries }
+        ensures wakes { wakes.new ≡ wakes.old ++ wakes_of_request self.ticket state.old.entries }
     {
         if let Some(ticket) = self.ticket() {
             state.cancel(ticket, wakes);

@@ -8,6 +8,8 @@ pub use esync_channel::channel::{
     ReceiveFuture, SendFuture, SendRequest, TryReceiveError, TrySendError,
 };
 
+pub mod machine;
+
 /// The state of a priority channel of at most `N` messages: one leaves that none of the held ones is above.
 pub type ChannelState<T, W, K, const N: usize> = Mailbox<PrioQueue<T, K, N>, W>;
 

@@ -1,4 +1,0 @@
-pub mod Channel
-pub mod ChannelLaws
-pub mod Signal
-pub mod Order

@@ -1,9 +1,10 @@
 //! The primitives as machines that take commands, with the core of runs under its own names.
+//!
+//! Each module is that of a crate below, in which the machine of a primitive stands beside its state.
 #![tactic(auto)]
 
-pub mod channel;
-pub mod priority_channel;
-pub mod signal;
-
+pub use esync_cells::signal::machine as signal;
+pub use esync_channel::channel::machine as channel;
 pub use esync_machine::{primitive, requests, run};
-pub use esync_permits_run as semaphore;
+pub use esync_permits::semaphore::machine as semaphore;
+pub use esync_priority::priority_channel::machine as priority_channel;

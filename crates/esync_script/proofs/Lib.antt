@@ -1,2 +1,0 @@
-pub mod Wakers
-pub mod Played

@@ -1,9 +1,32 @@
--- The text of what a channel tells.
-use Rattle.std.specs.Prelude.{ℕ, List, ◌++◌, codes, decimal, Ok, Err}
+-- The words of a channel, and the text of what it tells.
+use Rattle.std.specs.Prelude.{ℕ, List, ◌++◌, codes, decimal, Option, None, Ok, Err, if◌then◌else◌}
+use Rattle.std.specs.Option.{option_map}
 use Rattle.esync_channel.specs.declared.channel.TrySendError.TheVariants.{Full}
 use Rattle.esync_channel.specs.declared.channel.TryReceiveError.TheVariants.{Empty}
-use Rattle.esync_run.specs.declared.channel.ChannelHeard.{ChannelHeard}
-use Rattle.esync_run.specs.declared.channel.ChannelHeard.TheVariants.{Ready, Received, TrySent, TryReceived, Number}
+use Rattle.esync_channel.specs.declared.channel.machine.ChannelAsk.{ChannelAsk}
+use Rattle.esync_channel.specs.declared.channel.machine.ChannelAsk.TheVariants.{Send, Receive, SendReady, ReceiveReady}
+use Rattle.esync_channel.specs.declared.channel.machine.ChannelCall.{ChannelCall}
+use Rattle.esync_channel.specs.declared.channel.machine.ChannelCall.TheVariants.{TrySend, TryReceive, Clear, Len, FreeCapacity}
+use Rattle.esync_channel.specs.declared.channel.machine.ChannelHeard.{ChannelHeard}
+use Rattle.esync_channel.specs.declared.channel.machine.ChannelHeard.TheVariants.{Ready, Received, TrySent, TryReceived, Number}
+use Rattle.esync_words.specs.Words.{is_text, nothing, one}
+
+abbrev pub channel_asks : List ℕ → List (List ℕ) → Option (ChannelAsk ℕ)
+channel_asks name words =
+    if is_text name (codes "send") then option_map (λ v. Send v) (one 32 words)
+    else if is_text name (codes "receive") then option_map (λ x. Receive) (nothing words)
+    else if is_text name (codes "send-ready") then option_map (λ x. SendReady) (nothing words)
+    else if is_text name (codes "receive-ready") then option_map (λ x. ReceiveReady) (nothing words)
+    else None
+
+abbrev pub channel_calls : List ℕ → List (List ℕ) → Option (ChannelCall ℕ)
+channel_calls name words =
+    if is_text name (codes "try-send") then option_map (λ v. TrySend v) (one 32 words)
+    else if is_text name (codes "try-receive") then option_map (λ x. TryReceive) (nothing words)
+    else if is_text name (codes "clear") then option_map (λ x. Clear) (nothing words)
+    else if is_text name (codes "len") then option_map (λ x. Len) (nothing words)
+    else if is_text name (codes "free") then option_map (λ x. FreeCapacity) (nothing words)
+    else None
 
 abbrev pub channel_text : ChannelHeard ℕ → List ℕ
 channel_text Ready = codes "Ready"

@@ -1,23 +1,46 @@
--- What is printed of a script, by the primitive that its line 1 names.
-use Rattle.std.specs.Prelude.{ℕ, Bool, List, [], Option, None, Result}
+-- Line 1 of a script, and what is played behind it.
+use Rattle.std.specs.Prelude.{◌≡◌, ℕ, ◌==◌, Bool, List, [], Option, Some, None, ◌⊎◌, Result, Ok, Err, if◌then◌else◌, codes}
 use Rattle.std.proofs.Math.ListN.{replicate}
+use Rattle.std.specs.Option.{option_map}
 use Rattle.esync_base.specs.Keeping.{Keeping, BoundedList}
+use Rattle.esync_machine.specs.declared.primitive.Answer.{Answer}
+use Rattle.esync_machine.specs.Rules.{Rules}
+use Rattle.esync_machine.specs.Wakings.{Wakings}
 use Rattle.esync_machine.specs.Object.{Object, requests_meaning}
+use Rattle.esync_channel.specs.Mailbox.{Slots}
 use Rattle.esync_priority.specs.Prio.{Bag}
-use Rattle.esync_run.specs.Channel.{channel_rules}
-use Rattle.esync_run.specs.Signal.{signal_rules}
-use Rattle.esync_permits_run.specs.Greedy.{greedy_rules}
-use Rattle.esync_permits_run.specs.Fair.{fair_rules}
-use Rattle.esync_script.specs.declared.fault.Fault.{Fault}
+use Rattle.esync_channel.specs.ChannelRules.{channel_rules, channel_wakings}
+use Rattle.esync_cells.specs.SignalRules.{signal_rules, signal_wakings}
+use Rattle.esync_permits.specs.GreedyRules.{greedy_rules, greedy_wakings}
+use Rattle.esync_permits.specs.FairRules.{fair_rules, fair_wakings}
+use Rattle.esync_words.specs.declared.fault.Fault.{Fault}
+use Rattle.esync_words.specs.declared.play.Giver.{Giver}
+use Rattle.esync_words.specs.Fault.{status_of}
+use Rattle.esync_words.specs.Words.{is_text, and_then, one, two}
+use Rattle.esync_words.specs.Commands.{says, command}
+use Rattle.esync_words.specs.Played.{Played, Opened, NotOpened, IsJudged}
+use Rattle.esync_words.specs.Tells.{tells_of}
 use Rattle.esync_script.specs.declared.opening.Capacity.{Capacity}
 use Rattle.esync_script.specs.declared.opening.Capacity.TheVariants.{One, Two, Three, Four, Eight}
 use Rattle.esync_script.specs.declared.opening.Opening.{Opening}
 use Rattle.esync_script.specs.declared.opening.Opening.TheVariants.{Channel, Max, Min, Signal, Greedy, Fair}
-use Rattle.esync_script.specs.Played.{PrintsFrom}
-use Rattle.esync_script.specs.Text.{answer_text, reply_text}
-use Rattle.esync_script.specs.Channel.{channel_text}
-use Rattle.esync_script.specs.Signal.{signal_text}
-use Rattle.esync_script.specs.Semaphore.{greedy_text, fair_text}
+use Rattle.esync_script.specs.Channel.{channel_asks, channel_calls, channel_text}
+use Rattle.esync_script.specs.Signal.{signal_asks, signal_calls, signal_text}
+use Rattle.esync_script.specs.Semaphore.{permit_asks, permit_calls, permit_text, fair_text}
+use Rattle.std.specs.Prelude.{decimal}
+
+abbrev pub capacity : ℕ → Option Capacity
+capacity n =
+    if n == 1 then Some One
+    else if n == 2 then Some Two
+    else if n == 3 then Some Three
+    else if n == 4 then Some Four
+    else if n == 8 then Some Eight
+    else None
+
+-- of a primitive that can have only one capacity
+abbrev pub only_one : {A : Type 0} → A → ℕ → Option A
+only_one x n = if n == 1 then Some x else None
 
 abbrev pub places : Capacity → ℕ
 places One = 1
@@ -26,27 +49,64 @@ places Three = 3
 places Four = 4
 places Eight = 8
 
+-- what line 1 says
+abbrev pub opening : List ℕ → List (List ℕ) → Option Opening
+opening name words =
+    if is_text name (codes "channel") then option_map (λ c. Channel c) (and_then (one 64 words) capacity)
+    else if is_text name (codes "max") then option_map (λ c. Max c) (and_then (one 64 words) capacity)
+    else if is_text name (codes "min") then option_map (λ c. Min c) (and_then (one 64 words) capacity)
+    else if is_text name (codes "signal") then and_then (one 64 words) (only_one Signal)
+    else if is_text name (codes "greedy") then and_then (two 64 64 words) (λ p. only_one (Greedy p.1) p.0)
+    else if is_text name (codes "fair") then and_then (two 64 64 words) (λ p. option_map (λ c. Fair c p.1) (capacity p.0))
+    else None
+
 -- without requests
 abbrev pub new_object : {Core Held : Type 0} → Core → Object Core Held
 new_object core = record { core = core; requests = replicate 16 None }
 
--- What is printed are the replies of a run of the named primitive, which begins as line 1 says and without requests.
-module _ (eq : ℕ → ℕ → Bool) where
+-- no waker in either slot
+abbrev pub nobody_waits : Slots ℕ
+nobody_waits = record { receivers = []; senders = [] }
+
+-- What is played behind line n: a run of the named primitive, which begins as that line says, without requests and with no waker
+-- registered.
+module _ (eq : ℕ → ℕ → Bool) (tells : (A : Type 0) → (A → List ℕ) → List ℕ → Giver → Answer A → List ℕ → List ℕ) where
+  abbrev pub PlaysAs : {Ask Held C A : Type 0} (R : Rules Ask Held C A) (T : Wakings R.Core Held C A ℕ) → (List ℕ → List (List ℕ) → Option Ask) → (List ℕ → List (List ℕ) → Option C) → (A → List ℕ) → R.Core → T.Registered → ℕ → Option (List ℕ) → Option (List ℕ) → Option (List ℕ) → Result (Unit {0}) Fault → Type 0
+  PlaysAs {A = A} R T asks calls text core registered n left before after outcome =
+      Played (requests_meaning R T eq 1) (says (command asks calls)) (tells_of (λ a. a.answer) (λ a. a.wakes) (tells A text)) (new_object core) registered n left before after outcome
+
   -- a channel or a priority channel
-  abbrev pub PlaysMessages : Keeping ℕ → Option (List ℕ) → Option (List ℕ) → Result (Unit {0}) Fault → Type 0
-  PlaysMessages keeping before after outcome =
-      PrintsFrom (requests_meaning (channel_rules keeping) ℕ eq 1) (new_object []) (reply_text (answer_text channel_text)) before after outcome
+  abbrev pub PlaysMessages : Keeping ℕ → ℕ → Option (List ℕ) → Option (List ℕ) → Option (List ℕ) → Result (Unit {0}) Fault → Type 0
+  PlaysMessages keeping n left before after outcome =
+      PlaysAs (channel_rules keeping) (channel_wakings eq keeping) channel_asks channel_calls channel_text [] nobody_waits n left before after outcome
 
-  abbrev pub PlaysFair : ℕ → ℕ → Option (List ℕ) → Option (List ℕ) → Result (Unit {0}) Fault → Type 0
-  PlaysFair n permits before after outcome =
-      PrintsFrom (requests_meaning (fair_rules n) ℕ eq 1) (new_object (record { permits = permits; queue = [] })) (reply_text (answer_text fair_text)) before after outcome
+  abbrev pub PlaysFair : ℕ → ℕ → ℕ → Option (List ℕ) → Option (List ℕ) → Option (List ℕ) → Result (Unit {0}) Fault → Type 0
+  PlaysFair places permits n left before after outcome =
+      PlaysAs (fair_rules places) fair_wakings permit_asks permit_calls (permit_text fair_text) (record { permits = permits; queue = [] }) [] n left before after outcome
 
-  abbrev pub Plays : (max_above min_above : ℕ → ℕ → Bool) → Opening → Option (List ℕ) → Option (List ℕ) → Result (Unit {0}) Fault → Type 0
-  Plays max_above min_above (Channel capacity) before after outcome = PlaysMessages (BoundedList ℕ (places capacity)) before after outcome
-  Plays max_above min_above (Max capacity) before after outcome = PlaysMessages (Bag ℕ max_above (places capacity)) before after outcome
-  Plays max_above min_above (Min capacity) before after outcome = PlaysMessages (Bag ℕ min_above (places capacity)) before after outcome
-  Plays max_above min_above Signal before after outcome =
-      PrintsFrom (requests_meaning (signal_rules ℕ) ℕ eq 1) (new_object None) (reply_text (answer_text signal_text)) before after outcome
-  Plays max_above min_above (Greedy permits) before after outcome =
-      PrintsFrom (requests_meaning greedy_rules ℕ eq 1) (new_object permits) (reply_text (answer_text greedy_text)) before after outcome
-  Plays max_above min_above (Fair capacity permits) before after outcome = PlaysFair (places capacity) permits before after outcome
+  abbrev pub Plays : (max_above min_above : ℕ → ℕ → Bool) → Opening → ℕ → Option (List ℕ) → Option (List ℕ) → Option (List ℕ) → Result (Unit {0}) Fault → Type 0
+  Plays max_above min_above (Channel c) n left before after outcome = PlaysMessages (BoundedList ℕ (places c)) n left before after outcome
+  Plays max_above min_above (Max c) n left before after outcome = PlaysMessages (Bag ℕ max_above (places c)) n left before after outcome
+  Plays max_above min_above (Min c) n left before after outcome = PlaysMessages (Bag ℕ min_above (places c)) n left before after outcome
+  Plays max_above min_above Signal n left before after outcome =
+      PlaysAs (signal_rules ℕ) (signal_wakings eq) signal_asks signal_calls signal_text None [] n left before after outcome
+  Plays max_above min_above (Greedy permits) n left before after outcome =
+      PlaysAs greedy_rules (greedy_wakings eq) permit_asks permit_calls (permit_text decimal) permits [] n left before after outcome
+  Plays max_above min_above (Fair c permits) n left before after outcome = PlaysFair (places c) permits n left before after outcome
+
+  -- A whole script: line 1 names a primitive, and the lines behind it are played; or it names none; or a read, a write or memory
+  -- failed before.
+  abbrev pub PlaysScript : (max_above min_above : ℕ → ℕ → Bool) → (List ℕ → List ℕ) → Option (List ℕ) → Option (List ℕ) → Option (List ℕ) → Result (Unit {0}) Fault → Type 0
+  PlaysScript max_above min_above head left before after outcome =
+      ((o : Opening) × (rest mid : Option (List ℕ)) × Opened (says opening) head o left rest before mid × Plays max_above min_above o 1 rest mid after outcome)
+      ⊎ ((fault : Fault) × (outcome ≡ Err fault) × (IsJudged (Err fault) → NotOpened (says opening) fault left before after))
+
+  -- A script that ended so, at its end or at a line that is no command, was played to there.
+  abbrev pub EndsScript : (max_above min_above : ℕ → ℕ → Bool) → (List ℕ → List ℕ) → Option (List ℕ) → Result (Unit {0}) Fault → Type 0
+  EndsScript max_above min_above head left outcome =
+      IsJudged outcome → (before after : Option (List ℕ)) × PlaysScript max_above min_above head left before after outcome
+
+-- the status that tells of this outcome
+abbrev pub status_of_outcome : Result (Unit {0}) Fault → ℕ
+status_of_outcome (Ok _) = 0
+status_of_outcome (Err fault) = status_of fault

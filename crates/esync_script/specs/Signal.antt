@@ -1,8 +1,27 @@
--- The text of what a signal tells.
-use Rattle.std.specs.Prelude.{ℕ, List, ◌++◌, codes, decimal, true, false}
-use Rattle.esync_script.specs.Text.{option_text}
-use Rattle.esync_run.specs.declared.signal.SignalHeard.{SignalHeard}
-use Rattle.esync_run.specs.declared.signal.SignalHeard.TheVariants.{Waited, Taken, Signaled}
+-- The words of a signal, and the text of what it tells.
+use Rattle.std.specs.Prelude.{ℕ, List, ◌++◌, codes, decimal, true, false, Option, None, if◌then◌else◌}
+use Rattle.std.specs.Option.{option_map}
+use Rattle.esync_cells.specs.declared.signal.machine.Wait.{Wait}
+use Rattle.esync_cells.specs.declared.signal.machine.SignalCall.{SignalCall}
+use Rattle.esync_cells.specs.declared.signal.machine.SignalCall.TheVariants.{Signal, Reset, TryTake, Signaled as AskSignaled}
+use Rattle.esync_cells.specs.declared.signal.machine.SignalHeard.{SignalHeard}
+use Rattle.esync_cells.specs.declared.signal.machine.SignalHeard.TheVariants.{Waited, Taken, Signaled}
+use Rattle.esync_words.specs.Words.{is_text, nothing, one}
+use Rattle.esync_words.specs.Text.{option_text}
+
+abbrev pub a_wait : Wait
+a_wait = record {}
+
+abbrev pub signal_asks : List ℕ → List (List ℕ) → Option Wait
+signal_asks name words = if is_text name (codes "wait") then option_map (λ x. a_wait) (nothing words) else None
+
+abbrev pub signal_calls : List ℕ → List (List ℕ) → Option (SignalCall ℕ)
+signal_calls name words =
+    if is_text name (codes "signal") then option_map (λ v. Signal v) (one 32 words)
+    else if is_text name (codes "reset") then option_map (λ x. Reset) (nothing words)
+    else if is_text name (codes "try-take") then option_map (λ x. TryTake) (nothing words)
+    else if is_text name (codes "signaled") then option_map (λ x. AskSignaled) (nothing words)
+    else None
 
 abbrev pub signal_text : SignalHeard ℕ → List ℕ
 signal_text (Waited value) = codes "Ready(" ++ decimal value ++ codes ")"

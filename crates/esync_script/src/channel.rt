@@ -1,68 +1,60 @@
 //! The words of a channel and of a priority channel.
-ghost use Rattle.std.specs.Prelude.{◌≡◌, []};
-ghost use Rattle.esync_script.specs.Opening.{new_object};
-
-use crate::fault::Fault;
-use crate::vocabulary::{Printed, REQS, Spoken};
-use crate::words::Words;
-use esync_base::store::Store;
+use esync_channel::channel::machine::{ChannelAsk, ChannelCall, ChannelHeard};
 use esync_channel::channel::{TryReceiveError, TrySendError};
-use esync_machine::requests::Requests;
-use esync_machine::run::Machine;
-use esync_run::channel::{ChannelAsk, ChannelCall, ChannelHeard, MailboxState};
-use std::io::Write;
+use esync_words::vocabulary::Vocabulary;
+use esync_words::words::Words;
+use std::io::{self, Write};
 
-impl Spoken for ChannelAsk<u32> {
-    fn from_words(name: &str, words: &mut Words<'_>) -> Option<Self> {
-        match name {
-            "send" => Some(ChannelAsk::Send(words.number()?)),
-            "receive" => Some(ChannelAsk::Receive),
-            "send-ready" => Some(ChannelAsk::SendReady),
-            "receive-ready" => Some(ChannelAsk::ReceiveReady),
-            _ => None,
-        }
-    }
-}
+/// The words of a channel of values.
+pub struct ChannelWords {}
 
-impl Spoken for ChannelCall<u32> {
-    fn from_words(name: &str, words: &mut Words<'_>) -> Option<Self> {
-        match name {
-            "try-send" => Some(ChannelCall::TrySend(words.number()?)),
-            "try-receive" => Some(ChannelCall::TryReceive),
-            "clear" => Some(ChannelCall::Clear),
-            "len" => Some(ChannelCall::Len),
-            "free" => Some(ChannelCall::FreeCapacity),
-            _ => None,
-        }
-    }
-}
+impl Vocabulary for ChannelWords {
+    type Ask = ChannelAsk<u32>;
 
-impl Printed for ChannelHeard<u32> {
-    ghost use Rattle.esync_script.specs.Channel.{channel_text};
+    type Call = ChannelCall<u32>;
+
+    type Heard = ChannelHeard<u32>;
+
+    ghost use Rattle.esync_script.specs.Channel.{channel_asks, channel_calls, channel_text};
+
+    ghost asks = { channel_asks };
+
+    ghost calls = { channel_calls };
 
     ghost text = { channel_text };
 
-    fn print<W: Write>(&self, output: &mut W) -> Result<(), Fault> {
-        match self {
-            ChannelHeard::Ready => write!(output, "Ready")?,
-            ChannelHeard::Received(message) => write!(output, "Ready({message})")?,
-            ChannelHeard::TrySent(Ok(())) => write!(output, "Ok")?,
-            ChannelHeard::TrySent(Err(TrySendError::Full(message))) => {
-                write!(output, "Err(Full({message}))")?
-            }
-            ChannelHeard::TryReceived(Ok(message)) => write!(output, "Ok({message})")?,
-            ChannelHeard::TryReceived(Err(TryReceiveError::Empty)) => {
-                write!(output, "Err(Empty)")?
-            }
-            ChannelHeard::Number(number) => write!(output, "{number}")?,
+    fn ask(name: &str, words: Words<'_>) -> Option<ChannelAsk<u32>> {
+        match name {
+            "send" => Some(ChannelAsk::Send(words.value()?)),
+            "receive" => words.nothing().map(|_| ChannelAsk::Receive),
+            "send-ready" => words.nothing().map(|_| ChannelAsk::SendReady),
+            "receive-ready" => words.nothing().map(|_| ChannelAsk::ReceiveReady),
+            _ => None,
         }
-        Ok(())
     }
-}
 
-/// An empty channel over this store, with no request.
-pub fn channel<S: Store>() -> Requests<MailboxState<S, u64, 1>, REQS, 1>
-    ensures { ⟦<Requests<MailboxState<S, u64, 1>, REQS, 1> as Machine>⟧.object result ≡ new_object [] }
-{
-    Requests::new(MailboxState::new())
+    fn call(name: &str, words: Words<'_>) -> Option<ChannelCall<u32>> {
+        match name {
+            "try-send" => Some(ChannelCall::TrySend(words.value()?)),
+            "try-receive" => words.nothing().map(|_| ChannelCall::TryReceive),
+            "clear" => words.nothing().map(|_| ChannelCall::Clear),
+            "len" => words.nothing().map(|_| ChannelCall::Len),
+            "free" => words.nothing().map(|_| ChannelCall::FreeCapacity),
+            _ => None,
+        }
+    }
+
+    fn print<W: Write>(heard: &ChannelHeard<u32>, output: &mut W) -> io::Result<()> {
+        match heard {
+            ChannelHeard::Ready => write!(output, "Ready"),
+            ChannelHeard::Received(message) => write!(output, "Ready({message})"),
+            ChannelHeard::TrySent(Ok(())) => write!(output, "Ok"),
+            ChannelHeard::TrySent(Err(TrySendError::Full(message))) => {
+                write!(output, "Err(Full({message}))")
+            }
+            ChannelHeard::TryReceived(Ok(message)) => write!(output, "Ok({message})"),
+            ChannelHeard::TryReceived(Err(TryReceiveError::Empty)) => write!(output, "Err(Empty)"),
+            ChannelHeard::Number(number) => write!(output, "{number}"),
+        }
+    }
 }

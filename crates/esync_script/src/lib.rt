@@ -1,27 +1,23 @@
 //! Scripts: commands for one primitive, a line each, and the lines that it answers.
 #![tactic(auto)]
 
-ghost use Rattle.std.specs.Prelude.{◌≡◌, ◌⊎◌, IsOk, OnOk, IfErr};
-ghost use Rattle.esync_script.specs.Fault.{IsStatus};
+ghost use Rattle.std.specs.Prelude.{◌≡◌, ◌⊎◌, Result, Err, IsOk, OnOk, IfErr};
+ghost use Rattle.esync_script.specs.Opening.{PlaysScript, EndsScript, status_of_outcome};
 
-use diagram::Diagram;
-use fault::Fault;
-use lines::Lines;
+use esync_priority::prio::{Kind, Max, Min};
+use esync_words::diagram::Diagram;
+use esync_words::fault::Fault;
+use esync_words::lines::Lines;
+use esync_words::play::{Replies, Telling};
 use std::alloc::Global;
 use std::io::{self, BufWriter, Read, Write};
-use vocabulary::{Answering, Replies};
 
-mod channel;
-mod diagram;
-mod fault;
-mod lines;
-mod opening;
-mod semaphore;
-mod signal;
+pub mod channel;
+pub mod opening;
+pub mod semaphore;
+pub mod signal;
 #[cfg(test)]
 mod tests;
-mod vocabulary;
-mod words;
 
 /// Reads a script, writes what its commands are answered, and returns the status that tells how it ended.
 ///
@@ -37,16 +33,16 @@ mod words;
 /// | 4 | for want of memory | `out of memory` |
 ///
 /// The lines before are answered in each case, unless it was their write that failed. Whether `errors` can be written changes
-/// no status.
+/// no status. `play_script` says of the lines and the answers what is proved.
 pub fn script<R: Read + Drop, W: Write + Drop, E: Write + Drop>(
     alloc: Global,
     input: R,
     output: W,
     errors: E,
 ) -> u8
-    ensures { IsStatus result }
+    ensures { (outcome : Result (Unit {0}) Fault) × (result ≡ status_of_outcome outcome) × EndsScript ⟦<u64 as PartialEq>⟧.eq ⟦<Replies as Telling>⟧.tells ⟦<Max as Kind<u32>>⟧.above ⟦<Min as Kind<u32>>⟧.above ⟦<Replies as Telling>⟧.opening (R.remaining input) outcome }
 {
-    play(alloc, &Replies {}, input, output, errors)
+    run(alloc, &Replies {}, input, output, errors)
 }
 
 /// Reads a script, writes it as a sequence diagram in the language of Mermaid, and returns the status, as `script` does.
@@ -59,21 +55,40 @@ pub fn trace<R: Read + Drop, W: Write + Drop, E: Write + Drop>(
     output: W,
     errors: E,
 ) -> u8
-    ensures { IsStatus result }
+    ensures { (outcome : Result (Unit {0}) Fault) × (result ≡ status_of_outcome outcome) × EndsScript ⟦<u64 as PartialEq>⟧.eq ⟦<Diagram as Telling>⟧.tells ⟦<Max as Kind<u32>>⟧.above ⟦<Min as Kind<u32>>⟧.above ⟦<Diagram as Telling>⟧.opening (R.remaining input) outcome }
 {
-    play(alloc, &Diagram {}, input, output, errors)
+    run(alloc, &Diagram {}, input, output, errors)
 }
 
-fn play<A: Answering, R: Read + Drop, W: Write + Drop, E: Write + Drop>(
+/// Plays a whole script, and writes what `telling` tells of it.
+///
+/// The commands are those that the lines say, the replies are a run of the primitive that line 1 names, and what is written is
+/// what `telling` tells of them. An error says which line is no command, or that a read, a write or memory failed; the lines
+/// before have been played.
+pub fn play_script<T: Telling, R: Read + Drop, W: Write>(
     alloc: Global,
-    answering: &A,
+    telling: &T,
+    input: R,
+    output: &mut W,
+) -> Result<(), Fault>
+    ensures { PlaysScript ⟦<u64 as PartialEq>⟧.eq T.tells ⟦<Max as Kind<u32>>⟧.above ⟦<Min as Kind<u32>>⟧.above T.opening (R.remaining input) (W.contents output.old) (W.contents output.new) result }
+{
+    match Lines::new(alloc, input) {
+        Ok(mut lines) => opening::play_lines(telling, &mut lines, output),
+        Err(fault) => Err(fault),
+    }
+}
+
+fn run<T: Telling, R: Read + Drop, W: Write + Drop, E: Write + Drop>(
+    alloc: Global,
+    telling: &T,
     input: R,
     output: W,
     mut errors: E,
 ) -> u8
-    ensures { IsStatus result }
+    ensures { (outcome : Result (Unit {0}) Fault) × (result ≡ status_of_outcome outcome) × EndsScript ⟦<u64 as PartialEq>⟧.eq T.tells ⟦<Max as Kind<u32>>⟧.above ⟦<Min as Kind<u32>>⟧.above T.opening (R.remaining input) outcome }
 {
-    match perform(alloc, answering, input, output) {
+    match perform(alloc, telling, input, output) {
         Ok(()) => 0,
         Err(fault) => {
             let _ = report(&mut errors, &fault);
@@ -87,15 +102,16 @@ fn report<E: Write>(errors: &mut E, fault: &Fault) -> io::Result<()> {
     errors.flush()
 }
 
-fn perform<A: Answering, R: Read + Drop, W: Write + Drop>(
+fn perform<T: Telling, R: Read + Drop, W: Write + Drop>(
     alloc: Global,
-    answering: &A,
+    telling: &T,
     input: R,
     output: W,
-) -> Result<(), Fault> {
-    let mut lines = Lines::new(alloc, input)?;
+) -> Result<(), Fault>
+    ensures { EndsScript ⟦<u64 as PartialEq>⟧.eq T.tells ⟦<Max as Kind<u32>>⟧.above ⟦<Min as Kind<u32>>⟧.above T.opening (R.remaining input) result }
+{
     let mut output = BufWriter::new(alloc, output).map_err(|_| Fault::OutOfMemory)?;
-    let outcome = opening::serve_script(answering, &mut lines, &mut output);
+    let outcome = play_script(alloc, telling, input, &mut output);
     finish(output, outcome)
 }
 

@@ -1,23 +1,38 @@
-//! Line 1 of a script, which names the primitive.
-ghost use Rattle.std.specs.Prelude.{◌≡◌, ℕ, true};
+//! Line 1 of a script, which names the primitive, and the machine that is played behind it.
+ghost use Rattle.std.specs.Prelude.{◌≡◌, ℕ, []};
 ghost use Rattle.esync_base.specs.Keeping.{BoundedList};
 ghost use Rattle.esync_priority.specs.Prio.{Bag};
-ghost use Rattle.esync_script.specs.Opening.{places, Plays, PlaysMessages, PlaysFair};
+ghost use Rattle.esync_script.specs.Opening.{places, capacity, opening, new_object, nobody_waits, Plays, PlaysMessages, PlaysFair, PlaysScript};
+ghost use Rattle.esync_words.specs.Commands.{says, command};
+ghost use Rattle.esync_words.specs.Played.{Played};
+ghost use Rattle.esync_words.specs.Tells.{tells_of};
+ghost use Rattle.esync_words.specs.Words.{one, and_then};
 
-use crate::channel::channel;
-use crate::fault::Fault;
-use crate::lines::Lines;
-use crate::semaphore::{fair, greedy};
-use crate::signal::signal;
-use crate::vocabulary::{Answering, Spoken, serve_new};
-use crate::words::Words;
+use crate::channel::ChannelWords;
+use crate::semaphore::{FairWords, GreedyWords};
+use crate::signal::SignalWords;
 use esync_base::deque::Deque;
+use esync_base::store::Store;
+use esync_cells::signal::SignalState;
+use esync_cells::signal::machine::SignalRun;
+use esync_channel::channel::Mailbox;
+use esync_machine::primitive::{Answer, Command};
+use esync_machine::requests::Requests;
+use esync_machine::run::Machine;
+use esync_permits::semaphore::machine::fair::FairRun;
+use esync_permits::semaphore::machine::greedy::GreedyRun;
+use esync_permits::semaphore::{FairState, GreedyState};
 use esync_priority::prio::{Kind, Max, Min, PrioQueue};
+use esync_words::fault::Fault;
+use esync_words::lines::Lines;
+use esync_words::play::{Opens, Parts, Telling, open, play};
+use esync_words::vocabulary::{REQS, Vocabulary};
+use esync_words::words::Words;
 use std::io::{Read, Write};
 
 /// How much a primitive holds, of the capacities that a script can ask for.
 #[derive(Clone, Copy, Debug, PartialEq, Eq)]
-enum Capacity {
+pub enum Capacity {
     One,
     Two,
     Three,
@@ -25,25 +40,111 @@ enum Capacity {
     Eight,
 }
 
-impl Capacity {
-    fn from_words(words: &mut Words<'_>) -> Option<Self> {
-        match words.number::<u64>()? {
-            1 => Some(Capacity::One),
-            2 => Some(Capacity::Two),
-            3 => Some(Capacity::Three),
-            4 => Some(Capacity::Four),
-            8 => Some(Capacity::Eight),
-            _ => None,
-        }
+// The capacity of this number of places.
+fn capacity_of(places: u64) -> Option<Capacity>
+    ensures { result ≡ capacity places }
+{
+    match places {
+        1 => Some(Capacity::One),
+        2 => Some(Capacity::Two),
+        3 => Some(Capacity::Three),
+        4 => Some(Capacity::Four),
+        8 => Some(Capacity::Eight),
+        _ => None,
     }
+}
 
-    // Where a primitive can have only one capacity.
-    fn is_one(self) -> Option<()> {
-        match self {
-            Capacity::One => Some(()),
+fn read_capacity(words: Words<'_>) -> Option<Capacity>
+    ensures { result ≡ and_then (one 64 words.entry) capacity }
+{
+    capacity_of(words.number()?)
+}
+
+/// The primitive that a script is about.
+#[derive(Clone, Copy, Debug, PartialEq, Eq)]
+pub enum Opening {
+    Channel(Capacity),
+    Max(Capacity),
+    Min(Capacity),
+    Signal,
+    Greedy(usize),
+    Fair(Capacity, usize),
+}
+
+impl Opens for Opening {
+    ghost use Rattle.esync_script.specs.Opening.{opening};
+
+    ghost opens = { opening };
+
+    fn opening(name: &str, words: Words<'_>) -> Option<Self> {
+        match name {
+            "channel" => Some(Opening::Channel(read_capacity(words)?)),
+            "max" => Some(Opening::Max(read_capacity(words)?)),
+            "min" => Some(Opening::Min(read_capacity(words)?)),
+            "signal" => (words.number()? == 1).then_some(Opening::Signal),
+            "greedy" => {
+                let (places, permits) = words.two_numbers()?;
+                (places == 1).then_some(Opening::Greedy(permits as usize))
+            }
+            "fair" => {
+                let (places, permits) = words.two_numbers()?;
+                Some(Opening::Fair(capacity_of(places)?, permits as usize))
+            }
             _ => None,
         }
     }
+}
+
+// Plays the lines behind line 1 over this machine.
+fn serve<V, M, T, R, W>(
+    telling: &T,
+    machine: M,
+    lines: &mut Lines<R>,
+    output: &mut W,
+) -> Result<(), Fault>
+where
+    V: Vocabulary,
+    M: Machine<Command = Command<V::Ask, u64, V::Call>> + Drop,
+    M::Reply: Parts<V::Heard> + Drop,
+    T: Telling,
+    R: Read + Drop,
+    W: Write,
+    ensures { Played M.semantics.meaning (says (command V.asks V.calls)) (tells_of M.Reply.answer M.Reply.wakes (T.tells V.Heard V.text)) (M.semantics.object machine) (M.semantics.registrations machine) lines.old.number lines.old.left (W.contents output.old) (W.contents output.new) result }
+{
+    let mut machine = machine;
+    play::<V, M, T, R, W>(telling, &mut machine, lines, output)
+}
+
+// An empty channel over this store, with no request.
+fn channel<S: Store>() -> Requests<Mailbox<S, u64>, REQS, 1>
+    ensures object { ⟦<Requests<Mailbox<S, u64>, REQS, 1> as Machine>⟧.semantics.object result ≡ new_object [] }
+    ensures registrations { ⟦<Requests<Mailbox<S, u64>, REQS, 1> as Machine>⟧.semantics.registrations result ≡ nobody_waits }
+{
+    Requests::new(Mailbox::new())
+}
+
+// A signal without a value, with no request.
+fn signal() -> SignalRun<u32, u64, REQS, 1>
+    ensures object { ⟦<SignalRun<u32, u64, REQS, 1> as Machine>⟧.semantics.object result ≡ new_object None }
+    ensures registrations { ⟦<SignalRun<u32, u64, REQS, 1> as Machine>⟧.semantics.registrations result ≡ [] }
+{
+    Requests::new(SignalState::new())
+}
+
+// A greedy semaphore of this number of permits, with no request.
+fn greedy(permits: usize) -> GreedyRun<u64, REQS, 1>
+    ensures object { ⟦<GreedyRun<u64, REQS, 1> as Machine>⟧.semantics.object result ≡ new_object permits }
+    ensures registrations { ⟦<GreedyRun<u64, REQS, 1> as Machine>⟧.semantics.registrations result ≡ [] }
+{
+    Requests::new(GreedyState::new(permits))
+}
+
+// A fair semaphore of this number of permits, with a queue of `N` places and no request.
+fn fair<const N: usize>(permits: usize) -> FairRun<u64, N, REQS, 1>
+    ensures object { ⟦<FairRun<u64, N, REQS, 1> as Machine>⟧.semantics.object result ≡ new_object (record { permits = permits; queue = [] }) }
+    ensures registrations { ⟦<FairRun<u64, N, REQS, 1> as Machine>⟧.semantics.registrations result ≡ [] }
+{
+    Requests::new(FairState::new(permits))
 }
 
 // An expression of a capacity, which has to be written for each: a number of places is part of a machine's type.
@@ -61,142 +162,96 @@ macro_rules! at_capacity {
 
 // A script over a channel of at most `n` messages.
 macro_rules! serve_list {
-    ($n:literal, $answering:ident, $lines:ident, $output:ident) => {
-        serve_new($answering, channel::<Deque<u32, $n>>(), $lines, $output)
+    ($n:literal, $telling:ident, $lines:ident, $output:ident) => {
+        serve::<ChannelWords, _, T, R, W>($telling, channel::<Deque<u32, $n>>(), $lines, $output)
     };
 }
 
-fn serve_channel<A: Answering, R: Read + Drop, W: Write>(
-    answering: &A,
+fn serve_channel<T: Telling, R: Read + Drop, W: Write>(
+    telling: &T,
     capacity: Capacity,
     lines: &mut Lines<R>,
     output: &mut W,
 ) -> Result<(), Fault>
-    ensures { A.prints_replies ≡ true → PlaysMessages ⟦<u64 as PartialEq>⟧.eq (BoundedList ℕ (places capacity)) (W.contents output.old) (W.contents output.new) result }
+    ensures { PlaysMessages ⟦<u64 as PartialEq>⟧.eq T.tells (BoundedList ℕ (places capacity)) lines.old.number lines.old.left (W.contents output.old) (W.contents output.new) result }
 {
-    at_capacity!(capacity, serve_list!(answering, lines, output))
+    at_capacity!(capacity, serve_list!(telling, lines, output))
 }
 
 // A script over a priority channel of at most `n` messages.
 macro_rules! serve_bag {
-    ($n:literal, $order:ident, $answering:ident, $lines:ident, $output:ident) => {
-        serve_new($answering, channel::<PrioQueue<u32, $order, $n>>(), $lines, $output)
+    ($n:literal, $order:ident, $telling:ident, $lines:ident, $output:ident) => {
+        serve::<ChannelWords, _, T, R, W>(
+            $telling,
+            channel::<PrioQueue<u32, $order, $n>>(),
+            $lines,
+            $output,
+        )
     };
 }
 
-fn serve_priority<P: Kind<u32>, A: Answering, R: Read + Drop, W: Write>(
-    answering: &A,
+fn serve_priority<P: Kind<u32>, T: Telling, R: Read + Drop, W: Write>(
+    telling: &T,
     capacity: Capacity,
     lines: &mut Lines<R>,
     output: &mut W,
 ) -> Result<(), Fault>
-    ensures { A.prints_replies ≡ true → PlaysMessages ⟦<u64 as PartialEq>⟧.eq (Bag ℕ P.above (places capacity)) (W.contents output.old) (W.contents output.new) result }
+    ensures { PlaysMessages ⟦<u64 as PartialEq>⟧.eq T.tells (Bag ℕ P.above (places capacity)) lines.old.number lines.old.left (W.contents output.old) (W.contents output.new) result }
 {
-    at_capacity!(capacity, serve_bag!(P, answering, lines, output))
+    at_capacity!(capacity, serve_bag!(P, telling, lines, output))
 }
 
 // A script over a fair semaphore with a queue of `n` places.
 macro_rules! serve_queue {
-    ($n:literal, $permits:ident, $answering:ident, $lines:ident, $output:ident) => {
-        serve_new($answering, fair::<$n>($permits), $lines, $output)
+    ($n:literal, $permits:ident, $telling:ident, $lines:ident, $output:ident) => {
+        serve::<FairWords, _, T, R, W>($telling, fair::<$n>($permits), $lines, $output)
     };
 }
 
-fn serve_fair<A: Answering, R: Read + Drop, W: Write>(
-    answering: &A,
+fn serve_fair<T: Telling, R: Read + Drop, W: Write>(
+    telling: &T,
     capacity: Capacity,
     permits: usize,
     lines: &mut Lines<R>,
     output: &mut W,
 ) -> Result<(), Fault>
-    ensures { A.prints_replies ≡ true → PlaysFair ⟦<u64 as PartialEq>⟧.eq (places capacity) permits (W.contents output.old) (W.contents output.new) result }
+    ensures { PlaysFair ⟦<u64 as PartialEq>⟧.eq T.tells (places capacity) permits lines.old.number lines.old.left (W.contents output.old) (W.contents output.new) result }
 {
-    at_capacity!(capacity, serve_queue!(permits, answering, lines, output))
+    at_capacity!(capacity, serve_queue!(permits, telling, lines, output))
 }
 
-/// The primitive that a script is about.
-#[derive(Clone, Copy, Debug, PartialEq, Eq)]
-enum Opening {
-    Channel(Capacity),
-    Max(Capacity),
-    Min(Capacity),
-    Signal,
-    Greedy(usize),
-    Fair(Capacity, usize),
-}
-
-impl Spoken for Opening {
-    fn from_words(name: &str, words: &mut Words<'_>) -> Option<Self> {
-        match name {
-            "channel" => Some(Opening::Channel(Capacity::from_words(words)?)),
-            "max" => Some(Opening::Max(Capacity::from_words(words)?)),
-            "min" => Some(Opening::Min(Capacity::from_words(words)?)),
-            "signal" => {
-                Capacity::from_words(words)?.is_one()?;
-                Some(Opening::Signal)
-            }
-            "greedy" => {
-                Capacity::from_words(words)?.is_one()?;
-                Some(Opening::Greedy(words.number()?))
-            }
-            "fair" => {
-                let capacity = Capacity::from_words(words)?;
-                Some(Opening::Fair(capacity, words.number()?))
-            }
-            _ => None,
-        }
-    }
-}
-
-/// Goes through a script from its line 1.
-pub fn serve_script<A: Answering, R: Read + Drop, W: Write>(
-    answering: &A,
-    lines: &mut Lines<R>,
-    output: &mut W,
-) -> Result<(), Fault> {
-    let opening = match lines.next(output)? {
-        Some(line) => read_opening(answering, line, output)?,
-        None => None,
-    };
-    match opening {
-        Some(opening) => serve_opening(answering, opening, lines, output),
-        None => Err(lines.not_a_command()),
-    }
-}
-
-// Makes the primitive that line 1 names, and answers the lines after it.
-fn serve_opening<A: Answering, R: Read + Drop, W: Write>(
-    answering: &A,
+// Makes the primitive that line 1 names, and plays the lines behind it.
+fn serve_opening<T: Telling, R: Read + Drop, W: Write>(
+    telling: &T,
     opening: Opening,
     lines: &mut Lines<R>,
     output: &mut W,
 ) -> Result<(), Fault>
-    ensures { A.prints_replies ≡ true → Plays ⟦<u64 as PartialEq>⟧.eq ⟦<Max as Kind<u32>>⟧.above ⟦<Min as Kind<u32>>⟧.above opening (W.contents output.old) (W.contents output.new) result }
+    ensures { Plays ⟦<u64 as PartialEq>⟧.eq T.tells ⟦<Max as Kind<u32>>⟧.above ⟦<Min as Kind<u32>>⟧.above opening lines.old.number lines.old.left (W.contents output.old) (W.contents output.new) result }
 {
     match opening {
-        Opening::Channel(capacity) => serve_channel(answering, capacity, lines, output),
-        Opening::Max(capacity) => {
-            serve_priority::<Max, A, R, W>(answering, capacity, lines, output)
+        Opening::Channel(capacity) => serve_channel(telling, capacity, lines, output),
+        Opening::Max(capacity) => serve_priority::<Max, T, R, W>(telling, capacity, lines, output),
+        Opening::Min(capacity) => serve_priority::<Min, T, R, W>(telling, capacity, lines, output),
+        Opening::Signal => serve::<SignalWords, _, T, R, W>(telling, signal(), lines, output),
+        Opening::Greedy(permits) => {
+            serve::<GreedyWords, _, T, R, W>(telling, greedy(permits), lines, output)
         }
-        Opening::Min(capacity) => {
-            serve_priority::<Min, A, R, W>(answering, capacity, lines, output)
-        }
-        Opening::Signal => serve_new(answering, signal(), lines, output),
-        Opening::Greedy(permits) => serve_new(answering, greedy(permits), lines, output),
-        Opening::Fair(capacity, permits) => {
-            serve_fair(answering, capacity, permits, lines, output)
-        }
+        Opening::Fair(capacity, permits) => serve_fair(telling, capacity, permits, lines, output),
     }
 }
 
-fn read_opening<A: Answering, W: Write>(
-    answering: &A,
-    line: &str,
+/// Plays a whole script, whose lines haven't been read.
+pub fn play_lines<T: Telling, R: Read + Drop, W: Write>(
+    telling: &T,
+    lines: &mut Lines<R>,
     output: &mut W,
-) -> Result<Option<Opening>, Fault> {
-    let opening = Opening::from_line(line);
-    if opening.is_some() {
-        answering.open(line, output)?;
+) -> Result<(), Fault>
+    requires { lines.old.number ≡ 0 }
+    ensures { PlaysScript ⟦<u64 as PartialEq>⟧.eq T.tells ⟦<Max as Kind<u32>>⟧.above ⟦<Min as Kind<u32>>⟧.above T.opening lines.old.left (W.contents output.old) (W.contents output.new) result }
+{
+    match open::<Opening, T, R, W>(telling, lines, output) {
+        Ok(opening) => serve_opening(telling, opening, lines, output),
+        Err(fault) => Err(fault),
     }
-    Ok(opening)
 }

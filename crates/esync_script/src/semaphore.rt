@@ -1,89 +1,125 @@
 //! The words of the greedy and the fair semaphore.
-ghost use Rattle.std.specs.Prelude.{◌≡◌, []};
-ghost use Rattle.esync_script.specs.Opening.{new_object};
+ghost use Rattle.std.specs.Prelude.{◌≡◌, OnOk};
+ghost use Rattle.std.specs.Io.KnownBytes.{Appends};
+ghost use Rattle.esync_words.specs.Text.{option_text};
+ghost use Rattle.esync_script.specs.Semaphore.{permit_asks, permit_calls};
 
-use crate::fault::Fault;
-use crate::vocabulary::{Printed, REQS, Spoken, print_option};
-use crate::words::Words;
-use esync_machine::requests::Requests;
-use esync_machine::run::Machine;
+use esync_permits::semaphore::machine::{PermitCall, PermitHeard};
 use esync_permits::semaphore::{Amount, WaitQueueFull};
-use esync_permits_run::calls::PermitCall;
-use esync_permits_run::fair::{FairHeard, FairRun, FairSide};
-use esync_permits_run::greedy::{GreedyHeard, GreedyRun, GreedySide};
-use std::io::Write;
+use esync_words::printing::print_option;
+use esync_words::vocabulary::Vocabulary;
+use esync_words::words::Words;
+use std::io::{self, Write};
 
-impl Spoken for Amount {
-    fn from_words(name: &str, words: &mut Words<'_>) -> Option<Self> {
-        match name {
-            "acquire" => Some(Amount::Exactly(words.number()?)),
-            "acquire-all" => Some(Amount::AllFrom(words.number()?)),
-            _ => None,
-        }
-    }
-}
-
-impl Spoken for PermitCall {
-    fn from_words(name: &str, words: &mut Words<'_>) -> Option<Self> {
-        match name {
-            "try" => {
-                let r = words.number()?;
-                Some(PermitCall::Try(r, Amount::Exactly(words.number()?)))
-            }
-            "try-all" => {
-                let r = words.number()?;
-                Some(PermitCall::Try(r, Amount::AllFrom(words.number()?)))
-            }
-            "disarm" => Some(PermitCall::Disarm(words.number()?)),
-            "release" => Some(PermitCall::Release(words.number()?)),
-            "set" => Some(PermitCall::Set(words.number()?)),
-            "permits" => Some(PermitCall::Permits),
-            _ => None,
-        }
-    }
-}
-
-impl Printed for GreedyHeard {
-    ghost use Rattle.esync_script.specs.Semaphore.{greedy_text};
-
-    ghost text = { greedy_text };
-
-    fn print<W: Write>(&self, output: &mut W) -> Result<(), Fault> {
-        match self {
-            GreedyHeard::Granted(permits) => write!(output, "Ready({permits})")?,
-            GreedyHeard::Tried(tried) => print_option(tried.map(|permits| permits as u64), output)?,
-            GreedyHeard::Count(permits) => write!(output, "{permits}")?,
-        }
-        Ok(())
-    }
-}
-
-impl Printed for FairHeard {
-    ghost use Rattle.esync_script.specs.Semaphore.{fair_text};
-
-    ghost text = { fair_text };
-
-    fn print<W: Write>(&self, output: &mut W) -> Result<(), Fault> {
-        match self {
-            FairHeard::Granted(Ok(permits)) => write!(output, "Ready({permits})")?,
-            FairHeard::Granted(Err(WaitQueueFull)) => write!(output, "Ready(Err(WaitQueueFull))")?,
-            FairHeard::Tried(tried) => print_option(tried.map(|permits| permits as u64), output)?,
-            FairHeard::Count(permits) => write!(output, "{permits}")?,
-        }
-        Ok(())
-    }
-}
-
-/// A greedy semaphore of this number of permits, with no request.
-pub fn greedy(permits: usize) -> GreedyRun<u64, REQS, 1>
-    ensures { ⟦<GreedyRun<u64, REQS, 1> as Machine>⟧.object result ≡ new_object permits }
+// What is asked of either semaphore.
+fn read_ask(name: &str, words: Words<'_>) -> Option<Amount>
+    ensures { result ≡ permit_asks name.now words.entry }
 {
-    Requests::new(GreedySide::new(permits))
+    match name {
+        "acquire" => Some(Amount::Exactly(words.number()? as usize)),
+        "acquire-all" => Some(Amount::AllFrom(words.number()? as usize)),
+        _ => None,
+    }
 }
 
-/// A fair semaphore of this number of permits, with a queue of `N` places and no request.
-pub fn fair<const N: usize>(permits: usize) -> FairRun<u64, N, REQS, 1>
-    ensures { ⟦<FairRun<u64, N, REQS, 1> as Machine>⟧.object result ≡ new_object (record { permits = permits; queue = [] }) }
+// A call of either semaphore.
+fn read_call(name: &str, words: Words<'_>) -> Option<PermitCall>
+    ensures { result ≡ permit_calls name.now words.entry }
 {
-    Requests::new(FairSide::new(permits))
+    match name {
+        "try" => {
+            let (r, permits) = words.two_numbers()?;
+            Some(PermitCall::Try(r as usize, Amount::Exactly(permits as usize)))
+        }
+        "try-all" => {
+            let (r, min) = words.two_numbers()?;
+            Some(PermitCall::Try(r as usize, Amount::AllFrom(min as usize)))
+        }
+        "disarm" => Some(PermitCall::Disarm(words.number()? as usize)),
+        "release" => Some(PermitCall::Release(words.number()? as usize)),
+        "set" => Some(PermitCall::Set(words.number()? as usize)),
+        "permits" => words.nothing().map(|_| PermitCall::Permits),
+        _ => None,
+    }
+}
+
+fn print_tried<W: Write>(tried: Option<usize>, output: &mut W) -> io::Result<()>
+    ensures { OnOk result (Appends (W.contents output.old) (W.contents output.new) (option_text tried)) }
+{
+    print_option(tried.map(|permits| permits as u64), output)
+}
+
+/// The words of a greedy semaphore.
+pub struct GreedyWords {}
+
+impl Vocabulary for GreedyWords {
+    type Ask = Amount;
+
+    type Call = PermitCall;
+
+    type Heard = PermitHeard<usize>;
+
+    ghost use Rattle.std.specs.Prelude.{decimal};
+    ghost use Rattle.esync_script.specs.Semaphore.{permit_asks, permit_calls, permit_text};
+
+    ghost asks = { permit_asks };
+
+    ghost calls = { permit_calls };
+
+    ghost text = { permit_text decimal };
+
+    fn ask(name: &str, words: Words<'_>) -> Option<Amount> {
+        read_ask(name, words)
+    }
+
+    fn call(name: &str, words: Words<'_>) -> Option<PermitCall> {
+        read_call(name, words)
+    }
+
+    fn print<W: Write>(heard: &PermitHeard<usize>, output: &mut W) -> io::Result<()> {
+        match heard {
+            PermitHeard::Granted(permits) => write!(output, "Ready({permits})"),
+            PermitHeard::Tried(tried) => print_tried(*tried, output),
+            PermitHeard::Count(permits) => write!(output, "{permits}"),
+        }
+    }
+}
+
+/// The words of a fair semaphore.
+pub struct FairWords {}
+
+impl Vocabulary for FairWords {
+    type Ask = Amount;
+
+    type Call = PermitCall;
+
+    type Heard = PermitHeard<Result<usize, WaitQueueFull>>;
+
+    ghost use Rattle.esync_script.specs.Semaphore.{permit_asks, permit_calls, permit_text, fair_text};
+
+    ghost asks = { permit_asks };
+
+    ghost calls = { permit_calls };
+
+    ghost text = { permit_text fair_text };
+
+    fn ask(name: &str, words: Words<'_>) -> Option<Amount> {
+        read_ask(name, words)
+    }
+
+    fn call(name: &str, words: Words<'_>) -> Option<PermitCall> {
+        read_call(name, words)
+    }
+
+    fn print<W: Write>(
+        heard: &PermitHeard<Result<usize, WaitQueueFull>>,
+        output: &mut W,
+    ) -> io::Result<()> {
+        match heard {
+            PermitHeard::Granted(Ok(permits)) => write!(output, "Ready({permits})"),
+            PermitHeard::Granted(Err(WaitQueueFull)) => write!(output, "Ready(Err(WaitQueueFull))"),
+            PermitHeard::Tried(tried) => print_tried(*tried, output),
+            PermitHeard::Count(permits) => write!(output, "{permits}"),
+        }
+    }
 }

@@ -1,55 +1,51 @@
 //! The words of a signal.
-ghost use Rattle.std.specs.Prelude.{◌≡◌, None};
-ghost use Rattle.esync_script.specs.Opening.{new_object};
+use esync_cells::signal::machine::{SignalCall, SignalHeard, Wait};
+use esync_words::printing::print_option;
+use esync_words::vocabulary::Vocabulary;
+use esync_words::words::Words;
+use std::io::{self, Write};
 
-use crate::fault::Fault;
-use crate::vocabulary::{Printed, REQS, Spoken, print_option};
-use crate::words::Words;
-use esync_machine::requests::Requests;
-use esync_machine::run::Machine;
-use esync_run::signal::{SignalCall, SignalHeard, SignalRoom, SignalRun, Wait};
-use std::io::Write;
+/// The words of a signal of values.
+pub struct SignalWords {}
 
-impl Spoken for Wait {
-    fn from_words(name: &str, _words: &mut Words<'_>) -> Option<Self> {
-        match name {
-            "wait" => Some(Wait {}),
-            _ => None,
-        }
-    }
-}
+impl Vocabulary for SignalWords {
+    type Ask = Wait;
 
-impl Spoken for SignalCall<u32> {
-    fn from_words(name: &str, words: &mut Words<'_>) -> Option<Self> {
-        match name {
-            "signal" => Some(SignalCall::Signal(words.number()?)),
-            "reset" => Some(SignalCall::Reset),
-            "try-take" => Some(SignalCall::TryTake),
-            "signaled" => Some(SignalCall::Signaled),
-            _ => None,
-        }
-    }
-}
+    type Call = SignalCall<u32>;
 
-impl Printed for SignalHeard<u32> {
-    ghost use Rattle.esync_script.specs.Signal.{signal_text};
+    type Heard = SignalHeard<u32>;
+
+    ghost use Rattle.esync_script.specs.Signal.{signal_asks, signal_calls, signal_text};
+
+    ghost asks = { signal_asks };
+
+    ghost calls = { signal_calls };
 
     ghost text = { signal_text };
 
-    fn print<W: Write>(&self, output: &mut W) -> Result<(), Fault> {
-        match self {
-            SignalHeard::Waited(value) => write!(output, "Ready({value})")?,
-            SignalHeard::Taken(taken) => print_option(taken.map(u64::from), output)?,
-            SignalHeard::Signaled(true) => write!(output, "true")?,
-            SignalHeard::Signaled(false) => write!(output, "false")?,
+    fn ask(name: &str, words: Words<'_>) -> Option<Wait> {
+        match name {
+            "wait" => words.nothing().map(|_| Wait {}),
+            _ => None,
         }
-        Ok(())
     }
-}
 
-/// A signal without a value, with no request.
-pub fn signal() -> SignalRun<u32, u64, REQS, 1>
-    ensures { ⟦<SignalRun<u32, u64, REQS, 1> as Machine>⟧.object result ≡ new_object None }
-{
-    Requests::new(SignalRoom::new())
+    fn call(name: &str, words: Words<'_>) -> Option<SignalCall<u32>> {
+        match name {
+            "signal" => Some(SignalCall::Signal(words.value()?)),
+            "reset" => words.nothing().map(|_| SignalCall::Reset),
+            "try-take" => words.nothing().map(|_| SignalCall::TryTake),
+            "signaled" => words.nothing().map(|_| SignalCall::Signaled),
+            _ => None,
+        }
+    }
+
+    fn print<W: Write>(heard: &SignalHeard<u32>, output: &mut W) -> io::Result<()> {
+        match heard {
+            SignalHeard::Waited(value) => write!(output, "Ready({value})"),
+            SignalHeard::Taken(taken) => print_option(taken.map(u64::from), output),
+            SignalHeard::Signaled(true) => write!(output, "true"),
+            SignalHeard::Signaled(false) => write!(output, "false"),
+        }
+    }
 }

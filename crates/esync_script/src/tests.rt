@@ -1,10 +1,10 @@
 //! Whole scripts: what is printed, which lines are no commands, and what a stream that fails leaves.
 use super::*;
-use crate::vocabulary::Printed;
+use crate::channel::ChannelWords;
 use esync_base::waitqueue::Wakes;
+use esync_channel::channel::machine::ChannelHeard;
 use esync_machine::primitive::Answer;
-use esync_machine::run::Reply;
-use esync_run::channel::ChannelHeard;
+use esync_words::printing::{print_answer, print_reply};
 use std::cell::Cell;
 use std::io::ErrorKind;
 use std::process::Abort;
@@ -173,6 +173,15 @@ fn a_fair_queue_has_its_places(rt: HostRuntime) -> Result<(), Fail> {
         &rt,
         "fair 1 1\nstart 0 acquire-all 2\npoll 0 7\nstart 1 acquire 0\npoll 1 8\ntry-all 2 0\nset 3\npoll 0 7\ndisarm 0\npermits\n",
         "Ok | -\nPending | -\nOk | -\nReady(Err(WaitQueueFull)) | -\nNone | -\nOk | 7\nReady(3) | -\n3 | -\n0 | -\n",
+    )
+}
+
+#[test]
+fn a_request_that_ends_gives_its_place_back(rt: HostRuntime) -> Result<(), Fail> {
+    assert_answers(
+        &rt,
+        "fair 2 0\nstart 0 acquire 1\nstart 1 acquire 1\nstart 2 acquire 1\npoll 0 1\npoll 1 2\nend 1\npoll 2 3\nrelease 1\npoll 0 1\npermits\n",
+        "Ok | -\nOk | -\nOk | -\nPending | -\nPending | -\nOk | -\nPending | -\nOk | 1\nReady(1) | 3\n0 | -\n",
     )
 }
 
@@ -397,7 +406,7 @@ fn prints_several_wakers_in_order(rt: HostRuntime) -> Result<(), Fail> {
     wakes.push(9);
     let answer = Answer::Gives(ChannelHeard::<u32>::Ready);
     let mut text = Vec::new(rt.alloc());
-    Reply { answer, wakes }.print(&mut text)?;
+    print_reply::<ChannelWords, _>(&answer, wakes.as_slice(), &mut text)?;
     assert_eq!(rt; str::from_utf8(&text)?, "Ready | 9 0 9\n");
     Ok(())
 }
@@ -405,8 +414,8 @@ fn prints_several_wakers_in_order(rt: HostRuntime) -> Result<(), Fail> {
 #[test]
 fn want_of_memory_is_no_answer(rt: HostRuntime) {
     let mut text = Vec::new(rt.alloc());
-    let answer = Answer::<ChannelHeard<u32>>::NoMemory;
-    assert_eq!(rt; answer.print(&mut text), Err(Fault::OutOfMemory));
+    let printed = print_answer::<ChannelWords, _>(&Answer::NoMemory, &mut text);
+    assert_eq!(rt; printed, Err(Fault::OutOfMemory));
     assert_eq!(rt; text.len(), 0);
 }
 

@@ -6,6 +6,7 @@ use Rattle.esync_machine.specs.declared.primitive.Answer.{Answer}
 use Rattle.esync_machine.specs.declared.primitive.Answer.TheVariants.{Done, Pending, Gives}
 use Rattle.esync_machine.specs.declared.primitive.Reach.{Reach}
 use Rattle.esync_machine.specs.declared.primitive.Reach.TheVariants.{Nobody, Leavers}
+use Rattle.esync_machine.specs.Wakings.{Wakings, Handed, nothing, registers, hands_out}
 use Rattle.esync_machine.specs.Rules.{Rules, Alone, IsIdle, IdleIsPending}
 use Rattle.esync_sketches.specs.declared.leaving.NextMessage.{NextMessage}
 use Rattle.esync_sketches.specs.declared.leaving.PostCall.{PostCall}
@@ -49,6 +50,28 @@ post_rules = record {
   leaves = λ o call h. true;
   IsRequest = λ h. Unit {0};
   WakesItself = ⊥;
+}
+
+-- a post hands out the subscriber's waker, and leaving keeps it
+abbrev pub poll_hands : {W : Type 0} → (W → W → Bool) → Option ℕ → List W → W → Handed (List W) W
+poll_hands eq None reader w = registers eq reader w
+poll_hands eq (Some x) reader w = nothing reader
+
+abbrev pub post_hands : {W : Type 0} → Bool → List W → Handed (List W) W
+post_hands true reader = hands_out reader
+post_hands false reader = nothing reader
+
+abbrev pub call_hands : {W : Type 0} → Posted → List W → PostCall → Handed (List W) W
+call_hands o reader Join = nothing reader
+call_hands o reader Leave = nothing reader
+call_hands o reader (Post x) = post_hands o.is_live reader
+
+abbrev pub post_wakings : {W : Type 0} → (W → W → Bool) → Wakings Posted NextMessage PostCall ℕ W
+post_wakings {W} eq = record {
+  Registered = List W;
+  polls = λ o reader h w a p. poll_hands eq o.message reader w;
+  ends = λ o reader h. nothing reader;
+  calls = λ o reader call p a. call_hands o reader call;
 }
 
 abbrev pub OwesReader : {W : Type 0} → (W → W → Bool) → Option ℕ → List W → W → Type 0

@@ -2,7 +2,7 @@
 ghost use Rattle.std.specs.Prelude.{◌≡◌, ℕ, ◌≤◌, IfOk, OnErr};
 ghost use Rattle.esync_machine.specs.Runs.{GoodRun};
 ghost use Rattle.esync_machine.specs.Object.{Object, requests_meaning};
-ghost use Rattle.esync_sketches.specs.Leaving.{post_rules};
+ghost use Rattle.esync_sketches.specs.Leaving.{post_rules, post_wakings};
 
 use esync_base::waitqueue::{WakerRegistration, Wakes};
 use esync_machine::primitive::{Answer, Command, Primitive, Reach, Turn};
@@ -50,6 +50,12 @@ impl<W: Copy + Eq, const K: usize> Primitive<K> for PostBox<W, K> {
     ghost rules = { post_rules };
 
     ghost core = { λ m. record { is_live = m.is_live; message = m.message } };
+
+    ghost wakings = { post_wakings W.eq };
+
+    ghost registrations = { λ m. m.reader };
+
+    ghost most = { 1 };
 
     ghost Owes = { λ m h w. OwesReader W.eq m.message m.reader w };
 
@@ -126,7 +132,7 @@ impl<W: Copy + Eq, const K: usize> Primitive<K> for PostBox<W, K> {
 
     ghost symmetric = { λ h k a. tt };
 
-    ghost use Rattle.esync_machine.specs.Rules.{all_requests};
+    ghost use Rattle.esync_machine.specs.RulesLaws.{all_requests};
 
     ghost no_requests = { all_requests post_rules (λ h. tt) (λ o o2 call p p2 a c. c.1) };
 }
@@ -140,7 +146,7 @@ pub fn run_post<W: Copy + Eq, const REQS: usize, const K: usize>(
     machine: &mut PostRun<W, REQS, K>,
     commands: Vec<Command<NextMessage, W, PostCall>>,
 ) -> Result<Vec<Reply<Answer<u32>, W, K>>, AllocError>
-    ensures run { IfOk result (λ replies. GoodRun (requests_meaning post_rules W W.eq K) (record { core = record { is_live = machine.old.state.is_live; message = machine.old.state.message }; requests = machine.old.requests }) commands.items replies.items (record { core = record { is_live = machine.new.state.is_live; message = machine.new.state.message }; requests = machine.new.requests })) }
+    ensures run { IfOk result (λ replies. GoodRun (requests_meaning post_rules (post_wakings W.eq) W.eq K) (record { core = record { is_live = machine.old.state.is_live; message = machine.old.state.message }; requests = machine.old.requests }) machine.old.state.reader commands.items replies.items (record { core = record { is_live = machine.new.state.is_live; message = machine.new.state.message }; requests = machine.new.requests }) machine.new.state.reader) }
     ensures refused { OnErr result (machine.new ≡ machine.old) }
 {
     run(alloc, machine, commands)

@@ -1,3 +1,4 @@
+use crate::notes::hands_out;
 use esync_base::waitqueue::{Context, Poll, Wakes};
 use esync_channel::channel::{ChannelState, SendRequest, TryReceiveError, TrySendError};
 use std::process::Abort;
@@ -7,11 +8,6 @@ type One = ChannelState<u32, u64, 1>;
 type Two = ChannelState<u32, u64, 2>;
 
 type Three = ChannelState<u32, u64, 3>;
-
-// The wakers that were handed out are this one alone, or none.
-fn hands_out(rt: &impl Abort, wakes: &Wakes<u64, 1>, waker: Option<u64>) {
-    assert_eq!(rt; wakes.as_slice(), [waker].as_slice());
-}
 
 fn polls_receive(
     rt: &impl Abort,

@@ -4,6 +4,10 @@
 #[cfg(test)]
 mod channel;
 #[cfg(test)]
+mod deque;
+#[cfg(test)]
+mod mailboxes;
+#[cfg(test)]
 mod notes;
 #[cfg(test)]
 mod registrations;
@@ -13,3 +17,5 @@ mod runs;
 mod semaphores;
 #[cfg(test)]
 mod shared;
+#[cfg(test)]
+mod signal;

@@ -1,26 +1,26 @@
-//! A hand that notes what it is given.
-use embassy_sync::waitqueue::Hand;
+//! A hand that notes what it is given, and what was handed out.
+use embassy_sync::waitqueue::{Hand, Wakes};
 use std::cell::Cell;
 use std::process::Abort;
 use std::sync::Wait;
 
-/// A hand that notes the waker that it was last given.
+/// A hand that notes the wakers that it was given, in order. It has room for 8.
 #[derive(Drop)]
 pub struct Notes<'a, R> {
     rt: &'a R,
-    last: Cell<Option<u64>>,
+    given: Cell<Wakes<u64, 8>>,
 }
 
 impl<'a, R: Wait> Notes<'a, R> {
     pub fn new(rt: &'a R) -> Self {
         Notes {
             rt,
-            last: Cell::new(None),
+            given: Cell::new(Wakes::new()),
         }
     }
 }
 
-impl<R: Wait> Hand<u64> for &Notes<'_, R> {
+impl<R: Wait + Abort> Hand<u64> for &Notes<'_, R> {
     type Rt = R;
 
     fn rt(&self) -> &R {
@@ -28,13 +28,27 @@ impl<R: Wait> Hand<u64> for &Notes<'_, R> {
     }
 
     fn wake(&self, waker: u64) {
-        self.last.set(Some(waker));
+        let mut given = self.given.get();
+        if given.len() == 8 {
+            self.rt.abort();
+        }
+        given.push(waker);
+        self.given.set(given);
     }
 }
 
-/// The hand was given this waker since it was last asked, or none.
-pub fn woken<R: Wait>(rt: &impl Abort, notes: &Notes<'_, R>, waker: Option<u64>) {
-    assert_eq!(rt; notes.last.replace(None), waker);
+/// The hand was given these wakers in this order since it was last asked.
+pub fn woken<R: Wait>(rt: &impl Abort, notes: &Notes<'_, R>, wakers: &[u64]) {
+    let given = notes.given.replace(Wakes::new());
+    assert_eq!(rt; given.len(), wakers.len());
+    for (noted, waker) in given.as_slice().iter().zip(wakers) {
+        assert_eq!(rt; *noted, Some(*waker));
+    }
+}
+
+/// The wakers that were handed out are this one alone, or none.
+pub fn hands_out(rt: &impl Abort, wakes: &Wakes<u64, 1>, waker: Option<u64>) {
+    assert_eq!(rt; wakes.as_slice(), [waker].as_slice());
 }
 
 /// Drops a future, if this is the point where it is to be dropped.

@@ -1,14 +1,12 @@
 use crate::notes::{Notes, drop_at, woken};
 use embassy_sync::blocking_mutex::CriticalSectionMutex;
 use embassy_sync::channel::{
-    Channel, ChannelState, DynamicReceiveFuture, DynamicReceiver, DynamicSendFuture, DynamicSender,
-    TryReceiveError, TrySendError,
+    Channel, ChannelState, DynamicReceiver, DynamicSender, TryReceiveError, TrySendError,
 };
 use embassy_sync::priority_channel::{Max, Min, PriorityChannel};
 use embassy_sync::signal::Signal;
 use embassy_sync::waitqueue::{Context, Poll, Wakes};
 use std::sync::Wait;
-use std::test::Fail;
 use std::thread;
 
 #[test]
@@ -19,14 +17,14 @@ fn displaced_receiver_is_woken_by_the_hand(rt: HostRuntime) {
     let mut second = channel.receive();
     let (one, two) = (Context::from_waker(1), Context::from_waker(2));
     assert!(rt; first.poll(&one) == Poll::Pending);
-    woken(&rt, &notes, None);
+    woken(&rt, &notes, &[]);
     assert!(rt; second.poll(&two) == Poll::Pending);
-    woken(&rt, &notes, Some(1));
+    woken(&rt, &notes, &[1]);
     assert!(rt; channel.try_send(7) == Ok(()));
-    woken(&rt, &notes, Some(2));
+    woken(&rt, &notes, &[2]);
     drop(second);
     assert!(rt; first.poll(&one) == Poll::Ready(7));
-    woken(&rt, &notes, None);
+    woken(&rt, &notes, &[]);
 }
 
 #[test]
@@ -42,12 +40,12 @@ fn clear_wakes_the_sender_by_the_hand(rt: HostRuntime) {
     let cx = Context::from_waker(1);
     assert!(rt; !send.is_finished());
     assert!(rt; send.poll(&cx) == Poll::Pending);
-    woken(&rt, &notes, None);
+    woken(&rt, &notes, &[]);
     channel.clear();
-    woken(&rt, &notes, Some(1));
+    woken(&rt, &notes, &[1]);
     assert!(rt; !send.is_finished());
     assert!(rt; send.poll(&cx) == Poll::Ready(()));
-    woken(&rt, &notes, None);
+    woken(&rt, &notes, &[]);
     assert!(rt; send.is_finished());
     assert_eq!(rt; channel.len(), 1);
     assert_eq!(rt; channel.capacity(), 3);
@@ -59,19 +57,21 @@ fn ready_polls_register_by_handles(rt: HostRuntime) {
     let channel: Channel<u32, u64, _, 2> = Channel::new(&notes);
     let (sender, receiver) = (channel.sender(), channel.receiver());
     assert!(rt; receiver.poll_ready_to_receive(&Context::from_waker(1)) == Poll::Pending);
-    woken(&rt, &notes, None);
+    woken(&rt, &notes, &[]);
     assert!(rt; sender.try_send(1) == Ok(()));
-    woken(&rt, &notes, Some(1));
+    woken(&rt, &notes, &[1]);
     assert!(rt; receiver.poll_ready_to_receive(&Context::from_waker(1)) == Poll::Ready(()));
     let mut ready = receiver.ready_to_receive();
     assert!(rt; ready.poll(&Context::from_waker(2)) == Poll::Ready(()));
-    woken(&rt, &notes, Some(1));
+    woken(&rt, &notes, &[1]);
+    assert!(rt; ready.poll(&Context::from_waker(2)) == Poll::Ready(()));
+    woken(&rt, &notes, &[]);
     assert!(rt; sender.try_send(2) == Ok(()));
-    woken(&rt, &notes, Some(2));
+    woken(&rt, &notes, &[2]);
     assert!(rt; sender.poll_ready_to_send(&Context::from_waker(3)) == Poll::Pending);
-    woken(&rt, &notes, None);
+    woken(&rt, &notes, &[]);
     assert!(rt; receiver.try_receive() == Ok(1));
-    woken(&rt, &notes, Some(3));
+    woken(&rt, &notes, &[3]);
 }
 
 #[test]
@@ -81,11 +81,12 @@ fn the_greatest_leaves_first(rt: HostRuntime) {
     assert!(rt; channel.poll_ready_to_send(&Context::from_waker(1)) == Poll::Ready(()));
     for message in [1, 2, 3] {
         assert!(rt; channel.try_send(message) == Ok(()));
-        woken(&rt, &notes, None);
+        woken(&rt, &notes, &[]);
     }
-    for (message, waker) in [(3, Some(1)), (2, None), (1, None)] {
+    let told: [(u32, &[u64]); 3] = [(3, &[1]), (2, &[]), (1, &[])];
+    for (message, wakers) in told {
         assert!(rt; channel.try_receive() == Ok(message));
-        woken(&rt, &notes, waker);
+        woken(&rt, &notes, wakers);
     }
 }
 
@@ -98,29 +99,16 @@ fn a_signal_keeps_its_waiter_over_a_reset(rt: HostRuntime) {
     let (one, two) = (Context::from_waker(1), Context::from_waker(2));
     assert!(rt; first.poll(&one) == Poll::Pending);
     assert!(rt; second.poll(&two) == Poll::Pending);
-    woken(&rt, &notes, Some(1));
+    woken(&rt, &notes, &[1]);
     signal.reset();
-    woken(&rt, &notes, None);
+    woken(&rt, &notes, &[]);
     signal.signal(5);
-    woken(&rt, &notes, Some(2));
+    woken(&rt, &notes, &[2]);
     assert!(rt; signal.signaled());
     assert!(rt; second.poll(&two) == Poll::Ready(5));
-    woken(&rt, &notes, None);
+    woken(&rt, &notes, &[]);
     assert!(rt; first.poll(&one) == Poll::Pending);
     assert_eq!(rt; signal.try_take(), None);
-}
-
-#[test]
-fn cloning(rt: HostRuntime) -> Result<(), Fail> {
-    let notes = Notes::new(&rt);
-    let channel: Channel<u32, u64, _, 3> = Channel::new(&notes);
-    let (receiver, sender) = (channel.receiver(), channel.sender());
-    let other_receiver = receiver.clone()?;
-    let other_sender = sender.clone()?;
-    assert!(rt; other_sender.try_send(1) == Ok(()));
-    assert!(rt; sender.len() == 1 && receiver.len() == 1);
-    assert!(rt; other_receiver.try_receive() == Ok(1));
-    Ok(())
 }
 
 #[test]
@@ -155,36 +143,11 @@ fn dynamic_dispatch_constructor(rt: HostRuntime) {
     assert!(rt; !send.is_finished());
     assert!(rt; send.poll(&cx) == Poll::Pending);
     assert!(rt; receiver.try_receive() == Ok(1));
-    woken(&rt, &notes, Some(4));
+    woken(&rt, &notes, &[4]);
     assert!(rt; !send.is_finished());
     assert!(rt; send.poll(&cx) == Poll::Ready(()));
     let mut receive = receiver.receive();
     assert!(rt; receive.poll(&cx) == Poll::Ready(2));
-}
-
-#[test]
-fn futures_become_dynamic_ones(rt: HostRuntime) {
-    let notes = Notes::new(&rt);
-    let channel: Channel<u32, u64, _, 1> = Channel::new(&notes);
-    let cx = Context::from_waker(1);
-    let mut send = DynamicSendFuture::from(channel.send(3));
-    assert!(rt; !send.is_finished());
-    assert!(rt; send.poll(&cx) == Poll::Ready(()));
-    let mut receive = DynamicReceiveFuture::from(channel.receive());
-    assert!(rt; receive.poll(&cx) == Poll::Ready(3));
-    assert!(rt; receive.poll(&cx) == Poll::Pending);
-}
-
-#[test]
-fn sender_send_completes_if_capacity(rt: HostRuntime) {
-    let notes = Notes::new(&rt);
-    let channel: Channel<u32, u64, _, 1> = Channel::new(&notes);
-    let cx = Context::from_waker(1);
-    let mut send = channel.send(1);
-    assert!(rt; !send.is_finished());
-    assert!(rt; send.poll(&cx) == Poll::Ready(()));
-    let mut receive = channel.receive();
-    assert!(rt; receive.poll(&cx) == Poll::Ready(1));
 }
 
 #[test]
@@ -200,22 +163,23 @@ fn a_receiver_dropped_at_any_point_takes_no_message(rt: HostRuntime) {
         drop_at(&mut second, point == 1);
         if let Some(second) = &mut second {
             assert!(rt; second.poll(&two) == Poll::Pending);
-            woken(&rt, &notes, Some(1));
+            woken(&rt, &notes, &[1]);
         }
         drop_at(&mut second, point == 2);
-        woken(&rt, &notes, None);
+        woken(&rt, &notes, &[]);
         assert!(rt; channel.try_send(7) == Ok(()));
-        woken(&rt, &notes, Some(told));
+        woken(&rt, &notes, &[told]);
         drop_at(&mut second, point == 3);
         assert!(rt; first.poll(&one) == Poll::Ready(7));
-        woken(&rt, &notes, None);
+        woken(&rt, &notes, &[]);
     }
 }
 
 #[test]
 fn a_sender_dropped_at_any_point_sends_nothing(rt: HostRuntime) {
     let cx = Context::from_waker(1);
-    for (point, told) in [(0, None), (1, None), (2, Some(1)), (3, Some(1))] {
+    let points: [(u32, &[u64]); 4] = [(0, &[]), (1, &[]), (2, &[1]), (3, &[1])];
+    for (point, told) in points {
         let notes = Notes::new(&rt);
         let channel: Channel<u32, u64, _, 1> = Channel::new(&notes);
         let mut send = Some(channel.send(8));
@@ -227,7 +191,7 @@ fn a_sender_dropped_at_any_point_sends_nothing(rt: HostRuntime) {
             assert!(rt; send.poll(&cx) == Poll::Pending);
         }
         drop_at(&mut send, point == 2);
-        woken(&rt, &notes, None);
+        woken(&rt, &notes, &[]);
         assert!(rt; channel.try_receive() == Ok(7));
         woken(&rt, &notes, told);
         drop_at(&mut send, point == 3);

@@ -23,26 +23,33 @@ pub trait PermitState: Drop {
     /// What a request is for, until it is over.
     ghost wanted: { Self.Request → Option Amount };
 
+    /// This number of permits, and nobody who waits.
     fn new(permits: usize) -> Self;
 
+    /// How many permits are there to be taken.
     fn permits(&self) -> usize;
 
     /// Takes the permits of a request that doesn't wait, if they are granted now.
     fn try_take(&mut self, amount: Amount) -> Option<usize>
         ensures { IfSome result (λ permits. Suits amount permits) };
 
+    /// Gives permits back, up to `usize::MAX`, and wakes who waits for some.
     fn release(&mut self, permits: usize, wakes: &mut Wakes<Self::Waker, 1>)
         requires { length wakes.old < 1 };
 
+    /// Makes this the number of permits that are there. Wakes who waits, if it is more than before.
     fn set(&mut self, permits: usize, wakes: &mut Wakes<Self::Waker, 1>)
         requires { length wakes.old < 1 };
 
+    /// A request for this amount, which has heard nothing yet.
     fn request(amount: Amount) -> Self::Request
         ensures { wanted result ≡ Some amount };
 
+    /// It has heard its answer.
     fn is_finished(request: &Self::Request) -> bool
         ensures { result ≡ is_none (wanted request.now) };
 
+    /// Takes the permits of a request, if they are granted now. If not, the context's waker waits for them.
     fn poll(
         &mut self,
         request: &mut Self::Request,
@@ -57,6 +64,7 @@ pub trait PermitState: Drop {
     /// The request is one that has to be ended in the state.
     fn has_a_place(request: &Self::Request) -> bool;
 
+    /// Ends a request, and its waiting.
     fn end(&mut self, request: &Self::Request, wakes: &mut Wakes<Self::Waker, 1>)
         requires { length wakes.old < 1 };
 }

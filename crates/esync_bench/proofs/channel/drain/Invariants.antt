@@ -3,6 +3,6 @@ use Rattle.esync_bench.proofs.channel.drain.Given as goal
 
 abbrev pub invariant-loop : goal.invariant-loop
 invariant-loop g l = record {
-  held : length l.state.store + l.counter ≡ length l.initial.state.store;
-  total : l.total + sum l.state.store ≡ sum l.initial.state.store;
+  held : length l.state.store.items + l.counter ≡ length l.initial.state.store.items;
+  total : l.total + sum l.state.store.items ≡ sum l.initial.state.store.items;
 }

@@ -3,7 +3,7 @@ use Rattle.esync_bench.proofs.channel.fill_and_drain.Given as goal
 
 abbrev pub invariant-loop-rest : goal.invariant-loop-rest
 invariant-loop-rest g l = record {
-  empty : length l.state.store ≡ 0;
+  empty : length l.state.store.items ≡ 0;
   total : l.total + sum l.rest ≡ sum l.messages;
 }
 

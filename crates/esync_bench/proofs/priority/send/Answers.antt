@@ -4,7 +4,7 @@ use Rattle.esync_bench.proofs.Bags.{length-sent, sum-sent}
 use Rattle.esync_bench.proofs.priority.send.Goals as goal
 
 pub returns-clause-held : goal.returns-clause-held
-returns-clause-held c = length-sent (greater nat_cmp) 64 c.args.message c.try_send.result c.args.state.now.store c.try_send.new.self.store c.try_send.ensures.messages c.requires
+returns-clause-held g c = length-sent (greater nat_cmp) g.row.N c.args.message c.try_send.result c.args.state.now.store c.try_send.new.self.store c.try_send.ensures.messages c.requires
 
 pub returns-clause-total : goal.returns-clause-total
-returns-clause-total c = sum-sent (greater nat_cmp) 64 c.args.message c.try_send.result c.args.state.now.store c.try_send.new.self.store c.try_send.ensures.messages c.requires
+returns-clause-total g c = sum-sent (greater nat_cmp) g.row.N c.args.message c.try_send.result c.args.state.now.store c.try_send.new.self.store c.try_send.ensures.messages c.requires

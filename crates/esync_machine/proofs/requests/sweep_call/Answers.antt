@@ -2,7 +2,7 @@ use Rattle.std.proofs.Common.{◌≡◌, ℕ, ◌+◌, ◌<◌, suc, List, Optio
 use Rattle.std.specs.Prelude.{slice_set, slice_get}
 use Rattle.std.proofs.lemmas.Option.{slice_get-get_or}
 use Rattle.esync_machine.specs.Numbers.{swept, swept_below, swept_place}
-use Rattle.esync_machine.proofs.Tables.{sweeps, swept_all, length_swept}
+use Rattle.esync_machine.specs.NumbersLaws.{sweeps, swept_all, length_swept}
 use Rattle.esync_machine.proofs.requests.sweep_call.Goals as goal
 
 one_more : {A : Type 0} (f : A → Bool) (q now : List (Option A)) (r : ℕ) (d p : Option A) → now ≡ swept_below f r q → r < length q → p ≡ swept_place f (get_or now r d) → slice_set now r p ≡ swept_below f (r + 1) q

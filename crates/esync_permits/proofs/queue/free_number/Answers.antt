@@ -1,6 +1,11 @@
-use Rattle.std.proofs.Common.{arith}
-use Rattle.esync_permits.proofs.Entries.{length_free}
+use Rattle.std.proofs.Common.{ℕ, length, arith, subst, sym, ◌∙◌}
+use Rattle.std.proofs.lemmas.List.{length-map}
+use Rattle.esync_permits.specs.Queue.{numbers, IsLeastFree}
+use Rattle.esync_permits.proofs.Numbers.{length_free}
 use Rattle.esync_permits.proofs.queue.free_number.Goals as goal
 
 pub returns : goal.returns
-returns g c = length_free c.args.entries.now (λ k l. c.loop-number.invariant k (omega arith))
+returns g c =
+    let es = c.args.entries.now.items in
+    subst (λ k. IsLeastFree k (numbers es)) (length-map es (λ e. e.number) ∙ sym c.len.ensures.value)
+    (length_free (numbers es) (λ k l. c.loop-number.invariant k (omega (arith, length-map es (λ e. e.number), c.len-number-end.ensures.value))))

@@ -1,17 +1,32 @@
-use Rattle.std.proofs.Common.{◌<◌, length, arith}
-use Rattle.std.proofs.lemmas.Grind.{common_steps}
-use Rattle.esync_base.proofs.Lists.{dropped_items, taken_none}
+use Rattle.esync_base.proofs.Rings.{pops}
 use Rattle.esync_base.proofs.deque.Deque.pop_front.Goals as goal
 
 pub invariant_of-self : goal.invariant_of-self
-invariant_of-self g c = rw c.remove.ensures.items (dropped_items c.self.inside.items.items c.self.invariant)
+invariant_of-self g c =
+    let a = c.self.inside in
+    let p = pops g.row.N a.row.places a.start a.end a.full c.self.invariant c.args.self.now c.self.view_is _ _ _ (λ e. let k = c.is_empty.ensures.1 e in cc) c.take-item.ensures.item c.take-item.ensures.places c.behind-self-inside.ensures in
+    p.ring
 
-pub returns-else-is_empty-clause-empty : goal.returns-else-is_empty-clause-empty
-returns-else-is_empty-clause-empty g c =
-    let some : 0 < length c.self.inside.items.items = grind (arith, common_steps) in
-    taken_none c.self.inside.items.items c.remove.result _ c.self.invariant some c.remove.ensures.value
+pub returns-clause-item : goal.returns-clause-item
+returns-clause-item g c =
+    let a = c.self.inside in
+    let p = pops g.row.N a.row.places a.start a.end a.full c.self.invariant c.args.self.now c.self.view_is _ _ _ (λ e. let k = c.is_empty.ensures.1 e in cc) c.take-item.ensures.item c.take-item.ensures.places c.behind-self-inside.ensures in
+    rw p.leaves p.items
 
-pub returns-else-is_empty-clause-none : goal.returns-else-is_empty-clause-none
-returns-else-is_empty-clause-none g c =
-    let some : 0 < length c.self.inside.items.items = grind (arith, common_steps) in
-    taken_none c.self.inside.items.items c.remove.result _ c.self.invariant some c.remove.ensures.value
+pub returns-clause-empty : goal.returns-clause-empty
+returns-clause-empty g c =
+    let a = c.self.inside in
+    let p = pops g.row.N a.row.places a.start a.end a.full c.self.invariant c.args.self.now c.self.view_is _ _ _ (λ e. let k = c.is_empty.ensures.1 e in cc) c.take-item.ensures.item c.take-item.ensures.places c.behind-self-inside.ensures in
+    rw p.leaves tt
+
+pub returns-clause-none : goal.returns-clause-none
+returns-clause-none g c =
+    let a = c.self.inside in
+    let p = pops g.row.N a.row.places a.start a.end a.full c.self.invariant c.args.self.now c.self.view_is _ _ _ (λ e. let k = c.is_empty.ensures.1 e in cc) c.take-item.ensures.item c.take-item.ensures.places c.behind-self-inside.ensures in
+    rw p.leaves tt
+
+pub returns-clause-places : goal.returns-clause-places
+returns-clause-places g c =
+    let a = c.self.inside in
+    let p = pops g.row.N a.row.places a.start a.end a.full c.self.invariant c.args.self.now c.self.view_is _ _ _ (λ e. let k = c.is_empty.ensures.1 e in cc) c.take-item.ensures.item c.take-item.ensures.places c.behind-self-inside.ensures in
+    rw p.leaves p.places

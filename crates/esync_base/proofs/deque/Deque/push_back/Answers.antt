@@ -1,9 +1,21 @@
-use Rattle.std.proofs.Common.{[], ◌∷◌, Some}
-use Rattle.esync_base.proofs.Lists.{items_of-append, pushed_items}
+use Rattle.std.proofs.lemmas.Bool.Decides.{Decides-eqb}
+use Rattle.esync_base.specs.Ring.{next}
+use Rattle.esync_base.proofs.Places.{less}
+use Rattle.esync_base.proofs.Rings.{pushed}
 use Rattle.esync_base.proofs.deque.Deque.push_back.Goals as goal
 
 pub invariant_of-self : goal.invariant_of-self
-invariant_of-self g c = rw c.push.ensures.items (pushed_items c.self.inside.items.items c.args.item c.self.invariant)
+invariant_of-self g c =
+    let a = c.self.inside in
+    let r = c.self.invariant in
+    let t = rw (← c.self.view_is) at c.is_full.ensures in
+    let h = less g.row.N _ r.fits (λ e. let k = t.1 e in cc) in
+    rw (c.put.ensures, c.behind-self-inside.ensures) (pushed g.row.N a.row.places a.start a.end a.full r h c.args.item _ (Decides-eqb (next g.row.N a.end) a.start)).0
 
 pub returns-clause-ok : goal.returns-clause-ok
-returns-clause-ok g c = rw (c.push.ensures.items, ← c.self.view_is) (items_of-append c.self.inside.items.items (Some c.args.item ∷ []))
+returns-clause-ok g c =
+    let a = c.self.inside in
+    let r = c.self.invariant in
+    let t = rw (← c.self.view_is) at c.is_full.ensures in
+    let h = less g.row.N _ r.fits (λ e. let k = t.1 e in cc) in
+    rw (c.put.ensures, ← c.self.view_is) (pushed g.row.N a.row.places a.start a.end a.full r h c.args.item _ (Decides-eqb (next g.row.N a.end) a.start)).1

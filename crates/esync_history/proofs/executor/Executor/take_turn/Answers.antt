@@ -15,9 +15,9 @@ before g c = record { machine = c.self.inside.machine; tasks = c.self.inside.tas
 abbrev after : (g : Over) (c : goal.Joined-heard g) → Executing g.row.M.Denot g.row.M-Ask.Denot g.row.M-Command.Denot
 after g c = record { machine = c.do_act-heard.new.machine; tasks = slice_set c.self.inside.tasks.items c.in-Some.number c.do_act-heard.new.task; queue = c.requeue.new.queue.numbers }
 
-turn : (g : Over) (c : goal.Joined-heard g) → IsTurn g.M.Machine.meaning g.M.Machine.object g.M.Machine.Owes (before g c) (after g c)
+turn : (g : Over) (c : goal.Joined-heard g) → IsTurn g.M.Machine.semantics g.M.Awaits.starting (before g c) (after g c)
 turn g c =
-    let M = g.M.Machine.meaning in
+    let M = g.M.Machine.semantics.meaning in
     let h = c.do_act-heard.ensures in
     let heard = c.do_act-heard.result in
     let k = c.in-Some.number in
@@ -45,11 +45,11 @@ turn g c =
 pub invariant_of-self-2 : goal.invariant_of-self-2
 invariant_of-self-2 g c =
     let heard = c.do_act-heard.result in
-    let wakers = wakes_in g.M.Machine.meaning (heard.first ∷ option_to_list heard.second) in
+    let wakers = wakes_in g.M.Machine.semantics.meaning (heard.first ∷ option_to_list heard.second) in
     record {
       orderly = orderly_turn c.self.inside.tasks.items c.deref.result.now c.self.inside.queue c.pop.new.self c.requeue.new.queue c.in-Some.number c.do_act-heard.new.task wakers heard.over c.self.invariant.orderly c.in-Some.ensures.front c.in-Some.ensures.room c.deref.ensures.value c.requeue.ensures;
-      standing = standing_after g.M.Machine.meaning g.met.M.Awaits.keeps (λ v w e. same_task v w (sym (g.met.M.Awaits.same v w) ∙ e)) g.M.Machine.object g.M.Machine.Owes (before g c) (after g c) (turn g c) c.self.invariant.standing;
+      standing = standing_after g.M.Machine.semantics g.M.Awaits.starting g.met.M.Awaits.keeps g.met.M.Awaits.starts (λ v w e. same_task v w (sym (g.met.M.Awaits.same v w) ∙ e)) (before g c) (after g c) (turn g c) c.self.invariant.standing;
     }
 
 pub returns-clause-turn : goal.returns-clause-turn
-returns-clause-turn g c = subst (λ e. IsTurn g.M.Machine.meaning g.M.Machine.object g.M.Machine.Owes e (after g c)) c.self.view_is (turn g c)
+returns-clause-turn g c = subst (λ e. IsTurn g.M.Machine.semantics g.M.Awaits.starting e (after g c)) c.self.view_is (turn g c)

@@ -1,6 +1,7 @@
 use Rattle.std.proofs.Common.{arith, ◌≡◌, ◌++◌, ◌∷◌, [], ◌<◌, false, length, sym, ap, ◌∙◌, IsOk, true, length-set}
 use Rattle.std.proofs.lemmas.List.{get_or_read}
-use Rattle.esync_history.specs.Line.{is_queued, put_last}
+use Rattle.esync_base.specs.Listed.{is_in}
+use Rattle.esync_history.specs.Line.{put_last}
 use Rattle.esync_history.proofs.Lines.{line_pushed, line_room, put_last-new, same_line}
 use Rattle.esync_history.proofs.queue.Queue.push.Goals as goal
 
@@ -8,7 +9,7 @@ use Rattle.esync_history.proofs.queue.Queue.push.Goals as goal
 below : (c : goal.After-push_back) → c.args.number < length c.self.inside.queued.items
 below c = omega (arith, ap (λ q. q.room) c.self.view_is, c.requires)
 
-apart : (c : goal.After-push_back) → is_queued c.args.number c.self.inside.numbers.items ≡ false
+apart : (c : goal.After-push_back) → is_in c.args.number c.self.inside.numbers.items ≡ false
 apart c =
     let k = c.args.number in
     let flags = c.self.inside.queued.items in

@@ -1,7 +1,9 @@
-use Rattle.std.proofs.Common.{Some, inr, refl}
-use Rattle.esync_permits.proofs.Entries.{IsQueue-written}
+use Rattle.std.proofs.Common.{sym}
+use Rattle.esync_permits.proofs.Entries.{stands-set, with_waker-none}
 use Rattle.esync_permits.proofs.queue.Queue.set_waker.Goals as goal
 
-pub invariant_of-self : goal.invariant_of-self
-invariant_of-self g c =
-    IsQueue-written g.row.N c.args.number (Some c.args.waker) c.self.inside.entries.items c.set_waker.new.entries (rw c.as_mut_slice.ensures.value at c.set_waker.ensures) c.self.invariant (inr refl)
+pub returns-in-Some : goal.returns-in-Some
+returns-in-Some g c = rw (c.replace.ensures.items, ← c.self.view_is) (stands-set c.args.number c.in-Some.i c.self.inside.entries.items c.in-Some.ensures.found c.args.waker)
+
+pub returns-in_default : goal.returns-in_default
+returns-in_default g c = sym (with_waker-none c.args.number c.args.waker c.args.self.now (rw c.self.view_is at c.in_default.ensures.none))

@@ -1,35 +1,39 @@
-use Rattle.std.proofs.lemmas.List.Sorted.{IsPermutation-to_front}
+use Rattle.std.proofs.Common.{rules, length, arith}
+use Rattle.std.proofs.lemmas.List.Sorted.{length_permutation}
 use Rattle.esync_base.specs.Rows.{items_of}
-use Rattle.esync_priority.proofs.Rising.{taken_last, row_taken, rising_front, last_is_top}
+use Rattle.esync_priority.proofs.Counts.{at_most_none}
+use Rattle.esync_priority.proofs.Items.{popped, refill_same, places-items, top_of_heap}
 use Rattle.esync_priority.proofs.prio.PrioQueue.pop.Goals as goal
 
-pub invariant_of-self-2 : goal.invariant_of-self-2
-invariant_of-self-2 g c =
+pub invariant_of-self : goal.invariant_of-self
+invariant_of-self g c =
     let row = c.self.inside.items.items in
-    let rest = c.pop.new.self.items in
-    let last = taken_last row rest c.in_ok-pop.field-0 c.self.invariant.0 c.in_ok-pop.ensures.items in
-    (row_taken row rest c.in_ok-pop.field-0 c.self.invariant.0 c.in_ok-pop.ensures.items, rising_front g.K.Kind.above (items_of rest) last.0 (rw last.2 at c.self.invariant.1))
+    let rest = c.swap_remove-item.new.self.items in
+    let new = c.settle.new.row in
+    let moved = rw c.as_mut_slice.ensures.value at c.settle.ensures.permutation in
+    let many = length_permutation rest new moved in
+    let took = popped row rest new c.swap_remove-item.result c.self.invariant.0 (omega arith) c.swap_remove-item.ensures.value c.swap_remove-item.ensures.items moved in
+    rw (refill_same rest new many) (took.whole, c.settle.ensures.heap)
 
-pub returns-clause-item : goal.returns-clause-item
-returns-clause-item g c =
+pub returns : goal.returns
+returns g c =
     let row = c.self.inside.items.items in
-    let rest = c.pop.new.self.items in
-    let last = taken_last row rest c.in_ok-pop.field-0 c.self.invariant.0 c.in_ok-pop.ensures.items in
-    rw (last.1, ← c.self.view_is, last.2) (IsPermutation-to_front (items_of rest) last.0)
-
-pub returns-clause-top : goal.returns-clause-top
-returns-clause-top g c =
-    let row = c.self.inside.items.items in
-    let rest = c.pop.new.self.items in
-    let last = taken_last row rest c.in_ok-pop.field-0 c.self.invariant.0 c.in_ok-pop.ensures.items in
-    rw (last.1, ← c.self.view_is, last.2) (last_is_top g.K.Kind.above g.met.K.Kind.irreflexive (items_of rest) last.0 (rw last.2 at c.self.invariant.1))
-
-pub returns-clause-empty : goal.returns-clause-empty
-returns-clause-empty g c =
-    let last = taken_last c.self.inside.items.items c.pop.new.self.items c.in_ok-pop.field-0 c.self.invariant.0 c.in_ok-pop.ensures.items in
-    rw last.1 tt
-
-pub returns-clause-none : goal.returns-clause-none
-returns-clause-none g c =
-    let last = taken_last c.self.inside.items.items c.pop.new.self.items c.in_ok-pop.field-0 c.self.invariant.0 c.in_ok-pop.ensures.items in
-    rw last.1 tt
+    let rest = c.swap_remove-item.new.self.items in
+    let new = c.settle.new.row in
+    let moved = rw c.as_mut_slice.ensures.value at c.settle.ensures.permutation in
+    let many = length_permutation rest new moved in
+    let took = popped row rest new c.swap_remove-item.result c.self.invariant.0 (omega arith) c.swap_remove-item.ensures.value c.swap_remove-item.ensures.items moved in
+    let held = places-items new took.whole in
+    let few = rw (c.as_mut_slice.ensures.value, ← many, held) at c.settle.ensures.few in
+    let laws = g.met.K.Kind in
+    record {
+      more = search rules;
+      item = rw (refill_same rest new many, took.is, ← c.self.view_is) took.moved;
+      first = rw (took.is, ← c.self.view_is) took.first;
+      top = rw (took.is, ← c.self.view_is) (top_of_heap g.K.Kind.above laws.irreflexive laws.ties row took.item c.self.invariant.0 c.self.invariant.1 took.first);
+      few = rw (refill_same rest new many, took.is) few;
+      last = rw (refill_same rest new many, took.is) (λ none. at_most_none c.args.comparisons.now c.settle.new.comparisons (length (items_of new)) none c.settle.ensures.more few);
+      empty = rw took.is tt;
+      none = rw took.is tt;
+      never = rw took.is tt;
+    }

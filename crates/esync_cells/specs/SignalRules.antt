@@ -1,0 +1,57 @@
+-- What a signal allows, and which wakers it hands out: for each request and each call.
+use Rattle.std.specs.Prelude.{◌≡◌, Bool, false, List, Option, Some, None, is_some}
+use Rattle.esync_machine.specs.declared.primitive.Answer.{Answer}
+use Rattle.esync_machine.specs.declared.primitive.Answer.TheVariants.{Done, Pending, Gives}
+use Rattle.esync_machine.specs.declared.primitive.Reach.TheVariants.{Nobody}
+use Rattle.esync_machine.specs.Rules.{Rules, Alone}
+use Rattle.esync_machine.specs.Wakings.{Wakings, Handed, nothing, registers, hands_out}
+use Rattle.esync_cells.specs.declared.signal.machine.Wait.{Wait}
+use Rattle.esync_cells.specs.declared.signal.machine.SignalCall.{SignalCall}
+use Rattle.esync_cells.specs.declared.signal.machine.SignalCall.TheVariants.{Signal, Reset, TryTake, Signaled}
+use Rattle.esync_cells.specs.declared.signal.machine.SignalHeard.{SignalHeard}
+use Rattle.esync_cells.specs.declared.signal.machine.SignalHeard.TheVariants.{Waited, Taken, Signaled as IsSignaled}
+
+abbrev pub Polls : {T : Type 0} → Option T → Wait → Answer (SignalHeard T) → Option T → Option Wait → Type 0
+Polls None h a o2 p = (a ≡ Pending) × (o2 ≡ None) × (p ≡ Some h)
+Polls (Some x) h a o2 p = (a ≡ Gives (Waited x)) × (o2 ≡ None) × (p ≡ None)
+
+abbrev pub Calls : {T : Type 0} → Option T → SignalCall T → Answer (SignalHeard T) → Option T → Type 0
+Calls o (Signal x) a o2 = (a ≡ Done) × (o2 ≡ Some x)
+Calls o Reset a o2 = (a ≡ Done) × (o2 ≡ None)
+Calls o TryTake a o2 = (a ≡ Gives (Taken o)) × (o2 ≡ None)
+Calls o Signaled a o2 = (a ≡ Gives (IsSignaled (is_some o))) × (o2 ≡ o)
+
+-- the object is an optional value
+abbrev pub signal_rules : (T : Type 0) → Rules Wait Wait (SignalCall T) (SignalHeard T)
+signal_rules T = record {
+  Core = Option T;
+  begins = λ o ask p. p ≡ Some ask;
+  polls = Polls;
+  ends = λ o h o2. o2 ≡ o;
+  reach = λ call. Nobody;
+  calls = Alone Calls;
+  leaves = λ o call h. false;
+  IsRequest = λ h. Unit {0};
+  WakesItself = ⊥;
+}
+
+-- a wait without a value registers, and a new value hands out who waits
+module _ {T W : Type 0} (eq : W → W → Bool) where
+  abbrev pub poll_hands : Option T → List W → W → Handed (List W) W
+  poll_hands None waiter w = registers eq waiter w
+  poll_hands (Some x) waiter w = nothing waiter
+
+  abbrev pub call_hands : List W → SignalCall T → Handed (List W) W
+  call_hands waiter (Signal x) = hands_out waiter
+  call_hands waiter Reset = nothing waiter
+  call_hands waiter TryTake = nothing waiter
+  call_hands waiter Signaled = nothing waiter
+
+  -- one waker at most is registered
+  abbrev pub signal_wakings : Wakings (Option T) Wait (SignalCall T) (SignalHeard T) W
+  signal_wakings = record {
+    Registered = List W;
+    polls = λ o waiter h w a p. poll_hands o waiter w;
+    ends = λ o waiter h. nothing waiter;
+    calls = λ o waiter call p a. call_hands waiter call;
+  }

@@ -1,0 +1,41 @@
+use esync_base::waitqueue::TaskId;
+use esync_cells::signal::SignalState;
+use esync_history::executor::{Act, Executor, Outcome};
+use esync_run::primitive::Command;
+use esync_run::requests::Requests;
+use esync_run::signal::{SignalCall, SignalCommand, SignalRun, Wait};
+use std::test::Fail;
+
+type Signal = SignalRun<u32, TaskId, 16, 1>;
+
+type SignalAct = Act<Wait, SignalCommand<u32, TaskId>>;
+
+fn signals(value: u32) -> SignalAct {
+    Act::Call(Command::Call(SignalCall::Signal(value)))
+}
+
+#[test]
+fn a_value_reaches_the_task_that_waits(rt: HostRuntime) -> Result<(), Fail> {
+    let alloc = rt.alloc();
+    let waits = vec![in alloc; Act::Await(0, Wait {})]?;
+    let signal: Signal = Requests::new(SignalState::new());
+    let tasks = vec![in alloc; waits, vec![in alloc; signals(5)]?]?;
+    let mut executor = Executor::new(alloc, signal, tasks)?;
+    assert_eq!(rt; executor.run(2), Outcome::Limit);
+    assert_eq!(rt; executor.run(1), Outcome::Done);
+    Ok(())
+}
+
+#[test]
+fn one_value_of_two_waits_is_taken_once(rt: HostRuntime) -> Result<(), Fail> {
+    let alloc = rt.alloc();
+    let first = vec![in alloc; Act::Await(0, Wait {})]?;
+    let second = vec![in alloc; Act::Await(1, Wait {})]?;
+    let signal: Signal = Requests::new(SignalState::new());
+    let tasks = vec![in alloc; first, second, vec![in alloc; signals(5)]?]?;
+    let mut executor = Executor::new(alloc, signal, tasks)?;
+    assert_eq!(rt; executor.run(4), Outcome::Limit);
+    assert_eq!(rt; executor.run(1), Outcome::Stalled);
+    assert_eq!(rt; executor.run(10), Outcome::Stalled);
+    Ok(())
+}

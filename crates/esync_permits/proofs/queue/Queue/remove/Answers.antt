@@ -1,0 +1,9 @@
+use Rattle.std.proofs.Common.{sym}
+use Rattle.esync_permits.proofs.Entries.{stands-remove, left_by-none}
+use Rattle.esync_permits.proofs.queue.Queue.remove.Goals as goal
+
+pub returns-in-Some : goal.returns-in-Some
+returns-in-Some g c = rw (c.remove.ensures.items, ← c.self.view_is) (stands-remove c.args.number c.in-Some.i c.self.inside.entries.items c.in-Some.ensures.found)
+
+pub returns-in_default : goal.returns-in_default
+returns-in_default g c = sym (left_by-none c.args.number c.args.self.now (rw c.self.view_is at c.in_default.ensures.none))

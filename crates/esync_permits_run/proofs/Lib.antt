@@ -1,4 +1,0 @@
-pub mod Entries
-pub mod FairKept
-pub mod FairOrder
-pub mod Sums

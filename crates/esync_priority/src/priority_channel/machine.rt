@@ -1,0 +1,43 @@
+//! The priority channel as a machine that takes commands: those of a channel.
+ghost use Rattle.std.specs.Prelude.{◌≡◌, IfOk, OnErr};
+ghost use Rattle.esync_priority.specs.Prio.{Bag};
+ghost use Rattle.esync_machine.specs.Runs.{GoodRun};
+ghost use Rattle.esync_machine.specs.Object.{requests_meaning};
+ghost use Rattle.esync_channel.specs.ChannelRules.{channel_rules, channel_wakings};
+
+use crate::prio::{Kind, PrioQueue};
+use esync_channel::channel::Mailbox;
+use esync_channel::channel::machine::{ChannelCommand, ChannelReply};
+use esync_machine::requests::Requests;
+use esync_machine::run::run;
+use std::alloc::{AllocError, Global};
+
+/// A priority channel of at most `N` messages as a machine, with requests at the numbers below `REQS`.
+pub type PriorityRun<T, W, K, const N: usize, const REQS: usize, const PLACES: usize> = Requests<
+    Mailbox<PrioQueue<T, K, N>, W>,
+    REQS,
+    PLACES,
+>;
+
+/// Gives the commands to the priority channel, one after another, as `run` does.
+///
+/// Each answer is one that a bag of at most `N` messages allows, from which one leaves that none of the held ones is above.
+/// No live request that last heard Pending would now be answered Ready, unless its waker was handed out in that poll or
+/// since. No Pending poll that changes nothing hands out its own waker.
+pub fn run_priority_channel<
+    T: Drop,
+    W: Copy + Eq,
+    K: Kind<T>,
+    const N: usize,
+    const REQS: usize,
+    const PLACES: usize,
+>(
+    alloc: Global,
+    machine: &mut PriorityRun<T, W, K, N, REQS, PLACES>,
+    commands: Vec<ChannelCommand<T, W>>,
+) -> Result<Vec<ChannelReply<T, W, PLACES>>, AllocError>
+    ensures run { IfOk result (λ replies. GoodRun (requests_meaning (channel_rules (Bag T K.above N)) (channel_wakings W.eq (Bag T K.above N)) W.eq PLACES) (record { core = machine.old.state.store; requests = machine.old.requests }) machine.old.state.slots commands.items replies.items (record { core = machine.new.state.store; requests = machine.new.requests }) machine.new.state.slots) }
+    ensures refused { OnErr result (machine.new ≡ machine.old) }
+{
+    run(alloc, machine, commands)
+}

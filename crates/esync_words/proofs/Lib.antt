@@ -1,0 +1,3 @@
+mod Known
+mod Wakers
+mod Played

@@ -1,0 +1,12 @@
+pub mod Fault
+pub mod Lines
+pub mod LinesLaws
+pub mod Words
+pub mod WordsView
+pub mod WordsLaws
+pub mod Commands
+pub mod CommandsLaws
+pub mod Text
+pub mod Tells
+pub mod Diagram
+pub mod Played

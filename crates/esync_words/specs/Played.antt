@@ -1,0 +1,74 @@
+-- What a script says to a machine, and what is written of it.
+use Rattle.std.specs.Prelude.{◌≡◌, ℕ, ◌+◌, ◌-◌, ◌^◌, min, List, [], ◌∷◌, ◌++◌, Option, Some, None, IfSome, ◌⊎◌, Result, Ok, Err}
+use Rattle.std.specs.Io.KnownBytes.{Appends, Keeps}
+use Rattle.esync_machine.specs.Runs.{Meaning, GoodRun}
+use Rattle.esync_words.specs.declared.fault.Fault.{Fault}
+use Rattle.esync_words.specs.declared.fault.Fault.TheVariants.{NotACommand, InputOutput, OutOfMemory}
+use Rattle.esync_words.specs.Lines.{first_line, other_lines}
+
+-- the script came to its end, or to a line that is no command
+abbrev pub IsJudged : Result (Unit {0}) Fault → Type 0
+IsJudged (Ok _) = Unit {0}
+IsJudged (Err (NotACommand _)) = Unit {0}
+IsJudged (Err InputOutput) = ⊥
+IsJudged (Err OutOfMemory) = ⊥
+
+-- the number of the last of these lines, which stand behind n others. Numbers stop at the greatest
+abbrev pub line_number : ℕ → List (List ℕ) → ℕ
+line_number n [] = n
+line_number n (line ∷ lines) = min (line_number n lines + 1) (2 ^ 64 - 1)
+
+-- these are the first lines of the text, one after another, and that is left behind them
+abbrev pub Reads : List ℕ → List (List ℕ) → List ℕ → Type 0
+Reads text [] rest = rest ≡ text
+Reads text (line ∷ lines) rest = (text ≡ [] → ⊥) × (line ≡ first_line text) × Reads (other_lines text) lines rest
+
+module _ {Command Reply Waker : Type 0} (M : Meaning Command Reply Waker) (command : List ℕ → Option Command) (tells : List ℕ → Command → Reply → List ℕ) where
+  -- each line says the command
+  abbrev pub AreSaid : List (List ℕ) → List Command → Type 0
+  AreSaid [] [] = Unit {0}
+  AreSaid (line ∷ lines) (c ∷ cs) = (command line ≡ Some c) × AreSaid lines cs
+  AreSaid [] (c ∷ cs) = ⊥
+  AreSaid (line ∷ lines) [] = ⊥
+
+  -- what is written of each line, its command and its reply
+  abbrev pub told : List (List ℕ) → List Command → List Reply → List ℕ
+  told (line ∷ lines) (c ∷ cs) (a ∷ as') = tells line c a ++ told lines cs as'
+  told [] cs as' = []
+  told (line ∷ lines) [] as' = []
+  told (line ∷ lines) (c ∷ cs) [] = []
+
+  -- where a script ended so behind line n, of which this is left: at the end, or at the first line that is no command
+  abbrev pub Ends : ℕ → List ℕ → Result (Unit {0}) Fault → Type 0
+  Ends n rest (Ok _) = rest ≡ []
+  Ends n rest (Err (NotACommand number)) = (number ≡ min (n + 1) (2 ^ 64 - 1)) × (rest ≡ [] → ⊥) × (command (first_line rest) ≡ None)
+  Ends n rest (Err InputOutput) = Unit {0}
+  Ends n rest (Err OutOfMemory) = Unit {0}
+
+  -- A script was played behind its first n lines, from this object, with these wakers registered.
+  pub record Played (old : M.Object) (registered : M.Registered) (n : ℕ) (left : Option (List ℕ)) (before after : Option (List ℕ)) (outcome : Result (Unit {0}) Fault) : Type 0 where
+    pub lines : List (List ℕ)
+    pub commands : List Command
+    pub replies : List Reply
+    pub new : M.Object
+    pub registered2 : M.Registered
+    -- the machine was given the commands that the lines say, one after another
+    pub said : AreSaid lines commands
+    pub run : GoodRun M old registered commands replies new registered2
+    -- the lines are those of the text, from the first to the last, or up to the first that is no command
+    pub read : IfSome left (λ text. (rest : List ℕ) × Reads text lines rest × Ends (line_number n lines) rest outcome)
+    pub printed : IsJudged outcome → Appends before after (told lines commands replies)
+
+-- Line 1 of a script names this, and what was written of it.
+pub record Opened {Opening : Type 0} (says : List ℕ → Option Opening) (text : List ℕ → List ℕ) (opening : Opening) (left rest before after : Option (List ℕ)) : Type 0 where
+  pub line : List ℕ
+  pub said : says line ≡ Some opening
+  -- it is the first line of the text, and the others are left
+  pub read : IfSome left (λ all. (all ≡ [] → ⊥) × (line ≡ first_line all) × (rest ≡ Some (other_lines all)))
+  pub printed : Appends before after (text line)
+
+-- There is no line 1, or it names nothing, and nothing is written.
+pub record NotOpened {Opening : Type 0} (says : List ℕ → Option Opening) (fault : Fault) (left before after : Option (List ℕ)) : Type 0 where
+  pub is_line : fault ≡ NotACommand 1
+  pub read : IfSome left (λ all. (all ≡ []) ⊎ (says (first_line all) ≡ None))
+  pub printed : Keeps before after

@@ -1,0 +1,69 @@
+-- The words of a line, and what numbers of words say.
+use Rattle.std.specs.Prelude.{ℕ, ◌==◌, ◌^◌, ◌≤◌, Bool, true, false, List, [], ◌∷◌, Option, Some, None, if◌then◌else◌, nat_lt}
+use Rattle.std.specs.Char.{digit_value}
+use Rattle.std.specs.Str.Parse.{digits_value}
+
+abbrev pub with_letter : ℕ → List (List ℕ) → List (List ℕ)
+with_letter c [] = (c ∷ []) ∷ []
+with_letter c (w ∷ ws) = (c ∷ w) ∷ ws
+
+-- the words of a line: what stands between its spaces
+abbrev pub words_of : List ℕ → List (List ℕ)
+words_of [] = [] ∷ []
+words_of (c ∷ cs) = if c == 32 then [] ∷ words_of cs else with_letter c (words_of cs)
+
+abbrev pub is_empty : List ℕ → Bool
+is_empty [] = true
+is_empty (c ∷ cs) = false
+
+-- all letters are decimal digits
+abbrev pub are_digits : List ℕ → Bool
+are_digits [] = true
+are_digits (c ∷ cs) = if nat_lt (digit_value c) 10 then are_digits cs else false
+
+-- at least one digit, and nothing else
+abbrev pub is_numeral : List ℕ → Bool
+is_numeral w = if is_empty w then false else are_digits w
+
+abbrev pub below : ℕ → ℕ → Option ℕ
+below most n = if nat_lt n most then Some n else None
+
+-- the number that a word writes, if that is one of k bits
+abbrev pub number : ℕ → List ℕ → Option ℕ
+number k w = if is_numeral w then below (2 ^ k) (digits_value 10 w) else None
+
+-- the number that the first word writes
+abbrev pub first_number : ℕ → List (List ℕ) → Option ℕ
+first_number k [] = None
+first_number k (w ∷ ws) = number k w
+
+abbrev pub behind : List (List ℕ) → List (List ℕ)
+behind [] = []
+behind (w ∷ ws) = ws
+
+-- what was found, where no word is left
+abbrev pub only : {A : Type 0} → Option A → List (List ℕ) → Option A
+only None ws = None
+only (Some x) [] = Some x
+only (Some x) (w ∷ ws) = None
+
+abbrev pub and_then : {A B : Type 0} → Option A → (A → Option B) → Option B
+and_then None f = None
+and_then (Some x) f = f x
+
+-- What words say and no more of them: nothing, a number, or two of them, each of so many bits.
+abbrev pub nothing : List (List ℕ) → Option (Unit {0})
+nothing ws = only (Some tt) ws
+
+abbrev pub one : ℕ → List (List ℕ) → Option ℕ
+one k ws = only (first_number k ws) (behind ws)
+
+abbrev pub two : ℕ → ℕ → List (List ℕ) → Option (ℕ × ℕ)
+two j k ws = and_then (first_number j ws) (λ m. and_then (one k (behind ws)) (λ n. Some (m, n)))
+
+-- whether two texts are the same
+abbrev pub is_text : List ℕ → List ℕ → Bool
+is_text [] [] = true
+is_text (x ∷ xs) (y ∷ ys) = if x == y then is_text xs ys else false
+is_text [] (y ∷ ys) = false
+is_text (x ∷ xs) [] = false

@@ -1,0 +1,10 @@
+//! The language of scripts: lines, words and numbers, the commands that every machine has, what is printed, and the loop.
+#![tactic(auto)]
+
+pub mod diagram;
+pub mod fault;
+pub mod lines;
+pub mod play;
+pub mod printing;
+pub mod vocabulary;
+pub mod words;

@@ -1,0 +1,130 @@
+//! The lines of a script.
+ghost use Rattle.std.specs.Prelude.{◌≡◌, ◌≤◌, ◌<◌, ◌+◌, ◌-◌, ◌^◌, min, [], ◌∷◌, length, IfOk, IfErr, IfSome, IsTrue, false, MatchOption, MatchResult};
+ghost use Rattle.std.specs.Str.{IsUtf8};
+ghost use Rattle.std.specs.Io.KnownBytes.{Keeps, Consumes, IsAtEnd};
+ghost use Rattle.esync_words.specs.Lines.{Source, IsRead};
+
+use crate::fault::Fault;
+use arrayvec::ArrayVec;
+use std::alloc::Global;
+use std::io::{self, BufRead, BufReader, ErrorKind, Read, Write};
+use std::marker::Model;
+
+/// How many bytes a line may have, without its line feed.
+pub const LONGEST: usize = 256;
+
+// How many are read of a line.
+const ROOM: usize = 257;
+
+/// The lines of a script, read one at a time into memory of a fixed size.
+#[derive(Drop)]
+pub struct Lines<R: Read + Drop> {
+    input: BufReader<R>,
+    line: ArrayVec<u8, ROOM>,
+    number: u64,
+    ended: bool,
+}
+
+impl<R: Read + Drop> Model for Lines<R> {
+    ghost use Rattle.std.specs.Prelude.{◌≡◌, true};
+    ghost use Rattle.std.specs.Io.Buffered.{reader_remaining};
+    ghost use Rattle.std.specs.Io.KnownBytes.{IsAtEnd};
+    ghost use Rattle.esync_words.specs.Lines.{Source};
+
+    ghost Value = { Source };
+
+    ghost view = { λ a. record { number = a.number; line = a.line.items; left = reader_remaining R.remaining a.input; ended = a.ended } };
+
+    ghost invariant = { λ a. a.ended ≡ true → IsAtEnd (reader_remaining R.remaining a.input) };
+}
+
+impl<R: Read + Drop> Lines<R> {
+    /// No line is read yet. All memory that is needed for the lines is taken here.
+    pub fn new(alloc: Global, input: R) -> Result<Self, Fault>
+        ensures ok { IfOk result (λ lines. lines ≡ record { number = 0; line = []; left = R.remaining input; ended = false }) }
+        ensures err { IfErr result (λ fault. fault ≡ Fault.OutOfMemory) }
+    {
+        let input = BufReader::new(alloc, input).map_err(|_| Fault::OutOfMemory)?;
+        Ok(Lines {
+            input,
+            line: ArrayVec::new(),
+            number: 0,
+            ended: false,
+        })
+    }
+
+    /// Reads the next line, if there is one, without its line feed. The output is flushed before a read that may wait for more
+    /// input.
+    pub fn read<W: Write>(&mut self, output: &mut W) -> Result<bool, Fault>
+        ensures output { Keeps (W.contents output.old) (W.contents output.new) }
+        ensures number { self.new.number ≡ min (self.old.number + 1) (2 ^ 64 - 1) }
+        ensures line { IfOk result (λ there. IfSome self.old.left (λ text. IsRead LONGEST text there self.new)) }
+        ensures err { IfErr result (λ fault. fault ≡ Fault.InputOutput) }
+    {
+        self.number = self.number.saturating_add(1);
+        self.line.clear();
+        if self.ended {
+            return Ok(false);
+        }
+        if !self.input.buffer().contains(&b'\n') {
+            output.flush()?;
+        }
+        Ok(self.read_line()?)
+    }
+
+    // Reads up to the line feed, or as much of a line as shows that it is too long.
+    fn read_line(&mut self) -> io::Result<bool>
+        requires line { self.old.line ≡ [] }
+        requires more { self.old.ended ≡ false }
+        ensures number { self.new.number ≡ self.old.number }
+        ensures line { IfOk result (λ there. IfSome self.old.left (λ text. IsRead LONGEST text there self.new)) }
+    {
+        while !self.line.is_full() {
+            match read_byte(&mut self.input)? {
+                Some(b'\n') => return Ok(true),
+                Some(byte) => self.line.push(byte),
+                None => {
+                    self.ended = true;
+                    return Ok(!self.line.is_empty());
+                }
+            }
+        }
+        Ok(true)
+    }
+
+    /// The line that was read last, which is a text of at most so many bytes.
+    pub fn line(&self) -> Result<&str, Fault>
+        ensures { MatchResult result (λ line. (line.now ≡ self.now.line) × IsUtf8 line.now × (length line.now ≤ LONGEST)) (λ fault. (fault ≡ Fault.NotACommand self.now.number) × (IsUtf8 self.now.line → LONGEST < length self.now.line)) }
+    {
+        match str::from_utf8(self.line.as_slice()) {
+            Ok(line) if line.len() <= LONGEST => Ok(line),
+            _ => Err(self.not_a_command()),
+        }
+    }
+
+    /// The fault of the line that was read last: that it is no command.
+    pub fn not_a_command(&self) -> Fault
+        ensures { result ≡ Fault.NotACommand self.now.number }
+    {
+        Fault::NotACommand(self.number)
+    }
+}
+
+// The next byte, if there is one.
+fn read_byte<R: Read>(input: &mut BufReader<R>) -> io::Result<Option<u8>>
+    ensures { IfOk result (λ byte. MatchOption byte (Consumes (⟦<BufReader<R> as Read>⟧.remaining input.old) (⟦<BufReader<R> as Read>⟧.remaining input.new) [] × IsAtEnd (⟦<BufReader<R> as Read>⟧.remaining input.new)) (λ b. Consumes (⟦<BufReader<R> as Read>⟧.remaining input.old) (⟦<BufReader<R> as Read>⟧.remaining input.new) (b ∷ []))) }
+{
+    let mut one = [0];
+    for _ in 0..u64::MAX {
+        match input.read(&mut one) {
+            Ok(0) => return Ok(None),
+            Ok(_) => return Ok(Some(one[0])),
+            Err(error) => {
+                if error.kind() != ErrorKind::Interrupted {
+                    return Err(error);
+                }
+            }
+        }
+    }
+    Err(io::Error::from(ErrorKind::Interrupted))
+}

@@ -1,0 +1,83 @@
+//! The words of a primitive, and those that every machine has.
+ghost use Rattle.std.specs.Prelude.{◌≡◌, ℕ, List, Option, OnOk};
+ghost use Rattle.std.specs.Io.KnownBytes.{Appends};
+ghost use Rattle.esync_words.specs.Commands.{named, start, command};
+ghost use Rattle.esync_words.specs.Words.{one, two};
+ghost use Rattle.std.specs.Option.{option_map};
+
+use crate::words::Words;
+use esync_machine::primitive::Command;
+use std::io::{self, Write};
+
+/// How many requests a script can have at a time. Their numbers are those below.
+pub const REQS: usize = 16;
+
+/// The words of a primitive: how its asks and its calls are said, and what is printed of what it answers.
+pub trait Vocabulary {
+    type Ask: Drop;
+
+    type Call: Drop;
+
+    type Heard: Drop;
+
+    /// What a name and the words behind it say as an ask.
+    ghost asks: { List ℕ → List (List ℕ) → Option Self.Ask };
+
+    /// What a name and the words behind it say as a call.
+    ghost calls: { List ℕ → List (List ℕ) → Option Self.Call };
+
+    /// The text of an answer.
+    ghost text: { Self.Heard → List ℕ };
+
+    /// Reads an ask.
+    fn ask(name: &str, words: Words<'_>) -> Option<Self::Ask>
+        ensures { result ≡ asks name.now words.entry };
+
+    /// Reads a call.
+    fn call(name: &str, words: Words<'_>) -> Option<Self::Call>
+        ensures { result ≡ calls name.now words.entry };
+
+    /// Writes the text of an answer.
+    fn print<W: Write>(heard: &Self::Heard, output: &mut W) -> io::Result<()>
+        ensures { OnOk result (Appends (W.contents output.old) (W.contents output.new) (text heard.now)) };
+}
+
+/// The command that a line of these words says.
+pub fn read_command<V: Vocabulary>(mut words: Words<'_>) -> Option<Command<V::Ask, u64, V::Call>>
+    ensures { result ≡ named (command V.asks V.calls) words.entry }
+{
+    let name = words.word()?;
+    match name {
+        "start" => start::<V>(words),
+        "poll" => poll::<V>(words),
+        "end" => end::<V>(words),
+        _ => other::<V>(name, words),
+    }
+}
+
+fn start<V: Vocabulary>(mut words: Words<'_>) -> Option<Command<V::Ask, u64, V::Call>>
+    ensures { result ≡ start V.asks V.calls words.entry }
+{
+    let r = words.next_number()?;
+    let name = words.word()?;
+    Some(Command::Start(r as usize, V::ask(name, words)?))
+}
+
+fn poll<V: Vocabulary>(words: Words<'_>) -> Option<Command<V::Ask, u64, V::Call>>
+    ensures { result ≡ option_map (λ p. Command.Poll p.0 p.1) (two 64 64 words.entry) }
+{
+    let (r, waker) = words.two_numbers()?;
+    Some(Command::Poll(r as usize, waker))
+}
+
+fn end<V: Vocabulary>(words: Words<'_>) -> Option<Command<V::Ask, u64, V::Call>>
+    ensures { result ≡ option_map (λ r. Command.End r) (one 64 words.entry) }
+{
+    Some(Command::End(words.number()? as usize))
+}
+
+fn other<V: Vocabulary>(name: &str, words: Words<'_>) -> Option<Command<V::Ask, u64, V::Call>>
+    ensures { result ≡ option_map (λ call. Command.Call call) (V.calls name.now words.entry) }
+{
+    Some(Command::Call(V::call(name, words)?))
+}

@@ -1,0 +1,123 @@
+//! The words of a line, and numbers.
+ghost use Rattle.std.specs.Prelude.{◌≡◌, ℕ, ◌∷◌, [], MatchOption, IsTrue, ◌↔◌};
+ghost use Rattle.esync_words.specs.Words.{words_of, number, first_number, behind, nothing, one, two};
+
+use std::marker::Model;
+
+const PLUS: char = '+';
+
+/// The words of a line that are still to be read: what stands between its spaces. Two spaces side by side, or a space at an
+/// end, make an empty word, which is no name and no number.
+#[derive(Drop)]
+pub struct Words<'a> {
+    rest: Option<&'a str>,
+}
+
+impl<'a> Model for Words<'a> {
+    ghost use Rattle.std.specs.Prelude.{ℕ, List};
+    ghost use Rattle.esync_words.specs.WordsView.{words_left};
+
+    ghost Value = { List (List ℕ) };
+
+    ghost view = { λ a. words_left a.rest };
+}
+
+impl<'a> Words<'a> {
+    /// All words of the line.
+    pub fn of(line: &'a str) -> Self
+        ensures { result ≡ words_of line.now }
+    {
+        Words { rest: Some(line) }
+    }
+
+    /// The next word.
+    pub fn word(&mut self) -> Option<&'a str>
+        ensures { MatchOption result ((self.old ≡ []) × (self.new ≡ [])) (λ word. self.old ≡ word.now ∷ self.new) }
+    {
+        let rest = self.rest?;
+        match rest.split_once(' ') {
+            Some((word, behind)) => {
+                self.rest = Some(behind);
+                Some(word)
+            }
+            None => {
+                self.rest = None;
+                Some(rest)
+            }
+        }
+    }
+
+    /// The number that the next word writes.
+    pub fn next_number(&mut self) -> Option<u64>
+        ensures number { result ≡ first_number 64 self.old }
+        ensures rest { self.new ≡ behind self.old }
+    {
+        read_number(self.word()?)
+    }
+
+    // A value that the next word writes.
+    fn next_value(&mut self) -> Option<u32>
+        ensures number { result ≡ first_number 32 self.old }
+        ensures rest { self.new ≡ behind self.old }
+    {
+        read_value(self.word()?)
+    }
+
+    // No word is left.
+    fn is_over(mut self) -> bool
+        ensures { IsTrue result ↔ (self.entry ≡ []) }
+    {
+        self.word().is_none()
+    }
+
+    /// No word is left.
+    pub fn nothing(self) -> Option<()>
+        ensures { result ≡ nothing self.entry }
+    {
+        self.is_over().then_some(())
+    }
+
+    /// The number that the last word writes, which may be any.
+    pub fn number(mut self) -> Option<u64>
+        ensures { result ≡ one 64 self.entry }
+    {
+        let number = self.next_number()?;
+        self.is_over().then_some(number)
+    }
+
+    /// The value that the last word writes.
+    pub fn value(mut self) -> Option<u32>
+        ensures { result ≡ one 32 self.entry }
+    {
+        let value = self.next_value()?;
+        self.is_over().then_some(value)
+    }
+
+    /// The numbers that the last two words write.
+    pub fn two_numbers(mut self) -> Option<(u64, u64)>
+        ensures { result ≡ two 64 64 self.entry }
+    {
+        let first = self.next_number()?;
+        let second = self.number()?;
+        Some((first, second))
+    }
+}
+
+// The number that the digits write, unless it is too large for its type. `parse` would also take a plus before them.
+fn read_number(word: &str) -> Option<u64>
+    ensures { result ≡ number 64 word.now }
+{
+    if word.starts_with(PLUS) {
+        return None;
+    }
+    word.parse().ok()
+}
+
+fn read_value(word: &str) -> Option<u32>
+    ensures { result ≡ number 32 word.now }
+{
+    if word.starts_with(PLUS) {
+        return None;
+    }
+    word.parse().ok()
+}
