@@ -7,7 +7,7 @@ use embassy_sync::channel::{
 };
 use embassy_sync::priority_channel::{self, Max, Min, PriorityChannel};
 use embassy_sync::waitqueue::{Context, Hand, Poll, Wakes};
-use esync_base::store::Store;
+use embassy_sync::store::Store;
 use std::process::Abort;
 use std::sync::Wait;
 use std::test::Fail;

@@ -46,11 +46,6 @@ pub fn woken<R: Wait>(rt: &impl Abort, notes: &Notes<'_, R>, wakers: &[u64]) {
     }
 }
 
-/// The wakers that were handed out are this one alone, or none.
-pub fn hands_out(rt: &impl Abort, wakes: &Wakes<u64, 1>, waker: Option<u64>) {
-    assert_eq!(rt; wakes.as_slice(), [waker].as_slice());
-}
-
 /// Drops a future, if this is the point where it is to be dropped.
 pub fn drop_at<F: Drop>(future: &mut Option<F>, is_here: bool) {
     if is_here {
