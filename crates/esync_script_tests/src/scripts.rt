@@ -550,8 +550,8 @@ fn a_failed_write_ends_the_script(rt: HostRuntime) -> Result<(), Fail> {
             };
             let ended = script(rt.alloc(), input, output, &mut reported);
             assert_eq!(rt;
-                str::from_utf8(&printed)?,
-                &"0 | -\n1 | -\n"[..left],
+                printed.as_slice(),
+                &b"0 | -\n1 | -\n"[..left],
                 "with room for {left}"
             );
             assert_eq!(rt; str::from_utf8(&reported)?, FAILED);
