@@ -1,4 +1,3 @@
-use crate::notes::{Notes, drop_at, woken};
 use embassy_sync::blocking_mutex::CriticalSectionMutex;
 use embassy_sync::channel::{
     Channel, ChannelState, DynamicReceiver, DynamicSender, TryReceiveError, TrySendError,
@@ -6,6 +5,7 @@ use embassy_sync::channel::{
 use embassy_sync::priority_channel::{Max, Min, PriorityChannel};
 use embassy_sync::signal::Signal;
 use embassy_sync::waitqueue::{Context, Poll, Wakes};
+use esync_notes::{Notes, drop_at, woken};
 use std::sync::Wait;
 use std::thread;
 

@@ -1,5 +1,7 @@
-//! A hand that notes what it is given, and what was handed out.
-use embassy_sync::waitqueue::{Hand, Wakes};
+//! For tests: a hand that notes what it is given, and what was handed out.
+#![tactic(auto)]
+
+use esync_base::waitqueue::{Hand, Wakes};
 use std::cell::Cell;
 use std::process::Abort;
 use std::sync::Wait;
