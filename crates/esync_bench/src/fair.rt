@@ -7,31 +7,37 @@ use esync_base::waitqueue::{Context, TaskId, Wakes};
 use esync_permits::semaphore::{FairPoll, FairState, Ticket};
 
 impl<const N: usize> Pool for FairState<TaskId, N> {
+    ghost use Rattle.std.specs.Option.{option_to_list};
     ghost use Rattle.esync_permits.specs.Queue.{numbers};
 
-    type Ticket = Ticket;
+    type Ticket = Option<Ticket>;
 
     ghost available = { λ state. state.permits };
 
     ghost waiting = { λ state. numbers state.entries };
 
+    ghost numbered = { option_to_list };
+
+    fn no_ticket() -> Option<Ticket> {
+        None
+    }
+
     fn poll(
         &mut self,
         permits: u32,
-        ticket: &mut Option<Ticket>,
+        ticket: Option<Ticket>,
         cx: &Context<TaskId>,
         woken: &mut [u64],
         turn: &Turn,
-    ) -> u64 {
+    ) -> (u64, Option<Ticket>) {
         let mut wakes = Wakes::new();
-        let (taken, after) = match self.poll_acquire(permits as usize, *ticket, cx, &mut wakes) {
+        let (taken, ticket) = match self.poll_acquire(permits as usize, ticket, cx, &mut wakes) {
             FairPoll::Ready(answer) => (answer.unwrap_or(0), None),
             FairPoll::Pending(ticket) => (0, Some(ticket)),
         };
-        *ticket = after;
         hand_out(&wakes, woken);
         turn.next();
-        taken as u64
+        (taken as u64, ticket)
     }
 
     fn take(&mut self, permits: u32, turn: &Turn) -> u64 {

@@ -18,14 +18,18 @@ impl Pool for State {
 
     ghost waiting = { λ _. [] };
 
+    ghost numbered = { λ _. [] };
+
+    fn no_ticket() {}
+
     fn poll(
         &mut self,
         permits: u32,
-        _ticket: &mut Option<()>,
+        _ticket: (),
         cx: &Context<TaskId>,
         woken: &mut [u64],
         turn: &Turn,
-    ) -> u64 {
+    ) -> (u64, ()) {
         let mut wakes = Wakes::new();
         let taken = match self.poll_acquire(permits as usize, cx, &mut wakes) {
             Poll::Ready(taken) => taken,
@@ -33,7 +37,7 @@ impl Pool for State {
         };
         hand_out(&wakes, woken);
         turn.next();
-        taken as u64
+        (taken as u64, ())
     }
 
     fn take(&mut self, permits: u32, turn: &Turn) -> u64 {

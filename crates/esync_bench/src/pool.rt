@@ -1,35 +1,41 @@
 //! Passes over a pool of permits: each message is a number of them, and each loop is written once, for all that keep some.
-ghost use Rattle.std.specs.Prelude.{◌≡◌, ℕ, ◌+◌, ◌-◌, ◌<◌, ◌≤◌, ◌^◌, [], List, None, sum};
-ghost use Rattle.std.specs.Option.{option_to_list};
+ghost use Rattle.std.specs.Prelude.{◌≡◌, ℕ, ◌+◌, ◌-◌, ◌<◌, ◌≤◌, ◌^◌, [], List, sum};
 
 use crate::tasks::Turn;
 use esync_base::waitqueue::{Context, TaskId};
 
 /// What keeps permits. Each call hands out its wakes, and then it is the next one's turn.
 pub trait Pool {
-    /// What a request that waits is known by.
+    /// What a request keeps between two polls.
     type Ticket: Copy;
 
     /// How many permits are there.
     ghost available: { Self → ℕ };
 
-    /// The tickets of the requests that wait, where they have one.
-    ghost waiting: { Self → List Self.Ticket };
+    /// The numbers of the requests that wait, where they have some.
+    ghost waiting: { Self → List ℕ };
+
+    /// The number of the request, if it waits and has one.
+    ghost numbered: { Self.Ticket → List ℕ };
+
+    /// What a request has that wasn't polled yet.
+    fn no_ticket() -> Self::Ticket
+        ensures { numbered result ≡ [] };
 
     /// Takes a message's permits, if they are there, for who waits alone or where nobody does. If not, a task waits for them. Says how
-    /// many were taken.
+    /// many were taken, and what the request keeps.
     fn poll(
         &mut self,
         permits: u32,
-        ticket: &mut Option<Self::Ticket>,
+        ticket: Self::Ticket,
         cx: &Context<TaskId>,
         woken: &mut [u64],
         turn: &Turn,
-    ) -> u64
-        requires { waiting self.old ≡ option_to_list ticket.old }
-        ensures taken { available self.old ≡ result + available self.new }
-        ensures waiting { waiting self.new ≡ option_to_list ticket.new }
-        ensures enough { permits ≤ available self.old → result ≡ permits }
+    ) -> (u64, Self::Ticket)
+        requires { waiting self.old ≡ numbered ticket }
+        ensures taken { available self.old ≡ result.0 + available self.new }
+        ensures waiting { waiting self.new ≡ numbered result.1 }
+        ensures enough { permits ≤ available self.old → result.0 ≡ permits }
         ensures granted { permits ≤ available self.old → waiting self.new ≡ [] };
 
     /// Takes a message's permits, if they are there, where nobody waits. Says how many were taken.
@@ -62,7 +68,7 @@ pub fn acquire_and_release<P: Pool>(
     let cx = Context::from_waker(TaskId(0));
     let mut total = 0;
     for message in messages {
-        total += pool.poll(*message, &mut None, &cx, woken, turn);
+        total += pool.poll(*message, P::no_ticket(), &cx, woken, turn).0;
         pool.release(*message, woken, turn);
     }
     total
@@ -100,10 +106,10 @@ pub fn wait_and_wake<P: Pool>(pool: &mut P, messages: &[u32], woken: &mut [u64],
     let cx = Context::from_waker(TaskId(0));
     let mut total = 0;
     for message in messages {
-        let mut ticket = None;
-        total += pool.poll(*message, &mut ticket, &cx, woken, turn);
+        let (early, ticket) = pool.poll(*message, P::no_ticket(), &cx, woken, turn);
+        total += early;
         pool.release(*message, woken, turn);
-        total += pool.poll(*message, &mut ticket, &cx, woken, turn);
+        total += pool.poll(*message, ticket, &cx, woken, turn).0;
     }
     total
 }
