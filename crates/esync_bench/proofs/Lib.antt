@@ -1,2 +1,1 @@
-pub mod Bags
 pub mod Waits

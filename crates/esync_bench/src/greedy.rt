@@ -1,100 +1,57 @@
-//! Passes over a greedy semaphore: each message is a number of permits.
-ghost use Rattle.std.specs.Prelude.{◌≡◌, ◌+◌, ◌-◌, ◌<◌, ◌≤◌, ◌^◌, sum};
+//! Passes over a greedy semaphore.
+ghost use Rattle.std.specs.Prelude.{◌≡◌, ◌<◌, ◌^◌, sum};
 
+use crate::pool::{Pool, acquire_and_release, take_and_release, wait_and_wake};
 use crate::tasks::{Turn, hand_out};
 use esync_base::waitqueue::{Context, Poll, TaskId, Wakes};
 use esync_permits::semaphore::GreedyState;
 
 type State = GreedyState<TaskId>;
 
-// Takes a message's permits, if they are there. If not, a task waits for them. Says how many were taken.
-fn poll(
-    state: &mut State,
-    permits: u32,
-    cx: &Context<TaskId>,
-    woken: &mut [u64],
-    turn: &Turn,
-) -> u64
-    ensures taken { state.old.permits ≡ result + state.new.permits }
-    ensures enough { permits ≤ state.old.permits → result ≡ permits }
-{
-    let mut wakes = Wakes::new();
-    let taken = match state.poll_acquire(permits as usize, cx, &mut wakes) {
-        Poll::Ready(taken) => taken,
-        Poll::Pending => 0,
-    };
-    hand_out(&wakes, woken);
-    turn.next();
-    taken as u64
-}
+// A request has no ticket, and the waker of only one is kept.
+impl Pool for State {
+    ghost use Rattle.std.specs.Prelude.{[]};
 
-// Takes a message's permits, if they are there. Says how many were taken.
-fn take(state: &mut State, permits: u32, turn: &Turn) -> u64
-    ensures taken { state.old.permits ≡ result + state.new.permits }
-    ensures enough { permits ≤ state.old.permits → result ≡ permits }
-{
-    let taken = state.try_acquire(permits as usize).unwrap_or(0);
-    turn.next();
-    taken as u64
-}
+    type Ticket = ();
 
-// Gives a message's permits back.
-fn release(state: &mut State, permits: u32, woken: &mut [u64], turn: &Turn)
-    requires { state.old.permits + permits < 2 ^ 64 }
-    ensures { state.new.permits ≡ state.old.permits + permits }
-{
-    let mut wakes = Wakes::new();
-    state.release(permits as usize, &mut wakes);
-    hand_out(&wakes, woken);
-    turn.next();
-}
+    ghost available = { λ state. state.permits };
 
-// Task 0 polls for each message's permits, which are there, and gives them back.
-#[inline(never)]
-fn acquire_and_release(state: &mut State, messages: &[u32], woken: &mut [u64], turn: &Turn) -> u64
-    requires permits { state.old.permits ≡ 2 ^ 32 - 1 }
-    requires fits { sum messages.now < 2 ^ 64 }
-    ensures { result ≡ sum messages.now }
-{
-    let cx = Context::from_waker(TaskId(0));
-    let mut total = 0;
-    for message in messages {
-        total += poll(state, *message, &cx, woken, turn);
-        release(state, *message, woken, turn);
+    ghost waiting = { λ _. [] };
+
+    ghost numbered = { λ _. [] };
+
+    fn no_ticket() {}
+
+    fn poll(
+        &mut self,
+        permits: u32,
+        _ticket: (),
+        cx: &Context<TaskId>,
+        woken: &mut [u64],
+        turn: &Turn,
+    ) -> (u64, ()) {
+        let mut wakes = Wakes::new();
+        let taken = match self.poll_acquire(permits as usize, cx, &mut wakes) {
+            Poll::Ready(taken) => taken,
+            Poll::Pending => 0,
+        };
+        hand_out(&wakes, woken);
+        turn.next();
+        (taken as u64, ())
     }
-    total
-}
 
-// Each message's permits, which are there, are taken and given back.
-#[inline(never)]
-fn take_and_release(state: &mut State, messages: &[u32], woken: &mut [u64], turn: &Turn) -> u64
-    requires permits { state.old.permits ≡ 2 ^ 32 - 1 }
-    requires fits { sum messages.now < 2 ^ 64 }
-    ensures { result ≡ sum messages.now }
-{
-    let mut total = 0;
-    for message in messages {
-        total += take(state, *message, turn);
-        release(state, *message, woken, turn);
+    fn take(&mut self, permits: u32, turn: &Turn) -> u64 {
+        let taken = self.try_acquire(permits as usize).unwrap_or(0);
+        turn.next();
+        taken as u64
     }
-    total
-}
 
-// Task 0 polls and waits, a message's permits are given back, which wakes it, and it polls again and has them.
-#[inline(never)]
-fn wait_and_wake(state: &mut State, messages: &[u32], woken: &mut [u64], turn: &Turn) -> u64
-    requires permits { state.old.permits ≡ 0 }
-    requires fits { sum messages.now < 2 ^ 64 }
-    ensures { result ≡ sum messages.now }
-{
-    let cx = Context::from_waker(TaskId(0));
-    let mut total = 0;
-    for message in messages {
-        total += poll(state, *message, &cx, woken, turn);
-        release(state, *message, woken, turn);
-        total += poll(state, *message, &cx, woken, turn);
+    fn release(&mut self, permits: u32, woken: &mut [u64], turn: &Turn) {
+        let mut wakes = Wakes::new();
+        GreedyState::release(self, permits as usize, &mut wakes);
+        hand_out(&wakes, woken);
+        turn.next();
     }
-    total
 }
 
 #[unsafe(no_mangle)]

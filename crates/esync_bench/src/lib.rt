@@ -4,9 +4,11 @@
 //! came out, which is the sum of what went in, and counts in `woken` how often each task was woken.
 #![tactic(auto)]
 
+mod carrier;
 pub mod channel;
 pub mod fair;
 pub mod greedy;
+mod pool;
 pub mod priority;
 pub mod signal;
 pub mod tasks;
