@@ -33,9 +33,6 @@ slot-wrapped n f (suc i) l h k = elim (lt_or_le (f + i) n) [
 pub slot-is : (n f i : ℕ) → f ≤ n - 1 → i ≤ n → ((f + i < n) × (slot n f i ≡ f + i)) ⊎ ((n ≤ f + i) × (slot n f i ≡ i - (n - f)))
 slot-is n f i l h = elim (lt_or_le (f + i) n) [ inl e ↦ inl (e, slot-inside n f i e) | inr e ↦ inr (e, slot-wrapped n f i l e h) ]
 
-pub slot-below : (n f i : ℕ) → f ≤ n - 1 → i < n → slot n f i < n
-slot-below n f i l h = elim (slot-is n f i l (omega arith)) [ inl e ↦ omega arith | inr e ↦ omega arith ]
-
 pub slot-next : (n f i : ℕ) → slot n f (suc i) ≡ slot n (next n f) i
 slot-next n f zero = refl
 slot-next n f (suc i) = ap (next n) (slot-next n f i)

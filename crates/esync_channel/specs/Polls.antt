@@ -1,4 +1,4 @@
--- The same of polls.
+-- What a poll of a mailbox answers, and what it leaves there.
 use Rattle.std.specs.Prelude.{◌≡◌, ◌<◌, ◌≤◌, Bool, true, false, List, [], length, Option, Some, None}
 use Rattle.esync_base.specs.Keeping.{Keeping}
 use Rattle.esync_base.specs.declared.waitqueue.Poll.{Poll}

@@ -59,13 +59,6 @@ module _ {Ask Command : Type 0} (tasks : List (Todo Ask Command)) where
   orderly_requeued room queue ws true k o = orderly_put room (woken tasks queue ws) k (orderly_woken room queue ws o)
   orderly_requeued room queue ws false k o = orderly_woken room queue ws o
 
-  pub orderly_empty : (queue : Line) → queue.numbers ≡ [] → queue.room ≡ length tasks → IsOrderly tasks queue
-  orderly_empty queue e r = record {
-    room = r;
-    distinct = subst NoTwice (sym e) tt;
-    unended = λ k q. absurd (let h = rw e at q in cc);
-  }
-
   -- the same of queues that are told by equations
   pub orderly_back : (queue after : Line) (k : ℕ) → IsOrderly tasks queue → after ≡ record { room = queue.room; numbers = put_back tasks queue.numbers k } → IsOrderly tasks after
   orderly_back queue after k o e = subst (λ q. IsOrderly tasks q) (sym e) (orderly_put queue.room queue.numbers k o)

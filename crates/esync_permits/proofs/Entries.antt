@@ -57,10 +57,6 @@ module _ {W : Type 0} where
   front_wakers-front u (e ∷ es) f = rw f refl
 
   -- what is in the queue where the entry of a number stands
-  is_in-split : (t : ℕ) (xs ys : List (Entry W)) (e : Entry W) → e.number ≡ t → is_in t (numbers (xs ++ e ∷ ys)) ≡ true
-  is_in-split t [] ys e h = rw (equal_number e.number t h) refl
-  is_in-split t (x ∷ xs) ys e h = elim (true_or_false (x.number == t)) [ inl i ↦ rw i refl | inr i ↦ rw i (is_in-split t xs ys e h) ]
-
   remove-split : (t : ℕ) (xs ys : List (Entry W)) (e : Entry W) → is_in t (numbers xs) ≡ false → e.number ≡ t → remove (xs ++ e ∷ ys) (length xs) ≡ left_by t (xs ++ e ∷ ys)
   remove-split t [] ys e f h = rw (equal_number e.number t h) refl
   remove-split t (x ∷ xs) ys e f h = (let o = neither (x.number == t) (is_in t (numbers xs)) f in rw o.0 (ap (λ zs. x ∷ zs) (remove-split t xs ys e o.1 h)))
@@ -69,17 +65,7 @@ module _ {W : Type 0} where
   set-split t w [] ys e f h = rw (equal_number e.number t h, h) refl
   set-split t w (x ∷ xs) ys e f h = (let o = neither (x.number == t) (is_in t (numbers xs)) f in rw o.0 (ap (λ zs. x ∷ zs) (set-split t w xs ys e o.1 h)))
 
-  below-split : (xs ys : List (Entry W)) (e : Entry W) → length xs < length (xs ++ e ∷ ys)
-  below-split [] ys e = omega arith
-  below-split (x ∷ xs) ys e = omega (arith, below-split xs ys e)
-
   module _ (t i : ℕ) (es : List (Entry W)) (s : StandsAt t i es) where
-    pub stands-below : i < length es
-    stands-below = rw (← s.count, s.split) (below-split s.before s.behind s.entry)
-
-    pub stands-in : is_in t (numbers es) ≡ true
-    stands-in = rw s.split (is_in-split t s.before s.behind s.entry s.number)
-
     pub stands-remove : remove es i ≡ left_by t es
     stands-remove = rw (← s.count, s.split) (remove-split t s.before s.behind s.entry s.first s.number)
 

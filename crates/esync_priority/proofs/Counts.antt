@@ -12,9 +12,6 @@ pub doubled : (old mid new : ℕ) → old ≤ mid → mid ≤ new → new ≤ mi
 doubled old mid new a b c =
     subst (λ (n : ℕ). 2 ^ (new - old) ≤ n) (pow-suc 2 (mid - old)) (pow_mono {i = new - old} {j = suc (mid - old)} (omega arith))
 
-pub costs_none : (c n : ℕ) → CostsWithin c c (n + 1)
-costs_none c n = record { more = omega arith; few = let e : c - c ≡ 0 = omega arith in rw e (omega arith) }
-
 pub costs_more : (old mid new n m : ℕ) → CostsWithin old mid n → mid ≤ new → new ≤ mid + 1 → n * 2 ≤ m → CostsWithin old new m
 costs_more old mid new n m cost a b h =
     let two = doubled old mid new cost.more a b in let few = cost.few in

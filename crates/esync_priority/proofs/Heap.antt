@@ -61,22 +61,6 @@ module _ {A : Type 0} (above : A → A → Bool) (d : A) where
         ];
       }
 
-  -- what a place that may hold anything holds doesn't matter
-  pub but_put : (xs : List A) (i : ℕ) (x : A) → IsHeapBut above d xs i → IsHeapBut above d (set xs i x) i
-  but_put xs i x but =
-      let many = length-set xs i x in
-      record {
-        order = λ p k h ki pi.
-            let child : IsChild xs p k = record { behind = h.behind; within = h.within; inside = omega arith } in
-            rw (get_or-set_other xs i k x d ki, get_or-set_other xs i p x d pi) (but.order p k child ki pi);
-        bridge = λ p k h g.
-            let up : IsChild xs p i = record { behind = h.behind; within = h.within; inside = omega arith } in
-            let down : IsChild xs i k = record { behind = g.behind; within = g.within; inside = omega arith } in
-            let ki : k ≢ i = omega arith in
-            let pi : p ≢ i = omega arith in
-            rw (get_or-set_other xs i k x d ki, get_or-set_other xs i p x d pi) (but.bridge p k up down);
-      }
-
   -- the item has found its place
   pub settled : (xs : List A) (i : ℕ) (x : A) → i < length xs → IsHeapBut above d xs i → NoneAbove above d xs i x → ((p : ℕ) → IsChild xs p i → above x (get_or xs p d) ≡ false) → IsHeap above d (set xs i x)
   settled xs i x l but below under = record {

@@ -70,8 +70,8 @@ pushed row free new x last whole place is moved =
       many = length_permutation put new moved ∙ length-set free last (Some x);
       whole = row_moved (items_of row ++ x ∷ []) put new all moved;
       moved = IsPermutation-trans (x ∷ items_of row) (items_of row ++ x ∷ []) (items_of new)
-        (IsPermutation-sym (items_of row ++ x ∷ []) (x ∷ items_of row) (IsPermutation-to_front (items_of row) x))
-        (items_moved (items_of row ++ x ∷ []) put new all moved);
+          (IsPermutation-sym (items_of row ++ x ∷ []) (x ∷ items_of row) (IsPermutation-to_front (items_of row) x))
+          (items_moved (items_of row ++ x ∷ []) put new all moved);
     }
 
 -- the first item was taken, and then the others were moved

@@ -18,9 +18,6 @@ swap_is (x ∷ xs) i j d h k =
     ∙ ap (λ y. set (set (x ∷ xs) i (get_or (x ∷ xs) j x)) j y) (other_default (x ∷ xs) i d x h)
 
 module _ {A : Type 0} where
-  pub moves_none : (row : List A) (i : ℕ) → MovesPlace row row i i
-  moves_none row i = record { length_kept = refl; holds = λ x. IsPermutation-refl (set row i x) }
-
   pub moves_on : (row new : List A) (to from : ℕ) (n d : A) → to < length row → from < length row → to ≢ from → new ≡ set (set row from n) to (get_or row from d) → MovesPlace row new to from
   moves_on row new to from n d hi hj ne e = record {
     length_kept = ap length e ∙ length-set (set row from n) to (get_or row from d) ∙ length-set row from n;

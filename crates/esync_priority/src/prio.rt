@@ -36,7 +36,8 @@ pub struct Max {}
 pub struct Min {}
 
 impl<T: Ord> Kind<T> for Max {
-    ghost use Rattle.esync_priority.specs.Prio.{greater, greater-irreflexive, greater-transitive, greater-ties};
+    ghost use Rattle.esync_priority.specs.Prio.{greater};
+    ghost use Rattle.esync_priority.specs.PrioLaws.{greater-irreflexive, greater-transitive, greater-ties};
 
     ghost above = { greater T.cmp };
 
@@ -53,7 +54,8 @@ impl<T: Ord> Kind<T> for Max {
 }
 
 impl<T: Ord> Kind<T> for Min {
-    ghost use Rattle.esync_priority.specs.Prio.{less, less-irreflexive, less-transitive, less-ties};
+    ghost use Rattle.esync_priority.specs.Prio.{less};
+    ghost use Rattle.esync_priority.specs.PrioLaws.{less-irreflexive, less-transitive, less-ties};
 
     ghost above = { less T.cmp };
 
@@ -104,6 +106,7 @@ fn is_above<T, K: Kind<T>>(
     ensures value { result ≡ above_in_place K.above item.now (get_or row.now place None) }
     ensures more { comparisons.old ≤ comparisons.new }
     ensures once { comparisons.new ≤ comparisons.old + 1 }
+    ensures counted { IfSome item.now (λ _. IfSome (get_or row.now place None) (λ _. comparisons.new ≡ comparisons.old + 1)) }
 {
     match item {
         Some(item) => match &row[place] {

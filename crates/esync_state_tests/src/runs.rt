@@ -223,10 +223,13 @@ fn a_run_of_two_waits(rt: HostRuntime) -> Result<(), Fail> {
     Ok(())
 }
 
+type Run = ChannelRun<u32, u64, 1, 16, 1>;
+
 #[test]
 fn commands_and_replies_tell_what_they_are(rt: HostRuntime) {
-    let start = <ChannelRun<u32, u64, 1, 16, 1> as Awaits>::start(3, Ask::Receive);
-    assert!(rt; <ChannelRun<u32, u64, 1, 16, 1> as Awaits>::is_start(&start));
-    assert!(rt; !<ChannelRun<u32, u64, 1, 16, 1> as Awaits>::is_poll(&start));
-    assert!(rt; <ChannelRun<u32, u64, 1, 16, 1> as Awaits>::REQS == 16);
+    let start = <Run as Awaits>::start(3, Ask::Receive);
+    assert!(rt; <Run as Awaits>::is_start(&start) && !<Run as Awaits>::is_poll(&start));
+    let end = <Run as Awaits>::end(3);
+    assert!(rt; !<Run as Awaits>::is_start(&end) && !<Run as Awaits>::is_poll(&end));
+    assert!(rt; <Run as Awaits>::REQS == 16);
 }

@@ -182,7 +182,7 @@ pub type FairReply<W, const K: usize> = Reply<Answer<FairHeard>, W, K>;
 /// heard Pending would now be answered Ready, unless its waker was handed out in that poll or since. No Pending poll that
 /// changes nothing hands out its own waker. Permits are kept: as long as none of the commands sets, disarms or releases, the
 /// permits that are there and those of the live releasers add up to the same number. And nobody overtakes: where the machine has no
-/// requests at first, each request that is granted is the first of those who wait, in the order in which they first heard
+/// requests and an empty queue at first, each request that is granted is the first of those who wait, in the order in which they first heard
 /// Pending, or nobody waits.
 pub fn run_fair<W: Copy + Eq, const N: usize, const REQS: usize, const K: usize>(
     alloc: Global,

@@ -21,12 +21,12 @@ returns g c =
     record {
       run = c.run.ensures.run;
       total = IfOk-weaker c.run.result Good
-        (λ replies. AddsUp (total (fair g.row.N) before) c.args.commands.items (total (fair g.row.N) after))
-        (λ replies run. adds_up (fair g.row.N) (fair_keeps g.row.N) fair_wakings g.W.PartialEq.eq g.row.K before after _ _ c.args.commands.items replies.items run)
-        c.run.ensures.run;
+          (λ replies. AddsUp (total (fair g.row.N) before) c.args.commands.items (total (fair g.row.N) after))
+          (λ replies run. adds_up (fair g.row.N) (fair_keeps g.row.N) fair_wakings g.W.PartialEq.eq g.row.K before after _ _ c.args.commands.items replies.items run)
+          c.run.ensures.run;
       order = IfOk-weaker c.run.result Good
-        (λ replies. old.state.entries ≡ [] → old.requests ≡ replicate g.row.REQS None → NobodyOvertakes [] c.args.commands.items replies.items)
-        (λ replies run empty free. nobody_overtakes g.row.N fair_wakings g.W.PartialEq.eq g.row.K g.row.REQS before after _ _ c.args.commands.items replies.items run (ap numbers empty) free)
-        c.run.ensures.run;
+          (λ replies. old.state.entries ≡ [] → old.requests ≡ replicate g.row.REQS None → NobodyOvertakes [] c.args.commands.items replies.items)
+          (λ replies run empty free. nobody_overtakes g.row.N fair_wakings g.W.PartialEq.eq g.row.K g.row.REQS before after _ _ c.args.commands.items replies.items run (ap numbers empty) free)
+          c.run.ensures.run;
       refused = c.run.ensures.refused;
     }
