@@ -296,9 +296,9 @@ impl<const N: usize> ByteRing<N> {
     {
         let free = N - self.ring.len();
         let n = if from.len() < free { from.len() } else { free };
-        let (first, _second) = self.ring.push_bufs();
+        let run = self.ring.push_buf();
         self.row
-            .copy_in_runs(first.start, first.end - first.start, &from[..n]);
+            .copy_in_runs(run.start, run.end - run.start, &from[..n]);
         self.ring.push(n);
         n
     }
@@ -313,9 +313,9 @@ impl<const N: usize> ByteRing<N> {
     {
         let held = self.ring.len();
         let n = if to.len() < held { to.len() } else { held };
-        let (first, _second) = self.ring.pop_bufs();
+        let run = self.ring.pop_buf();
         self.row
-            .copy_out_runs(first.start, first.end - first.start, &mut to[..n]);
+            .copy_out_runs(run.start, run.end - run.start, &mut to[..n]);
         self.ring.pop(n);
         n
     }

@@ -18,8 +18,8 @@ returns-clause-bytes g c =
     let there : n ≤ a.ring.count = elim c.if-to-held.branch [ then-to-held w ↦ omega arith | else-to-held w ↦ omega arith ] in
     let small : n ≤ length c.args.to.now = elim c.if-to-held.branch [ then-to-held w ↦ omega arith | else-to-held w ↦ omega arith ] in
     let t : length (take n c.args.to.now) ≡ n = length-take-le n c.args.to.now small in
-    let run : c.pop_bufs.result.0.end - c.pop_bufs.result.0.start ≡ filled_run g.row.N a.ring = (let e = c.pop_bufs.ensures.end in omega arith) in
-    ap (λ x. x ++ drop n c.args.to.now) (rw (c.copy_out_runs.ensures, run, c.pop_bufs.ensures.start, t, ← c.self.view_is) (laid-oldest g.row.N a.row.bytes a.ring n c.self.invariant there))
+    let run : c.pop_buf-run.result.end - c.pop_buf-run.result.start ≡ filled_run g.row.N a.ring = (let e = c.pop_buf-run.ensures.end in omega arith) in
+    ap (λ x. x ++ drop n c.args.to.now) (rw (c.copy_out_runs.ensures, run, c.pop_buf-run.ensures.start, t, ← c.self.view_is) (laid-oldest g.row.N a.row.bytes a.ring n c.self.invariant there))
 
 pub returns-clause-items : goal.returns-clause-items
 returns-clause-items g c =

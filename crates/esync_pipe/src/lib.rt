@@ -1,0 +1,4 @@
+//! The pipe: bytes on their way from some tasks to others.
+#![tactic(auto)]
+
+pub mod pipe;
