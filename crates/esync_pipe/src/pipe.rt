@@ -2,12 +2,12 @@
 //!
 //! The state form takes `&mut self`, holds no lock and waits for nobody. What a call hands out, it appends to the list of
 //! wakes that it is given; who gets the list wakes them.
-ghost use Rattle.std.specs.Prelude.{◌≡◌, ℕ, ◌<◌, ◌≤◌, ◌+◌, ◌-◌, ◌++◌, [], Some, None, length, is_ok, IfOk, OnErr, ◌&&◌, nat_lt};
-ghost use Rattle.std.specs.Option.{option_copied};
-ghost use Rattle.esync_pipe.specs.Pipe.{Writes, Reads, Shows, shown, without, out_if, left_if, is_empty, is_full, slots_after_write, wakes_of_write, slots_after_read, wakes_of_read, slots_after_fill, wakes_of_fill};
+ghost use Rattle.std.specs.Prelude.{◌≡◌, ◌<◌, ◌≤◌, ◌+◌, ◌++◌, Some, length, is_none, IsSome, IfSome};
+ghost use Rattle.esync_base.specs.Registration.{registered_if, displaced_if};
+ghost use Rattle.esync_pipe.specs.Pipe.{waker_if, out_if, left_if, puts, rest_of, WritesAll, slots_after_write_all, wakes_of_write_all};
 
 use esync_base::ring_buffer::ByteRing;
-use esync_base::waitqueue::{Context, WakerRegistration, Wakes};
+use esync_base::waitqueue::{Context, Poll, WakerRegistration, Wakes};
 use std::marker::Model;
 use thiserror::Error;
 
@@ -55,18 +55,35 @@ fn wake_if<W: Copy + Eq, const K: usize>(
     requires { length wakes.old < K }
     ensures slot { slot.new ≡ left_if is slot.old }
     ensures wakes { wakes.new ≡ wakes.old ++ out_if is slot.old }
+    ensures one { length wakes.new ≤ length wakes.old + 1 }
 {
     if is {
         slot.wake(wakes);
     }
 }
 
+// Registers a waker in a slot where this is so.
+fn register_if<W: Copy + Eq, const K: usize>(
+    is: bool,
+    waker: W,
+    slot: &mut WakerRegistration<W>,
+    wakes: &mut Wakes<W, K>,
+)
+    requires { length wakes.old < K }
+    ensures slot { slot.new ≡ registered_if W.eq 1 slot.old (waker_if is waker) }
+    ensures wakes { wakes.new ≡ wakes.old ++ displaced_if W.eq 1 slot.old (waker_if is waker) }
+{
+    if is {
+        slot.register(waker, wakes);
+    }
+}
+
 impl<W: Copy + Eq, const N: usize> PipeState<W, N> {
-    ghost use Rattle.std.specs.Prelude.{◌≡◌, ◌<◌, ◌≤◌, ◌+◌, ◌++◌, [], Some, None, length, is_ok, IfOk, OnErr, ◌&&◌, nat_lt, ⊤, false};
+    ghost use Rattle.std.specs.Prelude.{◌≡◌, ◌<◌, ◌≤◌, ◌+◌, ◌++◌, [], Some, None, length, is_ok, IfOk, OnErr, ◌&&◌, nat_lt, take, ⊤, false};
     ghost use Rattle.std.specs.Option.{option_copied};
     ghost use mathlib.Core.Option.{none};
     ghost use Rattle.std.specs.Borrow.{sem, follows_so};
-    ghost use Rattle.esync_pipe.specs.Pipe.{Writes, Reads, shown, without, out_if, left_if, is_empty, is_full, slots_after_write, wakes_of_write, slots_after_read, wakes_of_read, slots_after_fill, wakes_of_fill};
+    ghost use Rattle.esync_pipe.specs.Pipe.{Writes, Reads, shown, without, out_if, left_if, is_empty, is_full, slots_after_write, wakes_of_write, slots_after_read, wakes_of_read, slots_after_fill, wakes_of_fill, behind, puts, slots_after_write_all, wakes_of_write_all};
     ghost use Rattle.esync_pipe.specs.contracts.pipe.PipeState.{the_row};
 
     /// No byte, and nobody who waits.
@@ -257,6 +274,29 @@ impl<W: Copy + Eq, const N: usize> PipeState<W, N> {
         self.write(from, waker, wakes)
     }
 
+    // Puts as many of the bytes behind the others as there is room for, and tells how many. Where some are left, the waker waits for
+    // room.
+    fn write_all<const K: usize>(
+        &mut self,
+        from: &[u8],
+        waker: W,
+        wakes: &mut Wakes<W, K>,
+    ) -> usize
+        requires { length wakes.old + 1 < K }
+        ensures count { result ≡ puts N self.old.ring from.now }
+        ensures bytes { self.new.ring ≡ behind self.old.ring (take result from.now) }
+        ensures slots { self.new.slots ≡ slots_after_write_all W.eq self.old.ring result (length from.now) waker self.old.slots }
+        ensures wakes { wakes.new ≡ wakes.old ++ wakes_of_write_all W.eq self.old.ring result (length from.now) waker self.old.slots }
+    {
+        let was_empty = self.is_empty();
+        let written = self.buffer.write(from);
+        let fills = written > 0 && was_empty;
+        wake_if(fills, &mut self.read_waker, wakes);
+        let is_left = written < from.len();
+        register_if(is_left, waker, &mut self.write_waker, wakes);
+        written
+    }
+
     /// Drops all bytes, and wakes who waits for room.
     pub fn clear<const K: usize>(&mut self, wakes: &mut Wakes<W, K>)
         requires { length wakes.old < K }
@@ -302,5 +342,77 @@ impl<W: Copy + Eq, const N: usize> PipeState<W, N> {
         ensures { result + length self.now.ring.items ≡ N }
     {
         N - self.buffer.len()
+    }
+}
+
+/// Bytes that wait to be written, all of them.
+#[derive(Drop)]
+pub struct WriteAllRequest<'a> {
+    rest: Option<&'a [u8]>,
+}
+
+impl<'a> Model for WriteAllRequest<'a> {
+    ghost use Rattle.std.specs.Prelude.{ℕ, List, Option};
+    ghost use Rattle.std.specs.Option.{option_copied};
+    ghost use Rattle.std.specs.Coded.{coded_option, coded_list, coded_ℕ};
+
+    ghost Value = { Option (List ℕ) };
+
+    ghost coded = { coded_option (coded_list coded_ℕ) };
+
+    ghost view = { λ a. option_copied a.rest };
+}
+
+impl<'a> WriteAllRequest<'a> {
+    /// These bytes, which are still to be written.
+    pub fn new(bytes: &'a [u8]) -> Self
+        ensures { result ≡ Some bytes.now }
+    {
+        WriteAllRequest { rest: Some(bytes) }
+    }
+
+    /// All bytes were written.
+    pub fn is_finished(&self) -> bool
+        ensures { result ≡ is_none self.now }
+    {
+        self.rest.is_none()
+    }
+
+    /// The bytes that are still to be written.
+    pub fn rest(&self) -> &'a [u8]
+        ensures { result.now ≡ rest_of self.now }
+    {
+        match self.rest {
+            Some(rest) => rest,
+            None => &[],
+        }
+    }
+
+    /// Writes as many of the bytes as there is room for. Where some are left, the context's waker waits for room. Without bytes it is
+    /// ready at once.
+    ///
+    /// A request that is finished is not polled.
+    pub fn poll_state<W: Copy + Eq, const N: usize, const K: usize>(
+        &mut self,
+        state: &mut PipeState<W, N>,
+        cx: &Context<W>,
+        wakes: &mut Wakes<W, K>,
+    ) -> Poll<()>
+        requires room { length wakes.old + 1 < K }
+        requires unfinished { IsSome self.old }
+        ensures bytes { IfSome self.old (λ rest. WritesAll N state.old.ring rest result state.new.ring self.new) }
+        ensures slots { IfSome self.old (λ rest. state.new.slots ≡ slots_after_write_all W.eq state.old.ring (puts N state.old.ring rest) (length rest) cx.now state.old.slots) }
+        ensures wakes { IfSome self.old (λ rest. wakes.new ≡ wakes.old ++ wakes_of_write_all W.eq state.old.ring (puts N state.old.ring rest) (length rest) cx.now state.old.slots) }
+    {
+        let Some(rest) = self.rest else {
+            unreachable!()
+        };
+        let written = state.write_all(rest, cx.waker(), wakes);
+        if written < rest.len() {
+            self.rest = Some(&rest[written..]);
+            return Poll::Pending;
+        }
+        self.rest = None;
+        Poll::Ready(())
     }
 }
