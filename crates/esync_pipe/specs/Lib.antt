@@ -1,2 +1,5 @@
 pub mod Piped
 pub mod Pipe
+pub mod Padded
+pub mod PipeRules
+pub mod PipeLaws

@@ -1,4 +1,5 @@
 //! The pipe: bytes on their way from some tasks to others.
 #![tactic(auto)]
 
+pub mod bytes;
 pub mod pipe;

@@ -11,6 +11,8 @@ use esync_base::waitqueue::{Context, Poll, WakerRegistration, Wakes};
 use std::marker::Model;
 use thiserror::Error;
 
+pub mod machine;
+
 /// Why no byte was read.
 #[derive(Clone, Copy, Debug, PartialEq, Eq, Error)]
 pub enum TryReadError {
