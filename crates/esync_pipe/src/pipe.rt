@@ -200,7 +200,7 @@ impl<W: Copy + Eq, const N: usize> PipeState<W, N> {
     }
 
     // The oldest bytes, as many as stand one behind the other.
-    fn shown(&self) -> &[u8]
+    pub(crate) fn shown(&self) -> &[u8]
         ensures { result.now ≡ shown N self.now.ring }
     {
         self.buffer.filled()

@@ -1,8 +1,18 @@
 //! The pipe as a machine that takes commands.
-ghost use Rattle.std.specs.Prelude.{◌≡◌};
+ghost use Rattle.std.specs.Prelude.{◌≡◌, ◌<◌, ◌++◌, [], None, is_ok, length};
+ghost use Rattle.esync_machine.specs.Runs.{GoodRun};
+ghost use Rattle.esync_machine.specs.Object.{Object, requests_meaning};
+ghost use Rattle.esync_machine.specs.Wakings.{IsHanded, called};
+ghost use Rattle.esync_pipe.specs.PipeRules.{pipe_rules, pipe_wakings, poll_hands, Polls, Calls, TakesOut, Fills};
+ghost use Rattle.esync_pipe.specs.Pipe.{slots_after_read, wakes_of_read};
 
-use super::{TryReadError, TryWriteError};
+use super::{PipeState, TryReadError, TryWriteError, WriteAllRequest};
 use crate::bytes::Bytes;
+use esync_base::waitqueue::{Context, Poll, Wakes};
+use esync_machine::primitive::{Answer, Command, Primitive, Reach, Turn};
+use esync_machine::requests::Requests;
+use esync_machine::run::{Reply, run};
+use std::alloc::{AllocError, Global};
 
 /// What a request on a pipe waits for.
 #[derive(Clone, Copy, Debug, PartialEq, Eq)]
@@ -44,4 +54,152 @@ pub enum PipeHeard {
     HasTriedRead(Result<Bytes, TryReadError>),
     TryFilled(Result<Bytes, TryReadError>),
     Number(usize),
+}
+
+// What a poll does, of each request.
+impl<W: Copy + Eq, const N: usize> PipeState<W, N> {
+    fn turn_write<const K: usize>(
+        &mut self,
+        bytes: Bytes,
+        cx: &Context<W>,
+        wakes: &mut Wakes<W, K>,
+    ) -> Turn<PipeHeard, PipeAsk>
+        requires empty { wakes.old ≡ [] }
+        requires room { 1 < K }
+        ensures allowed { Polls N self.old.ring (PipeAsk.Write bytes) result.answer self.new.ring result.place }
+        ensures exact { IsHanded (poll_hands W.eq N self.old.ring self.old.slots (PipeAsk.Write bytes) cx.now) wakes.new self.new.slots }
+    {
+        match self.try_write_with_context(Some(cx), bytes.as_slice(), wakes) {
+            Ok(n) => Turn::over(PipeHeard::Wrote(n)),
+            Err(TryWriteError::Full) => Turn::waits(PipeAsk::Write(bytes)),
+        }
+    }
+
+    fn turn_write_all<const K: usize>(
+        &mut self,
+        bytes: Bytes,
+        cx: &Context<W>,
+        wakes: &mut Wakes<W, K>,
+    ) -> Turn<PipeHeard, PipeAsk>
+        requires empty { wakes.old ≡ [] }
+        requires room { 1 < K }
+        ensures allowed { Polls N self.old.ring (PipeAsk.WriteAll bytes) result.answer self.new.ring result.place }
+        ensures exact { IsHanded (poll_hands W.eq N self.old.ring self.old.slots (PipeAsk.WriteAll bytes) cx.now) wakes.new self.new.slots }
+    {
+        let mut request = WriteAllRequest::new(bytes.as_slice());
+        match request.poll_state(self, cx, wakes) {
+            Poll::Ready(()) => Turn::over(PipeHeard::WroteAll),
+            Poll::Pending => Turn::waits(PipeAsk::WriteAll(Bytes::from_slice(request.rest()))),
+        }
+    }
+
+    fn turn_read<const K: usize>(
+        &mut self,
+        count: usize,
+        cx: &Context<W>,
+        wakes: &mut Wakes<W, K>,
+    ) -> Turn<PipeHeard, PipeAsk>
+        requires empty { wakes.old ≡ [] }
+        requires room { 1 < K }
+        ensures allowed { Polls N self.old.ring (PipeAsk.Read count) result.answer self.new.ring result.place }
+        ensures exact { IsHanded (poll_hands W.eq N self.old.ring self.old.slots (PipeAsk.Read count) cx.now) wakes.new self.new.slots }
+    {
+        match self.read_row(count, Some(cx.waker()), wakes) {
+            Ok(bytes) => Turn::over(PipeHeard::HasRead(bytes)),
+            Err(TryReadError::Empty) => Turn::waits(PipeAsk::Read(count)),
+        }
+    }
+
+    fn turn_fill<const K: usize>(
+        &mut self,
+        cx: &Context<W>,
+        wakes: &mut Wakes<W, K>,
+    ) -> Turn<PipeHeard, PipeAsk>
+        requires empty { wakes.old ≡ [] }
+        requires room { 1 < K }
+        ensures allowed { Polls N self.old.ring PipeAsk.Fill result.answer self.new.ring result.place }
+        ensures exact { IsHanded (poll_hands W.eq N self.old.ring self.old.slots PipeAsk.Fill cx.now) wakes.new self.new.slots }
+    {
+        match self.try_fill_buf_with_context(Some(cx), wakes) {
+            Ok(bytes) => Turn::over(PipeHeard::Filled(Bytes::from_slice(bytes))),
+            Err(TryReadError::Empty) => Turn::waits(PipeAsk::Fill),
+        }
+    }
+
+    // Takes so many bytes out, or 16 where more are asked for.
+    fn read_row<const K: usize>(
+        &mut self,
+        count: usize,
+        waker: Option<W>,
+        wakes: &mut Wakes<W, K>,
+    ) -> Result<Bytes, TryReadError>
+        requires { length wakes.old < K }
+        ensures bytes { TakesOut N self.old.ring count result self.new.ring }
+        ensures slots { self.new.slots ≡ slots_after_read W.eq N self.old.ring waker (is_ok result) self.old.slots }
+        ensures wakes { wakes.new ≡ wakes.old ++ wakes_of_read W.eq N self.old.ring waker (is_ok result) self.old.slots }
+    {
+        let mut row = [0; 16];
+        let places = if count < 16 { count } else { 16 };
+        match self.read(&mut row[..places], waker, wakes) {
+            Ok(n) => Ok(Bytes::from_slice(&row[..n])),
+            Err(error) => Err(error),
+        }
+    }
+
+    // What a call does.
+    fn perform<const K: usize>(
+        &mut self,
+        call: PipeCall,
+        wakes: &mut Wakes<W, K>,
+    ) -> Answer<PipeHeard>
+        requires empty { wakes.old ≡ [] }
+        requires room { 1 < K }
+        ensures allowed { Calls N self.old.ring call result self.new.ring }
+        ensures exact { IsHanded (called (pipe_wakings W.eq N) self.old.ring self.old.slots call None result) wakes.new self.new.slots }
+    {
+        match call {
+            PipeCall::TryWrite(bytes) => {
+                Answer::Gives(PipeHeard::TryWrote(self.try_write(bytes.as_slice(), wakes)))
+            }
+            PipeCall::TryRead(count) => {
+                Answer::Gives(PipeHeard::HasTriedRead(self.read_row(count, None, wakes)))
+            }
+            PipeCall::TryFill => Answer::Gives(PipeHeard::TryFilled(self.shown_row())),
+            PipeCall::Consume(count) => self.consume_row(count, wakes),
+            PipeCall::Clear => {
+                self.clear(wakes);
+                Answer::Done
+            }
+            PipeCall::Len => Answer::Gives(PipeHeard::Number(self.len())),
+            PipeCall::FreeCapacity => Answer::Gives(PipeHeard::Number(self.free_capacity())),
+        }
+    }
+
+    // Shows the bytes that `try_fill_buf` shows, or the first 16 of them.
+    fn shown_row(&self) -> Result<Bytes, TryReadError>
+        ensures { Fills N self.now.ring result self.now.ring }
+    {
+        match self.try_fill_buf() {
+            Ok(bytes) => Ok(Bytes::from_slice(bytes)),
+            Err(error) => Err(error),
+        }
+    }
+
+    // Drops so many of the bytes that `try_fill_buf` shows, where there are so many.
+    fn consume_row<const K: usize>(
+        &mut self,
+        count: usize,
+        wakes: &mut Wakes<W, K>,
+    ) -> Answer<PipeHeard>
+        requires empty { wakes.old ≡ [] }
+        requires room { 1 < K }
+        ensures allowed { Calls N self.old.ring (PipeCall.Consume count) result self.new.ring }
+        ensures exact { IsHanded (called (pipe_wakings W.eq N) self.old.ring self.old.slots (PipeCall.Consume count) None result) wakes.new self.new.slots }
+    {
+        if count > self.shown().len() {
+            return Answer::NoSuch;
+        }
+        self.consume(count, wakes);
+        Answer::Done
+    }
 }
