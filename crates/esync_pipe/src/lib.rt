@@ -3,3 +3,5 @@
 
 pub mod bytes;
 pub mod pipe;
+#[cfg(test)]
+mod tests;

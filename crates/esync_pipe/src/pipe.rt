@@ -8,10 +8,15 @@ ghost use Rattle.esync_pipe.specs.Pipe.{waker_if, out_if, left_if, puts, rest_of
 
 use esync_base::ring_buffer::ByteRing;
 use esync_base::waitqueue::{Context, Poll, WakerRegistration, Wakes};
+pub use shared::{
+    ByteState, Copied, Pipe, PipeReader, PipeWriter, ReadFuture, Reader, SharedPipe,
+    WriteAllFuture, WriteFuture, Writer,
+};
 use std::marker::Model;
 use thiserror::Error;
 
 pub mod machine;
+mod shared;
 
 /// Why no byte was read.
 #[derive(Clone, Copy, Debug, PartialEq, Eq, Error)]
