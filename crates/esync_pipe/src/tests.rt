@@ -102,6 +102,10 @@ fn steps(
     hands_out(rt, &reply.wakes, waker);
 }
 
+fn finds_nothing() -> Answer<PipeHeard> {
+    Answer::Gives(PipeHeard::HasTriedRead(Err(TryReadError::Empty)))
+}
+
 #[test]
 fn write_all_goes_on_where_a_read_makes_room(rt: HostRuntime) {
     let state: State3 = PipeState::new();
@@ -140,19 +144,18 @@ fn write_all_goes_on_where_a_read_makes_room(rt: HostRuntime) {
         Answer::Gives(rest),
         None,
     );
-    let empty = PipeHeard::HasTriedRead(Err(TryReadError::Empty));
     steps(
         &rt,
         &mut run,
         Command::Call(PipeCall::TryRead(16)),
-        Answer::Gives(empty),
+        finds_nothing(),
         None,
     );
     steps(
         &rt,
         &mut run,
         Command::Call(PipeCall::TryRead(16)),
-        Answer::Gives(empty),
+        finds_nothing(),
         None,
     );
     steps(
