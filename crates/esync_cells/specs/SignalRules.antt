@@ -1,9 +1,8 @@
 -- What a signal allows, and which wakers it hands out: for each request and each call.
-use Rattle.std.specs.Prelude.{◌≡◌, Bool, false, List, Option, Some, None, is_some}
+use Rattle.std.specs.Prelude.{◌≡◌, Bool, List, Option, Some, None, is_some}
 use Rattle.esync_machine.specs.declared.primitive.Answer.{Answer}
 use Rattle.esync_machine.specs.declared.primitive.Answer.TheVariants.{Done, Pending, Gives}
-use Rattle.esync_machine.specs.declared.primitive.Reach.TheVariants.{Nobody}
-use Rattle.esync_machine.specs.Rules.{Rules, Alone}
+use Rattle.esync_machine.specs.Rules.{Rules, asked_rules}
 use Rattle.esync_machine.specs.Wakings.{Wakings, Handed, nothing, registers, hands_out}
 use Rattle.esync_cells.specs.declared.signal.machine.Wait.{Wait}
 use Rattle.esync_cells.specs.declared.signal.machine.SignalCall.{SignalCall}
@@ -23,17 +22,7 @@ Calls o Signaled a o2 = (a ≡ Gives (IsSignaled (is_some o))) × (o2 ≡ o)
 
 -- the object is an optional value
 abbrev pub signal_rules : (T : Type 0) → Rules Wait Wait (SignalCall T) (SignalHeard T)
-signal_rules T = record {
-  Core = Option T;
-  begins = λ o ask p. p ≡ Some ask;
-  polls = Polls;
-  ends = λ o h o2. o2 ≡ o;
-  reach = λ call. Nobody;
-  calls = Alone Calls;
-  leaves = λ o call h. false;
-  IsRequest = λ h. Unit {0};
-  WakesItself = ⊥;
-}
+signal_rules T = asked_rules Polls Calls
 
 -- a wait without a value registers, and a new value hands out who waits
 module _ {T W : Type 0} (eq : W → W → Bool) where

@@ -8,8 +8,7 @@ use Rattle.esync_channel.specs.declared.channel.TrySendError.{TrySendError}
 use Rattle.esync_channel.specs.declared.channel.TryReceiveError.{TryReceiveError}
 use Rattle.esync_machine.specs.declared.primitive.Answer.{Answer}
 use Rattle.esync_machine.specs.declared.primitive.Answer.TheVariants.{Done, Pending, Gives}
-use Rattle.esync_machine.specs.declared.primitive.Reach.TheVariants.{Nobody}
-use Rattle.esync_machine.specs.Rules.{Rules, Alone}
+use Rattle.esync_machine.specs.Rules.{Rules, asked_rules}
 use Rattle.esync_machine.specs.Wakings.{Wakings, Handed, nothing}
 use Rattle.esync_channel.specs.declared.channel.machine.ChannelAsk.{ChannelAsk}
 use Rattle.esync_channel.specs.declared.channel.machine.ChannelAsk.TheVariants.{Send, Receive, SendReady, ReceiveReady}
@@ -62,17 +61,7 @@ module _ {T : Type 0} (k : Keeping T) where
 
   -- the object is the list of the messages that are held
   abbrev pub channel_rules : Rules (ChannelAsk T) (ChannelAsk T) (ChannelCall T) (ChannelHeard T)
-  channel_rules = record {
-    Core = List T;
-    begins = λ held ask p. p ≡ Some ask;
-    polls = Polls;
-    ends = λ held ask held2. held2 ≡ held;
-    reach = λ call. Nobody;
-    calls = Alone Calls;
-    leaves = λ held call ask. false;
-    IsRequest = λ ask. Unit {0};
-    WakesItself = ⊥;
-  }
+  channel_rules = asked_rules Polls Calls
 
 module _ {T W : Type 0} (eq : W → W → Bool) (k : Keeping T) where
   -- by a send, with a waker or without

@@ -30,6 +30,20 @@ pub record Rules (Ask Held C A : Type 0) : Type 1 where
 abbrev pub Alone : {Core C Held A : Type 0} → (Core → C → Answer A → Core → Type 0) → Core → C → Option Held → Answer A → Core → Option Held → Type 0
 Alone calls o call p a o2 p2 = calls o call a o2 × (p2 ≡ p)
 
+-- of a primitive whose requests are what was asked, which ends leave as it is, and whose calls concern no number
+abbrev pub asked_rules : {Core Ask C A : Type 0} → (Core → Ask → Answer A → Core → Option Ask → Type 0) → (Core → C → Answer A → Core → Type 0) → Rules Ask Ask C A
+asked_rules {Core = Core} polls calls = record {
+  Core = Core;
+  begins = λ o ask p. p ≡ Some ask;
+  polls = polls;
+  ends = λ o ask o2. o2 ≡ o;
+  reach = λ call. Nobody;
+  calls = Alone calls;
+  leaves = λ o call ask. false;
+  IsRequest = λ ask. Unit {0};
+  WakesItself = ⊥;
+}
+
 -- what a call finds: nothing, unless it concerns a number
 abbrev pub Finds : {Held : Type 0} → Reach → Option Held → Type 0
 Finds Nobody p = p ≡ None

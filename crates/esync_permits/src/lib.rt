@@ -3,5 +3,3 @@
 
 mod queue;
 pub mod semaphore;
-#[cfg(test)]
-mod tests;

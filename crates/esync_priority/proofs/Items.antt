@@ -2,9 +2,10 @@
 use Rattle.std.proofs.Common.{◌≡◌, ℕ, ◌<◌, Bool, false, List, [], ◌∷◌, ◌++◌, length, get_or, take, drop, set, Some, None, Option, refl, sym, ◌∙◌, ap, arith}
 use Rattle.std.specs.Prelude.{map, IsPermutation, IfSome, IfNone, is_some, slice_get}
 use Rattle.std.specs.List.{swap, swap_remove}
-use Rattle.std.proofs.lemmas.List.{map-append, map-set, length-map, append-nil, take_all, drop_all, get_or-map as get_or-map_at}
+use Rattle.std.proofs.lemmas.List.{map-append, map-set, length-set, length-map, append-nil, take_all, drop_all, get_or-map as get_or-map_at}
 use Rattle.std.proofs.Math.ListN.{get_or-map}
-use Rattle.std.proofs.lemmas.List.Sorted.{IsPermutation-refl, IsPermutation-sym, IsPermutation-cons, IsPermutation-swap, IsPermutation-swap_remove, IsPermutation-to_front, IsPermutation-trans, IsPermutation-keeps}
+use Rattle.std.proofs.Math.Seq.{set-append_seam}
+use Rattle.std.proofs.lemmas.List.Sorted.{length_permutation, IsPermutation-refl, IsPermutation-sym, IsPermutation-cons, IsPermutation-swap, IsPermutation-swap_remove, IsPermutation-to_front, IsPermutation-trans, IsPermutation-keeps}
 use Rattle.std.proofs.lemmas.Option.{same_Some}
 use Rattle.esync_base.specs.Rows.{items_of}
 use Rattle.esync_priority.specs.Heap.{above_in_place, IsHeap}
@@ -53,18 +54,25 @@ pub refill_same : {X : Type 0} (xs ws : List X) → length ws ≡ length xs → 
 refill_same xs ws e = rw (drop_all (length ws) xs (omega arith), append-nil ws) (take_all (length xs) ws (omega arith))
 
 -- an item was put behind the others, and then they were moved
-module _ {A : Type 0} (row row' new : List (Option A)) (x : A) (whole : row ≡ map Some (items_of row)) (put : row' ≡ row ++ Some x ∷ []) (moved : IsPermutation row' new) where
-  all_of : row' ≡ map Some (items_of row ++ x ∷ [])
-  all_of = put ∙ ap (λ (r : List (Option A)). r ++ Some x ∷ []) whole ∙ sym (map-append Some (items_of row) (x ∷ []))
+pub record Pushed {A : Type 0} (row free new : List (Option A)) (x : A) : Type 0 where
+  pub many : length new ≡ length free
+  pub whole : new ≡ map Some (items_of new)
+  pub moved : IsPermutation (x ∷ items_of row) (items_of new)
 
-  pub pushed_row : new ≡ map Some (items_of new)
-  pushed_row = row_moved (items_of row ++ x ∷ []) row' new all_of moved
-
-  pub pushed_items : IsPermutation (x ∷ items_of row) (items_of new)
-  pushed_items =
-      IsPermutation-trans (x ∷ items_of row) (items_of row ++ x ∷ []) (items_of new)
-      (IsPermutation-sym (items_of row ++ x ∷ []) (x ∷ items_of row) (IsPermutation-to_front (items_of row) x))
-      (items_moved (items_of row ++ x ∷ []) row' new all_of moved)
+-- the place behind the others was free
+pub pushed : {A : Type 0} (row free new : List (Option A)) (x : A) (last : ℕ) → row ≡ map Some (items_of row) → free ≡ row ++ None ∷ [] → last ≡ length row
+    → IsPermutation (set free last (Some x)) new → Pushed row free new x
+pushed row free new x last whole place is moved =
+    let put = set free last (Some x) in
+    let seam : put ≡ row ++ Some x ∷ [] = ap (λ (r : List (Option _)). set r last (Some x)) place ∙ ap (λ n. set (row ++ None ∷ []) n (Some x)) is ∙ set-append_seam row None [] (Some x) in
+    let all : put ≡ map Some (items_of row ++ x ∷ []) = seam ∙ ap (λ (r : List (Option _)). r ++ Some x ∷ []) whole ∙ sym (map-append Some (items_of row) (x ∷ [])) in
+    record {
+      many = length_permutation put new moved ∙ length-set free last (Some x);
+      whole = row_moved (items_of row ++ x ∷ []) put new all moved;
+      moved = IsPermutation-trans (x ∷ items_of row) (items_of row ++ x ∷ []) (items_of new)
+        (IsPermutation-sym (items_of row ++ x ∷ []) (x ∷ items_of row) (IsPermutation-to_front (items_of row) x))
+        (items_moved (items_of row ++ x ∷ []) put new all moved);
+    }
 
 -- the first item was taken, and then the others were moved
 pub record Popped {A : Type 0} (row new : List (Option A)) (o : Option A) : Type 0 where

@@ -352,6 +352,3 @@ impl<T: Drop, K: Kind<T>, const N: usize> Store for PrioQueue<T, K, N> {
         PrioQueue::clear(self)
     }
 }
-
-#[cfg(test)]
-mod tests;

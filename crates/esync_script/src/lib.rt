@@ -16,8 +16,6 @@ pub mod channel;
 pub mod opening;
 pub mod semaphore;
 pub mod signal;
-#[cfg(test)]
-mod tests;
 
 /// Reads a script, writes what its commands are answered, and returns the status that tells how it ended.
 ///

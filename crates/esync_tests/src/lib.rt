@@ -1,21 +1,8 @@
-//! What no clause says: worked examples, and each call once with its answer and its wakes.
+//! What no clause says of the shared channels, the signal and the mutex, by upstream's paths: what each call answers, and which
+//! wakers the hand gets.
 #![tactic(auto)]
 
 #[cfg(test)]
-mod channel;
-#[cfg(test)]
-mod deque;
-#[cfg(test)]
 mod mailboxes;
 #[cfg(test)]
-mod notes;
-#[cfg(test)]
-mod registrations;
-#[cfg(test)]
-mod runs;
-#[cfg(test)]
-mod semaphores;
-#[cfg(test)]
 mod shared;
-#[cfg(test)]
-mod signal;

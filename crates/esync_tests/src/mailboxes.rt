@@ -1,13 +1,13 @@
 //! What a channel and a priority channel do alike: each test has both.
-use crate::notes::{Notes, woken};
 use embassy_sync::channel::{
     Channel, ChannelState, DynamicChannel, DynamicReceiveFuture, DynamicReceiver,
     DynamicSendFuture, DynamicSender, Mailbox, SendFuture, SharedMailbox, TryReceiveError,
     TrySendError,
 };
 use embassy_sync::priority_channel::{self, Max, Min, PriorityChannel};
+use embassy_sync::store::Store;
 use embassy_sync::waitqueue::{Context, Hand, Poll, Wakes};
-use esync_base::store::Store;
+use esync_notes::{Notes, woken};
 use std::process::Abort;
 use std::sync::Wait;
 use std::test::Fail;

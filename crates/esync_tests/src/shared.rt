@@ -1,4 +1,3 @@
-use crate::notes::{Notes, drop_at, woken};
 use embassy_sync::blocking_mutex::CriticalSectionMutex;
 use embassy_sync::channel::{
     Channel, ChannelState, DynamicReceiver, DynamicSender, TryReceiveError, TrySendError,
@@ -6,6 +5,7 @@ use embassy_sync::channel::{
 use embassy_sync::priority_channel::{Max, Min, PriorityChannel};
 use embassy_sync::signal::Signal;
 use embassy_sync::waitqueue::{Context, Poll, Wakes};
+use esync_notes::{Notes, drop_at, woken};
 use std::sync::Wait;
 use std::thread;
 
@@ -233,4 +233,22 @@ fn two_threads_share_a_channel_state(rt: HostRuntime) {
     assert!(rt; sent);
     let left = channel.into_inner().len();
     assert!(rt; (received == Some(7) && left == 0) || (received == None && left == 1));
+}
+
+#[test]
+fn a_wait_acts_anew_after_it_was_ready(rt: HostRuntime) {
+    let notes = Notes::new(&rt);
+    let signal: Signal<u32, u64, _> = Signal::new(&notes);
+    let cx = Context::from_waker(1);
+    let mut wait = signal.wait();
+    signal.signal(5);
+    assert!(rt; wait.poll(&cx) == Poll::Ready(5));
+    assert!(rt; wait.poll(&cx) == Poll::Pending);
+    woken(&rt, &notes, &[]);
+    signal.signal(6);
+    woken(&rt, &notes, &[1]);
+    assert!(rt; wait.poll(&cx) == Poll::Ready(6));
+    signal.signal(7);
+    assert!(rt; signal.poll_wait(&cx) == Poll::Ready(7));
+    woken(&rt, &notes, &[]);
 }

@@ -11,26 +11,22 @@ use Rattle.esync_permits.proofs.FairOrder.{nobody_overtakes}
 use Rattle.esync_permits.proofs.Sums.{adds_up, fair_keeps}
 use Rattle.esync_permits.proofs.semaphore.machine.fair.run_fair.Goals as goal
 
-pub returns-clause-total : goal.returns-clause-total
-returns-clause-total g c =
+pub returns : goal.returns
+returns g c =
     let old = c.args.machine.now in
     let new = c.run.new.machine in
     let before : Object PermitQueue Held = record { core = object_of old.state; requests = old.requests } in
     let after : Object PermitQueue Held = record { core = object_of new.state; requests = new.requests } in
-    IfOk-weaker c.run.result
-    (λ replies. GoodRun (requests_meaning (fair_rules g.row.N) fair_wakings g.W.PartialEq.eq g.row.K) before old.state.entries c.args.commands.items replies.items after new.state.entries)
-    (λ replies. AddsUp (total (fair g.row.N) before) c.args.commands.items (total (fair g.row.N) after))
-    (λ replies run. adds_up (fair g.row.N) (fair_keeps g.row.N) fair_wakings g.W.PartialEq.eq g.row.K before after _ _ c.args.commands.items replies.items run)
-    c.run.ensures.run
-
-pub returns-clause-order : goal.returns-clause-order
-returns-clause-order g c =
-    let old = c.args.machine.now in
-    let new = c.run.new.machine in
-    let before : Object PermitQueue Held = record { core = object_of old.state; requests = old.requests } in
-    let after : Object PermitQueue Held = record { core = object_of new.state; requests = new.requests } in
-    IfOk-weaker c.run.result
-    (λ replies. GoodRun (requests_meaning (fair_rules g.row.N) fair_wakings g.W.PartialEq.eq g.row.K) before old.state.entries c.args.commands.items replies.items after new.state.entries)
-    (λ replies. old.state.entries ≡ [] → old.requests ≡ replicate g.row.REQS None → NobodyOvertakes [] c.args.commands.items replies.items)
-    (λ replies run empty free. nobody_overtakes g.row.N fair_wakings g.W.PartialEq.eq g.row.K g.row.REQS before after _ _ c.args.commands.items replies.items run (ap numbers empty) free)
-    c.run.ensures.run
+    let Good : _ → Type 0 = λ replies. GoodRun (requests_meaning (fair_rules g.row.N) fair_wakings g.W.PartialEq.eq g.row.K) before old.state.entries c.args.commands.items replies.items after new.state.entries in
+    record {
+      run = c.run.ensures.run;
+      total = IfOk-weaker c.run.result Good
+        (λ replies. AddsUp (total (fair g.row.N) before) c.args.commands.items (total (fair g.row.N) after))
+        (λ replies run. adds_up (fair g.row.N) (fair_keeps g.row.N) fair_wakings g.W.PartialEq.eq g.row.K before after _ _ c.args.commands.items replies.items run)
+        c.run.ensures.run;
+      order = IfOk-weaker c.run.result Good
+        (λ replies. old.state.entries ≡ [] → old.requests ≡ replicate g.row.REQS None → NobodyOvertakes [] c.args.commands.items replies.items)
+        (λ replies run empty free. nobody_overtakes g.row.N fair_wakings g.W.PartialEq.eq g.row.K g.row.REQS before after _ _ c.args.commands.items replies.items run (ap numbers empty) free)
+        c.run.ensures.run;
+      refused = c.run.ensures.refused;
+    }

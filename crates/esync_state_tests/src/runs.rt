@@ -1,27 +1,18 @@
-use embassy_sync::channel::{ChannelState, TryReceiveError, TrySendError};
-use embassy_sync::priority_channel::{self, Max};
-use embassy_sync::signal::SignalState;
-use esync_machine::run::{Awaits, Reply};
-use esync_run::channel::{
+use crate::wakers::are;
+use esync_cells::signal::SignalState;
+use esync_cells::signal::machine::{SignalCall, SignalHeard, SignalRun, Wait, run_signal};
+use esync_channel::channel::machine::{
     ChannelAsk as Ask, ChannelCall as Call, ChannelHeard as Heard, ChannelRun, run_channel,
 };
-use esync_run::primitive::{Answer, Command};
-use esync_run::priority_channel::{PriorityRun, run_priority_channel};
-use esync_run::requests::Requests;
-use esync_run::signal::{SignalCall, SignalHeard, SignalRun, Wait, run_signal};
+use esync_channel::channel::{ChannelState, TryReceiveError, TrySendError};
+use esync_machine::primitive::{Answer, Command};
+use esync_machine::requests::Requests;
+use esync_machine::run::Awaits;
+use esync_priority::prio::Max;
+use esync_priority::priority_channel;
+use esync_priority::priority_channel::machine::{PriorityRun, run_priority_channel};
 use std::process::Abort;
 use std::test::Fail;
-
-type Replies<'a, A> = &'a [Reply<Answer<A>, u64, 1>];
-
-// Each reply has this answer, and hands out this waker alone or none.
-fn are<A: PartialEq>(rt: &impl Abort, replies: Replies<'_, A>, want: &[(Answer<A>, Option<u64>)]) {
-    assert_eq!(rt; replies.len(), want.len());
-    for (reply, (answer, waker)) in replies.iter().zip(want) {
-        assert!(rt; reply.answer == *answer);
-        assert_eq!(rt; reply.wakes.as_slice(), [*waker].as_slice());
-    }
-}
 
 #[test]
 fn a_run_of_two_senders(rt: HostRuntime) -> Result<(), Fail> {

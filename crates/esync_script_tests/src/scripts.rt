@@ -1,12 +1,13 @@
-//! Whole scripts: what is printed, which lines are no commands, and what a stream that fails leaves.
-use super::*;
-use crate::channel::ChannelWords;
 use esync_base::waitqueue::Wakes;
 use esync_channel::channel::machine::ChannelHeard;
 use esync_machine::primitive::Answer;
+use esync_script::channel::ChannelWords;
+use esync_script::{script, trace};
+use esync_words::fault::Fault;
 use esync_words::printing::{print_answer, print_reply};
+use std::alloc::Global;
 use std::cell::Cell;
-use std::io::ErrorKind;
+use std::io::{self, ErrorKind, Read, Write};
 use std::process::Abort;
 use std::test::Fail;
 
@@ -549,8 +550,8 @@ fn a_failed_write_ends_the_script(rt: HostRuntime) -> Result<(), Fail> {
             };
             let ended = script(rt.alloc(), input, output, &mut reported);
             assert_eq!(rt;
-                str::from_utf8(&printed)?,
-                &"0 | -\n1 | -\n"[..left],
+                printed.as_slice(),
+                &b"0 | -\n1 | -\n"[..left],
                 "with room for {left}"
             );
             assert_eq!(rt; str::from_utf8(&reported)?, FAILED);

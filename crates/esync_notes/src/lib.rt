@@ -1,5 +1,7 @@
-//! A hand that notes what it is given, and what was handed out.
-use embassy_sync::waitqueue::{Hand, Wakes};
+//! For tests: a hand that notes what it is given, and what was handed out.
+#![tactic(auto)]
+
+use esync_base::waitqueue::{Hand, Wakes};
 use std::cell::Cell;
 use std::process::Abort;
 use std::sync::Wait;
@@ -44,11 +46,6 @@ pub fn woken<R: Wait>(rt: &impl Abort, notes: &Notes<'_, R>, wakers: &[u64]) {
     for (noted, waker) in given.as_slice().iter().zip(wakers) {
         assert_eq!(rt; *noted, Some(*waker));
     }
-}
-
-/// The wakers that were handed out are this one alone, or none.
-pub fn hands_out(rt: &impl Abort, wakes: &Wakes<u64, 1>, waker: Option<u64>) {
-    assert_eq!(rt; wakes.as_slice(), [waker].as_slice());
 }
 
 /// Drops a future, if this is the point where it is to be dropped.

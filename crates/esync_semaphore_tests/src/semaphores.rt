@@ -1,9 +1,9 @@
-use crate::notes::{Notes, drop_at, woken};
-use embassy_sync::semaphore::{
+use esync_base::waitqueue::{Context, Hand, Poll};
+use esync_notes::{Notes, drop_at, woken};
+use esync_permits::semaphore::{
     Acquire, FairSemaphore, FairState, GreedySemaphore, GreedyState, PermitState, Semaphore,
     SemaphoreReleaser, SharedSemaphore, WaitQueueFull,
 };
-use embassy_sync::waitqueue::{Context, Hand, Poll};
 use std::process::Abort;
 use std::sync::Wait;
 

@@ -1,6 +1,6 @@
-use crate::notes::{Notes, hands_out, woken};
-use embassy_sync::signal::{Signal, SignalState};
-use embassy_sync::waitqueue::{Context, Poll, Wakes};
+use crate::wakers::hands_out;
+use esync_base::waitqueue::{Context, Poll, Wakes};
+use esync_cells::signal::SignalState;
 use std::process::Abort;
 
 fn waits(
@@ -47,22 +47,4 @@ fn a_new_value_overwrites_one_that_was_not_taken(rt: HostRuntime) {
     puts(&rt, &mut signal, 7, Some(1));
     signal.reset();
     assert_eq!(rt; signal.try_take(), None);
-}
-
-#[test]
-fn a_wait_acts_anew_after_it_was_ready(rt: HostRuntime) {
-    let notes = Notes::new(&rt);
-    let signal: Signal<u32, u64, _> = Signal::new(&notes);
-    let cx = Context::from_waker(1);
-    let mut wait = signal.wait();
-    signal.signal(5);
-    assert!(rt; wait.poll(&cx) == Poll::Ready(5));
-    assert!(rt; wait.poll(&cx) == Poll::Pending);
-    woken(&rt, &notes, &[]);
-    signal.signal(6);
-    woken(&rt, &notes, &[1]);
-    assert!(rt; wait.poll(&cx) == Poll::Ready(6));
-    signal.signal(7);
-    assert!(rt; signal.poll_wait(&cx) == Poll::Ready(7));
-    woken(&rt, &notes, &[]);
 }

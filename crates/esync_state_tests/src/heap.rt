@@ -1,6 +1,6 @@
 ghost use Rattle.std.specs.Prelude.{◌≡◌};
 
-use super::{Comparisons, Kind, Max, Min, PrioQueue};
+use esync_priority::prio::{Comparisons, Kind, Max, Min, PrioQueue};
 use std::cell::Cell;
 use std::process::Abort;
 

@@ -1,17 +1,13 @@
-use crate::semaphore::{
+use crate::wakers::hands_out;
+use esync_base::waitqueue::{Context, Poll, Wakes};
+use esync_permits::semaphore::{
     Amount, FairPoll, FairRequest, FairState, GreedyRequest, GreedyState, WaitQueueFull,
 };
-use esync_base::waitqueue::{Context, Poll, Wakes};
 use std::process::Abort;
 
 type Greedy = GreedyState<u64>;
 
 type Fair = FairState<u64, 2>;
-
-// The wakers that were handed out are this one alone, or none.
-fn hands_out(rt: &impl Abort, wakes: &Wakes<u64, 1>, waker: Option<u64>) {
-    assert_eq!(rt; wakes.as_slice(), [waker].as_slice());
-}
 
 fn polls_greedy(
     rt: &impl Abort,

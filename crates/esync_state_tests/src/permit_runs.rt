@@ -1,36 +1,11 @@
-use crate::semaphore::machine::fair::{FairHeard, FairReply, FairRun, run_fair};
-use crate::semaphore::machine::greedy::{GreedyHeard, GreedyReply, GreedyRun, run_greedy};
-use crate::semaphore::machine::{PermitCall, PermitHeard};
-use crate::semaphore::{Amount, FairState, GreedyState, WaitQueueFull};
+use crate::wakers::are;
 use esync_machine::primitive::{Answer, Command};
 use esync_machine::requests::Requests;
-use std::process::Abort;
+use esync_permits::semaphore::machine::fair::{FairRun, run_fair};
+use esync_permits::semaphore::machine::greedy::{GreedyRun, run_greedy};
+use esync_permits::semaphore::machine::{PermitCall, PermitHeard};
+use esync_permits::semaphore::{Amount, FairState, GreedyState, WaitQueueFull};
 use std::test::Fail;
-
-// Each reply has this answer, and hands out this waker alone or none.
-fn greedy_are(
-    rt: &impl Abort,
-    replies: &[GreedyReply<u64, 1>],
-    want: &[(Answer<GreedyHeard>, Option<u64>)],
-) {
-    assert_eq!(rt; replies.len(), want.len());
-    for (reply, (answer, waker)) in replies.iter().zip(want) {
-        assert!(rt; reply.answer == *answer);
-        assert_eq!(rt; reply.wakes.as_slice(), [*waker].as_slice());
-    }
-}
-
-fn fair_are(
-    rt: &impl Abort,
-    replies: &[FairReply<u64, 1>],
-    want: &[(Answer<FairHeard>, Option<u64>)],
-) {
-    assert_eq!(rt; replies.len(), want.len());
-    for (reply, (answer, waker)) in replies.iter().zip(want) {
-        assert!(rt; reply.answer == *answer);
-        assert_eq!(rt; reply.wakes.as_slice(), [*waker].as_slice());
-    }
-}
 
 #[test]
 fn a_fair_request_waits_for_two_releases(rt: HostRuntime) -> Result<(), Fail> {
@@ -46,7 +21,7 @@ fn a_fair_request_waits_for_two_releases(rt: HostRuntime) -> Result<(), Fail> {
         Command::Call(PermitCall::Permits),
     ]?;
     let replies = run_fair(rt.alloc(), &mut machine, commands)?;
-    fair_are(
+    are(
         &rt,
         replies.as_slice(),
         &[
@@ -91,7 +66,7 @@ fn a_fair_request_without_a_place_is_over(rt: HostRuntime) -> Result<(), Fail> {
         Command::Call(PermitCall::Try(2, Amount::AllFrom(0))),
     ]?;
     let replies = run_fair(rt.alloc(), &mut machine, commands)?;
-    fair_are(
+    are(
         &rt,
         replies.as_slice(),
         &[
@@ -139,7 +114,7 @@ fn the_front_is_told_of_an_end(rt: HostRuntime) -> Result<(), Fail> {
         Command::Call(PermitCall::Permits),
     ]?;
     let replies = run_fair(rt.alloc(), &mut machine, commands)?;
-    fair_are(
+    are(
         &rt,
         replies.as_slice(),
         &[
@@ -182,7 +157,7 @@ fn a_small_greedy_request_overtakes(rt: HostRuntime) -> Result<(), Fail> {
         Command::Call(PermitCall::Try(4, Amount::AllFrom(1))),
     ]?;
     let replies = run_greedy(rt.alloc(), &mut machine, commands)?;
-    greedy_are(
+    are(
         &rt,
         replies.as_slice(),
         &[
@@ -227,7 +202,7 @@ fn a_request_that_ends_gives_its_place_back(rt: HostRuntime) -> Result<(), Fail>
         Command::Call(PermitCall::Permits),
     ]?;
     let replies = run_fair(rt.alloc(), &mut machine, commands)?;
-    fair_are(
+    are(
         &rt,
         replies.as_slice(),
         &[

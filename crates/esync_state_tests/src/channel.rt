@@ -1,4 +1,4 @@
-use crate::notes::hands_out;
+use crate::wakers::hands_out;
 use esync_base::waitqueue::{Context, Poll, Wakes};
 use esync_channel::channel::{ChannelState, SendRequest, TryReceiveError, TrySendError};
 use std::process::Abort;

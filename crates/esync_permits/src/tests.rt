@@ -1,2 +1,0 @@
-mod machines;
-mod states;
