@@ -293,6 +293,7 @@ impl<const N: usize> ByteRing<N> {
         ensures count { result ≡ min (length from.now) (N - length self.old.items) }
         ensures items { self.new.items ≡ self.old.items ++ take result from.now }
         ensures front { self.new.front ≡ self.old.front }
+        ensures within { length self.new.items ≤ N }
     {
         let free = N - self.ring.len();
         let n = if from.len() < free { from.len() } else { free };

@@ -3,3 +3,4 @@ pub mod Pipe
 pub mod Padded
 pub mod PipeRules
 pub mod PipeLaws
+pub mod PipeOrder

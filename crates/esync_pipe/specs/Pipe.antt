@@ -1,7 +1,7 @@
 -- What the calls of a pipe of n places do: to its bytes, and to who waits.
-use Rattle.std.specs.Prelude.{◌≡◌, ℕ, ◌-◌, ◌<◌, ◌≤◌, ◌==◌, ◌&&◌, min, Bool, true, false, List, [], ◌∷◌, ◌++◌, length, take, drop, Option, Some, None, Result, Ok, Err, nat_lt, if◌then◌else◌}
+use Rattle.std.specs.Prelude.{◌≡◌, ℕ, ◌-◌, ◌<◌, ◌==◌, ◌&&◌, min, Bool, true, false, List, [], ◌++◌, length, take, drop, Option, Some, None, Result, Ok, Err, nat_lt}
 use Rattle.esync_base.specs.Ring.{Ringed, slot}
-use Rattle.esync_base.specs.Registration.{registered, displaced, registered_if, displaced_if}
+use Rattle.esync_base.specs.Registration.{registered_if, displaced_if}
 use Rattle.esync_base.specs.declared.waitqueue.Poll.{Poll}
 use Rattle.esync_base.specs.declared.waitqueue.Poll.TheVariants.{Pending, Ready}
 use Rattle.esync_pipe.specs.Piped.{Slots}
@@ -38,11 +38,12 @@ abbrev pub Reads : ℕ → Ringed ℕ → List ℕ → Result ℕ TryReadError �
 Reads n o to (Ok k) to2 o2 = (0 < length o.items) × (k ≡ min (length to) (length o.items)) × (to2 ≡ take k o.items ++ drop k to) × (o2 ≡ without n o k)
 Reads n o to (Err e) to2 o2 = (length o.items ≡ 0) × (to2 ≡ to) × (o2 ≡ o)
 
--- a write of all the bytes puts as many of them behind the others as there is room for, and is ready once none is left
+-- a write of all the bytes puts as many of them behind the others as there is room for, and is ready once none is left; else the pipe is
+-- full then
 abbrev pub WritesAll : ℕ → Ringed ℕ → List ℕ → Poll (Unit {0}) → Ringed ℕ → Option (List ℕ) → Type 0
 WritesAll n o bytes (Ready done) o2 rest = (nat_lt (puts n o bytes) (length bytes) ≡ false) × (o2 ≡ behind o bytes) × (rest ≡ None)
 WritesAll n o bytes Pending o2 rest =
-    (nat_lt (puts n o bytes) (length bytes) ≡ true) × (o2 ≡ behind o (take (puts n o bytes) bytes)) × (rest ≡ Some (drop (puts n o bytes) bytes))
+    (nat_lt (puts n o bytes) (length bytes) ≡ true) × (o2 ≡ behind o (take (puts n o bytes) bytes)) × (rest ≡ Some (drop (puts n o bytes) bytes)) × (length o2.items ≡ n)
 
 -- the bytes that a request has left
 abbrev pub rest_of : Option (List ℕ) → List ℕ

@@ -1,5 +1,5 @@
 -- What is owed to a request of a pipe, and the laws that its steps keep.
-use Rattle.std.specs.Prelude.{◌≡◌, ℕ, Bool, true, false, List, [], length, take, drop, Option, Some, None, refl, nat_lt}
+use Rattle.std.specs.Prelude.{◌≡◌, ℕ, Bool, true, false, List, [], length, take, drop, Option, Some, refl, nat_lt}
 use Rattle.esync_base.specs.Registration.{IsAmong}
 use Rattle.esync_base.specs.Ring.{Ringed}
 use Rattle.esync_machine.specs.Rules.{IsIdle, IdleIsPending}
@@ -42,7 +42,7 @@ pipe_idle eq n o s (Write bytes) w h = rw (h.0, PollsWrite) (refl, refl, refl)
 pipe_idle eq n o s (WriteAll bytes) w h =
     let none = puts-full n o bytes h.1.0 in
     let left : nat_lt (puts n o bytes) (length bytes) ≡ true = rw none h.0 in
-    rw (left, PollsWriteAll) (refl, same-behind o ∙ ap (λ k. behind o (take k bytes)) (sym none), ap (λ k. Some (WriteAll (drop k bytes))) (sym none))
+    rw (left, PollsWriteAll) (refl, same-behind o ∙ ap (λ k. behind o (take k bytes)) (sym none), ap (λ k. Some (WriteAll (drop k bytes))) (sym none), h.1.0)
 pipe_idle eq n o s (Read k) w h = rw (h.0, PollsRead) (refl, refl, refl)
 pipe_idle eq n o s Fill w h = rw (h.0, PollsFill) (refl, refl, refl)
 

@@ -1,5 +1,5 @@
 -- What a pipe of n places allows, and which wakers it hands out: for each request and each call.
-use Rattle.std.specs.Prelude.{◌≡◌, ℕ, ◌+◌, ◌<◌, min, Bool, true, false, not, ◌&&◌, List, [], length, take, drop, Option, Some, None, Result, Ok, Err, nat_lt}
+use Rattle.std.specs.Prelude.{◌≡◌, ℕ, ◌+◌, min, Bool, true, false, not, ◌&&◌, List, [], length, take, drop, Option, Some, None, Result, Ok, Err, nat_lt}
 use Rattle.esync_base.specs.Ring.{Ringed}
 use Rattle.esync_pipe.specs.Piped.{Slots}
 use Rattle.esync_pipe.specs.Pipe.{behind, without, puts, shown, Writes, is_empty, is_full, out_if, left_if, slots_after_write, wakes_of_write, slots_after_read, wakes_of_read, slots_after_fill, wakes_of_fill, slots_after_write_all, wakes_of_write_all}
@@ -35,10 +35,10 @@ module _ (n : ℕ) where
   PollsWrite o bytes true a o2 p = Waits o (Write bytes) a o2 p
   PollsWrite o bytes false a o2 p = Hears (Wrote (puts n o bytes)) (behind o (take (puts n o bytes) bytes)) a o2 p
 
-  -- a write of all, where some bytes are left or not
+  -- a write of all, where some bytes are left, so that the pipe is full then, or none
   abbrev pub PollsWriteAll : Ringed ℕ → List ℕ → Bool → Answer PipeHeard → Ringed ℕ → Option PipeAsk → Type 0
   PollsWriteAll o bytes true a o2 p =
-      (a ≡ Pending) × (o2 ≡ behind o (take (puts n o bytes) bytes)) × (p ≡ Some (WriteAll (drop (puts n o bytes) bytes)))
+      (a ≡ Pending) × (o2 ≡ behind o (take (puts n o bytes) bytes)) × (p ≡ Some (WriteAll (drop (puts n o bytes) bytes))) × (is_full n o2 ≡ true)
   PollsWriteAll o bytes false a o2 p = Hears WroteAll (behind o bytes) a o2 p
 
   -- a read, of a pipe that is empty or not

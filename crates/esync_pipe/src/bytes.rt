@@ -34,11 +34,7 @@ impl Bytes {
     pub fn from_slice(bytes: &[u8]) -> Self
         ensures { result ≡ take 16 bytes.now }
     {
-        let len = if bytes.len() < 16 {
-            bytes.len()
-        } else {
-            16
-        };
+        let len = if bytes.len() < 16 { bytes.len() } else { 16 };
         let mut row = [0; 16];
         row[..len].copy_from_slice(&bytes[..len]);
         Bytes { row, len }

@@ -278,15 +278,11 @@ impl<W: Copy + Eq, const N: usize> PipeState<W, N> {
 
     // Puts as many of the bytes behind the others as there is room for, and tells how many. Where some are left, the waker waits for
     // room.
-    fn write_all<const K: usize>(
-        &mut self,
-        from: &[u8],
-        waker: W,
-        wakes: &mut Wakes<W, K>,
-    ) -> usize
+    fn write_all<const K: usize>(&mut self, from: &[u8], waker: W, wakes: &mut Wakes<W, K>) -> usize
         requires { length wakes.old + 1 < K }
         ensures count { result ≡ puts N self.old.ring from.now }
         ensures bytes { self.new.ring ≡ behind self.old.ring (take result from.now) }
+        ensures full { result < length from.now → length self.new.ring.items ≡ N }
         ensures slots { self.new.slots ≡ slots_after_write_all W.eq self.old.ring result (length from.now) waker self.old.slots }
         ensures wakes { wakes.new ≡ wakes.old ++ wakes_of_write_all W.eq self.old.ring result (length from.now) waker self.old.slots }
     {

@@ -1,4 +1,4 @@
-use Rattle.std.proofs.Common.{ap, ◌∙◌}
+use Rattle.std.proofs.Common.{ap}
 use Rattle.esync_pipe.specs.Piped.{Piped}
 use Rattle.esync_pipe.proofs.Kept.{from_none, not-empty}
 use Rattle.esync_pipe.proofs.pipe.PipeState.turn_fill.Goals as goal
