@@ -8,9 +8,7 @@ use esync_priority::priority_channel::ChannelState;
 fn the_greatest_leaves_first(rt: HostRuntime) {
     let mut channel = ChannelState::<u32, u64, Max, 3>::new();
     let mut wakes: Wakes<u64, 1> = Wakes::new();
-    assert!(rt;
-        channel.poll_ready_to_send(&Context::from_waker(1), &mut wakes) == Poll::Ready(())
-    );
+    assert!(rt; channel.poll_ready_to_send(&Context::from_waker(1), &mut wakes) == Poll::Ready(()));
     hands_out(&rt, &wakes, None);
     for message in [1, 2, 3] {
         let mut wakes: Wakes<u64, 1> = Wakes::new();
