@@ -7,3 +7,4 @@ pub mod Keeping
 pub mod Room
 pub mod Ring
 pub mod Places
+pub mod RingBuffer

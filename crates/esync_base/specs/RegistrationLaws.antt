@@ -10,7 +10,8 @@ among-append eq same (v ∷ vs) w = elim (true_or_false (eq v w)) [ inl e ↦ rw
 among-here : {W : Type 0} (eq : W → W → Bool) → ((x : W) → eq x x ≡ true) → (w : W) → IsAmong eq w (w ∷ [])
 among-here eq same w = rw (same w) refl
 
-among-kept : {W : Type 0} (eq : W → W → Bool) (vs us : List W) (w : W) → IsAmong eq w vs → IsAmong eq w (vs ++ us)
+-- one that is in a list is in what begins with it
+pub among-kept : {W : Type 0} (eq : W → W → Bool) (vs us : List W) (w : W) → IsAmong eq w vs → IsAmong eq w (vs ++ us)
 among-kept eq [] us w h = absurd cc
 among-kept eq (v ∷ vs) us w h = elim (true_or_false (eq v w)) [ inl e ↦ rw e refl | inr e ↦ rw e (among-kept eq vs us w (rw e at h)) ]
 

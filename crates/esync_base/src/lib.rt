@@ -3,6 +3,7 @@
 
 pub mod blocking_mutex;
 pub mod deque;
+pub mod ring_buffer;
 pub mod shared;
 pub mod store;
 pub mod waitqueue;

@@ -1,5 +1,5 @@
 //! Wakers, the places where they wait, and the lists in which a step hands them out.
-ghost use Rattle.std.specs.Prelude.{◌≡◌, ℕ, ◌<◌, ◌≤◌, ◌++◌, [], ◌∷◌, length, slice_get, slice_index_or, slice_set, Some, ◌↔◌, IsTrue};
+ghost use Rattle.std.specs.Prelude.{◌≡◌, ℕ, ◌+◌, ◌<◌, ◌≤◌, ◌++◌, [], ◌∷◌, length, slice_get, slice_index_or, slice_set, Some, ◌↔◌, IsTrue};
 ghost use Rattle.esync_base.specs.Rows.{items_of};
 ghost use Rattle.esync_base.specs.Registration.{registered, displaced};
 
@@ -239,6 +239,7 @@ impl<W: Copy + Eq> WakerRegistration<W> {
         requires { length wakes.old < K }
         ensures emptied { self.new ≡ [] }
         ensures handed_out { wakes.new ≡ wakes.old ++ self.old }
+        ensures one { length wakes.new ≤ length wakes.old + 1 }
     {
         if let Some(waker) = self.waker {
             wakes.push(waker);

@@ -1,0 +1,28 @@
+use Rattle.std.proofs.Common.{◌≡◌, ◌≤◌, ◌-◌, ◌++◌, length, take, drop, ap, arith}
+use Rattle.std.proofs.lemmas.List.{length-take-le}
+use Rattle.esync_base.specs.RingBuffer.{filled_run}
+use Rattle.esync_base.proofs.Stretches.{laid-left, laid-rest, laid-oldest}
+use Rattle.esync_base.proofs.ring_buffer.ByteRing.read.Goals as goal
+use Rattle.esync_base.proofs.ring_buffer.ByteRing.read.Goals.{then-to-held, else-to-held}
+
+pub invariant_of-self : goal.invariant_of-self
+invariant_of-self g c =
+    let a = c.self.inside in
+    let there : c.if-to-held.n ≤ a.ring.count = elim c.if-to-held.branch [ then-to-held w ↦ omega arith | else-to-held w ↦ omega arith ] in
+    rw c.pop.ensures (laid-left g.row.N a.row.bytes a.ring c.if-to-held.n c.self.invariant there)
+
+pub returns-clause-bytes : goal.returns-clause-bytes
+returns-clause-bytes g c =
+    let a = c.self.inside in
+    let n = c.if-to-held.n in
+    let there : n ≤ a.ring.count = elim c.if-to-held.branch [ then-to-held w ↦ omega arith | else-to-held w ↦ omega arith ] in
+    let small : n ≤ length c.args.to.now = elim c.if-to-held.branch [ then-to-held w ↦ omega arith | else-to-held w ↦ omega arith ] in
+    let t : length (take n c.args.to.now) ≡ n = length-take-le n c.args.to.now small in
+    let run : c.pop_buf-run.result.end - c.pop_buf-run.result.start ≡ filled_run g.row.N a.ring = (let e = c.pop_buf-run.ensures.end in omega arith) in
+    ap (λ x. x ++ drop n c.args.to.now) (rw (c.copy_out_runs.ensures, run, c.pop_buf-run.ensures.start, t, ← c.self.view_is) (laid-oldest g.row.N a.row.bytes a.ring n c.self.invariant there))
+
+pub returns-clause-items : goal.returns-clause-items
+returns-clause-items g c =
+    let a = c.self.inside in
+    let there : c.if-to-held.n ≤ a.ring.count = elim c.if-to-held.branch [ then-to-held w ↦ omega arith | else-to-held w ↦ omega arith ] in
+    rw (c.pop.ensures, ← c.self.view_is) (laid-rest g.row.N a.row.bytes a.ring c.if-to-held.n c.self.invariant there)

@@ -1,0 +1,349 @@
+//! A ring of bytes that takes no memory.
+//!
+//! [`RingBuffer`] knows which places of a ring are filled, and no byte. [`ByteRing`] has the bytes beside it.
+ghost use Rattle.std.specs.Prelude.{◌≡◌, ◌↔◌, ◌+◌, ◌-◌, ◌<◌, ◌≤◌, ◌^◌, ◌++◌, [], min, length, take, drop, IsTrue};
+ghost use Rattle.std.proofs.Math.ListN.{replicate};
+ghost use Rattle.esync_base.specs.Ring.{slot};
+ghost use Rattle.esync_base.specs.RingBuffer.{filled_run, free_run, begins, written};
+
+use std::marker::Model;
+use std::ops::Range;
+
+/// Which of the `N` places of a ring are filled: a number of them from a first one on, and behind the last place the first again.
+#[derive(Debug, Drop)]
+pub struct RingBuffer<const N: usize> {
+    start: usize,
+    len: usize,
+}
+
+impl<const N: usize> Model for RingBuffer<N> {
+    ghost use Rattle.std.specs.Prelude.{◌-◌, ◌≤◌};
+    ghost use Rattle.esync_base.specs.RingBuffer.{Stretch, stretch_code};
+
+    ghost Value = { Stretch };
+
+    ghost coded = { stretch_code };
+
+    ghost view = { λ a. record { front = a.start; count = a.len } };
+
+    ghost invariant = { λ a. (a.start ≤ N - 1) × (a.len ≤ N) };
+}
+
+impl<const N: usize> RingBuffer<N> {
+    /// No place is filled.
+    pub fn new() -> Self
+        ensures { result ≡ record { front = 0; count = 0 } }
+    {
+        RingBuffer { start: 0, len: 0 }
+    }
+
+    // The place so many places behind the first.
+    fn place(&self, behind: usize) -> usize
+        requires { behind ≤ N }
+        ensures { result ≡ slot N self.now.front behind }
+    {
+        let before_end = N - self.start;
+        if behind < before_end {
+            self.start + behind
+        } else {
+            behind - before_end
+        }
+    }
+
+    // How many places are free one behind the other.
+    fn free_run(&self) -> usize
+        ensures { result ≡ free_run N self.now }
+    {
+        let before_end = N - self.start;
+        if self.len < before_end {
+            before_end - self.len
+        } else {
+            N - self.len
+        }
+    }
+
+    // How many places are filled one behind the other.
+    fn filled_run(&self) -> usize
+        ensures { result ≡ filled_run N self.now }
+    {
+        let before_end = N - self.start;
+        if self.len < before_end {
+            self.len
+        } else {
+            before_end
+        }
+    }
+
+    /// The free places that stand one behind the other, behind the filled ones: where the next bytes go.
+    pub fn push_buf(&self) -> Range<usize>
+        ensures start { result.start ≡ begins (slot N self.now.front self.now.count) (free_run N self.now) }
+        ensures end { result.end ≡ result.start + free_run N self.now }
+        ensures within { result.end ≤ N }
+    {
+        run(self.place(self.len), self.free_run())
+    }
+
+    /// The free places: those of `push_buf`, and behind the wrap the others.
+    pub fn push_bufs(&self) -> (Range<usize>, Range<usize>)
+        ensures start { result.0.start ≡ begins (slot N self.now.front self.now.count) (free_run N self.now) }
+        ensures end { result.0.end ≡ result.0.start + free_run N self.now }
+        ensures within { result.0.end ≤ N }
+        ensures wrapped { result.1.start ≡ 0 }
+        ensures rest { result.1.end ≡ N - self.now.count - free_run N self.now }
+    {
+        let first = self.free_run();
+        let rest = N - self.len - first;
+        (run(self.place(self.len), first), 0..rest)
+    }
+
+    /// Fills so many of the free places, in order. There have to be so many.
+    pub fn push(&mut self, n: usize)
+        requires { self.old.count + n ≤ N }
+        ensures { self.new ≡ record self.old { count = self.old.count + n } }
+    {
+        self.len += n;
+    }
+
+    /// The filled places that stand one behind the other from the first on.
+    pub fn pop_buf(&self) -> Range<usize>
+        ensures start { result.start ≡ begins self.now.front (filled_run N self.now) }
+        ensures end { result.end ≡ result.start + filled_run N self.now }
+        ensures within { result.end ≤ N }
+    {
+        run(self.start, self.filled_run())
+    }
+
+    /// The filled places: those of `pop_buf`, and behind the wrap the others.
+    pub fn pop_bufs(&self) -> (Range<usize>, Range<usize>)
+        ensures start { result.0.start ≡ begins self.now.front (filled_run N self.now) }
+        ensures end { result.0.end ≡ result.0.start + filled_run N self.now }
+        ensures within { result.0.end ≤ N }
+        ensures wrapped { result.1.start ≡ 0 }
+        ensures rest { result.1.end ≡ self.now.count - filled_run N self.now }
+    {
+        let first = self.filled_run();
+        (run(self.start, first), 0..self.len - first)
+    }
+
+    /// Frees so many of the filled places, the first ones. There have to be so many.
+    pub fn pop(&mut self, n: usize)
+        requires { n ≤ self.old.count }
+        ensures { self.new ≡ record { front = slot N self.old.front n; count = self.old.count - n } }
+    {
+        self.start = self.place(n);
+        self.len -= n;
+    }
+
+    /// All places are filled.
+    pub fn is_full(&self) -> bool
+        ensures { IsTrue result ↔ (self.now.count ≡ N) }
+    {
+        self.len == N
+    }
+
+    /// No place is filled.
+    pub fn is_empty(&self) -> bool
+        ensures { IsTrue result ↔ (self.now.count ≡ 0) }
+    {
+        self.len == 0
+    }
+
+    /// How many places are filled.
+    pub fn len(&self) -> usize
+        ensures value { result ≡ self.now.count }
+        ensures within { result ≤ N }
+    {
+        self.len
+    }
+
+    /// Frees all places, and begins again at the first.
+    pub fn clear(&mut self)
+        ensures { self.new ≡ record { front = 0; count = 0 } }
+    {
+        self.start = 0;
+        self.len = 0;
+    }
+}
+
+// A range of so many places. An empty one is 0..0.
+fn run(start: usize, count: usize) -> Range<usize>
+    requires { start + count < 2 ^ 64 }
+    ensures start { result.start ≡ begins start count }
+    ensures end { result.end ≡ begins start count + count }
+{
+    if count == 0 {
+        0..0
+    } else {
+        start..start + count
+    }
+}
+
+// N places for bytes.
+#[derive(Debug, Drop)]
+struct ByteRow<const N: usize> {
+    bytes: [u8; N],
+}
+
+impl<const N: usize> ByteRow<N> {
+    // Writes the bytes from place `at` on.
+    fn copy_in(&mut self, at: usize, from: &[u8])
+        requires { at + length from.now ≤ N }
+        ensures { self.new.bytes ≡ written self.old.bytes at from.now }
+    {
+        let places = &mut self.bytes[..];
+        places[at..at + from.len()].copy_from_slice(from);
+    }
+
+    // Writes so many of the bytes from place `start` on, and the others from the first place on.
+    fn copy_in_runs(&mut self, start: usize, run: usize, from: &[u8])
+        requires first { start + run ≤ N }
+        requires second { length from.now ≤ N }
+        ensures { self.new.bytes ≡ written (written self.old.bytes start (take run from.now)) 0 (drop run from.now) }
+    {
+        if from.len() <= run {
+            self.copy_in(start, from);
+        } else {
+            self.copy_in(start, &from[..run]);
+            self.copy_in(0, &from[run..]);
+        }
+    }
+
+    // Reads the bytes from place `at` on.
+    fn copy_out(&self, at: usize, to: &mut [u8])
+        requires { at + length to.old ≤ N }
+        ensures { to.new ≡ take (length to.old) (drop at self.now.bytes) }
+    {
+        let places = &self.bytes[..];
+        to.copy_from_slice(&places[at..at + to.len()]);
+    }
+
+    // Reads so many bytes from place `start` on, and the others from the first place on.
+    fn copy_out_runs(&self, start: usize, run: usize, to: &mut [u8])
+        requires first { start + run ≤ N }
+        requires second { length to.old ≤ N }
+        ensures { to.new ≡ take (length to.old) (take run (drop start self.now.bytes) ++ self.now.bytes) }
+    {
+        if to.len() <= run {
+            self.copy_out(start, to);
+        } else {
+            self.copy_out(start, &mut to[..run]);
+            self.copy_out(0, &mut to[run..]);
+        }
+    }
+}
+
+/// At most `N` bytes, oldest first, in a ring of `N` places.
+#[derive(Debug, Drop)]
+pub struct ByteRing<const N: usize> {
+    row: ByteRow<N>,
+    ring: RingBuffer<N>,
+}
+
+impl<const N: usize> Model for ByteRing<N> {
+    ghost use Rattle.std.specs.Prelude.{ℕ};
+    ghost use Rattle.std.specs.Coded.{coded_ℕ};
+    ghost use Rattle.esync_base.specs.Ring.{Ringed, ringed_code};
+    ghost use Rattle.esync_base.specs.RingBuffer.{IsLaid, laid};
+
+    ghost Value = { Ringed ℕ };
+
+    ghost coded = { ringed_code coded_ℕ };
+
+    ghost view = { λ a. record { items = laid a.row.bytes a.ring; front = a.ring.front } };
+
+    ghost invariant = { λ a. IsLaid N a.row.bytes a.ring };
+}
+
+impl<const N: usize> ByteRing<N> {
+    /// No byte is held.
+    pub fn new() -> Self
+        ensures items { result.items ≡ [] }
+        ensures front { result.front ≡ 0 }
+    {
+        ByteRing {
+            row: ByteRow { bytes: [0; N] },
+            ring: RingBuffer::new(),
+        }
+    }
+
+    /// How many bytes are held.
+    pub fn len(&self) -> usize
+        ensures value { result ≡ length self.now.items }
+        ensures within { result ≤ N }
+    {
+        self.ring.len()
+    }
+
+    /// No byte is held.
+    pub fn is_empty(&self) -> bool
+        ensures { IsTrue result ↔ (self.now.items ≡ []) }
+    {
+        self.ring.is_empty()
+    }
+
+    /// As many bytes are held as there is room for.
+    pub fn is_full(&self) -> bool
+        ensures { IsTrue result ↔ (length self.now.items ≡ N) }
+    {
+        self.ring.is_full()
+    }
+
+    /// Puts as many of the bytes behind the others as there is room for, and tells how many. They are copied in two runs at most.
+    pub fn write(&mut self, from: &[u8]) -> usize
+        ensures count { result ≡ min (length from.now) (N - length self.old.items) }
+        ensures items { self.new.items ≡ self.old.items ++ take result from.now }
+        ensures front { self.new.front ≡ self.old.front }
+        ensures within { length self.new.items ≤ N }
+    {
+        let free = N - self.ring.len();
+        let n = if from.len() < free { from.len() } else { free };
+        let run = self.ring.push_buf();
+        self.row
+            .copy_in_runs(run.start, run.end - run.start, &from[..n]);
+        self.ring.push(n);
+        n
+    }
+
+    /// Takes the oldest bytes out, as many as there are and as there is room for in the slice, and tells how many. They are copied
+    /// in two runs at most.
+    pub fn read(&mut self, to: &mut [u8]) -> usize
+        ensures count { result ≡ min (length to.old) (length self.old.items) }
+        ensures bytes { to.new ≡ take result self.old.items ++ drop result to.old }
+        ensures items { self.new.items ≡ drop result self.old.items }
+        ensures front { self.new.front ≡ slot N self.old.front result }
+    {
+        let held = self.ring.len();
+        let n = if to.len() < held { to.len() } else { held };
+        let run = self.ring.pop_buf();
+        self.row
+            .copy_out_runs(run.start, run.end - run.start, &mut to[..n]);
+        self.ring.pop(n);
+        n
+    }
+
+    /// The oldest bytes, as many as stand one behind the other. They stay.
+    pub fn filled(&self) -> &[u8]
+        ensures { result.now ≡ take (N - self.now.front) self.now.items }
+    {
+        let run = self.ring.pop_buf();
+        let places = &self.row.bytes[..];
+        &places[run.start..run.end]
+    }
+
+    /// Drops so many of the oldest bytes. There have to be so many.
+    pub fn consume(&mut self, n: usize)
+        requires { n ≤ length self.old.items }
+        ensures items { self.new.items ≡ drop n self.old.items }
+        ensures front { self.new.front ≡ slot N self.old.front n }
+    {
+        self.ring.pop(n);
+    }
+
+    /// Drops all bytes, and begins again at the first place.
+    pub fn clear(&mut self)
+        ensures items { self.new.items ≡ [] }
+        ensures front { self.new.front ≡ 0 }
+    {
+        self.ring.clear();
+    }
+}

@@ -1,0 +1,10 @@
+use Rattle.std.proofs.Common.{ap}
+use Rattle.esync_pipe.specs.Piped.{Piped}
+use Rattle.esync_pipe.proofs.Kept.{from_none, not-empty}
+use Rattle.esync_pipe.proofs.pipe.PipeState.turn_fill.Goals as goal
+
+pub returns-in-Ok-clause-exact : goal.returns-in-Ok-clause-exact
+returns-in-Ok-clause-exact g c =
+    let e = c.in-Ok.ensures in
+    let left = rw c.in-Ok.is at c.try_fill_buf_with_context.follows.holds-at-none in
+    rw (not-empty c.args.self.now.ring e.ok.0) (from_none _ _ _ e.wakes c.requires.empty, ap (λ (v : Piped _). v.slots) left)

@@ -1,0 +1,6 @@
+pub mod Piped
+pub mod Pipe
+pub mod Padded
+pub mod PipeRules
+pub mod PipeLaws
+pub mod PipeOrder

@@ -1,0 +1,7 @@
+//! The pipe: bytes on their way from some tasks to others.
+#![tactic(auto)]
+
+pub mod bytes;
+pub mod pipe;
+#[cfg(test)]
+mod tests;

@@ -1,0 +1,421 @@
+//! A pipe: bytes on their way from tasks that write to tasks that read, with backpressure.
+//!
+//! The state form takes `&mut self`, holds no lock and waits for nobody. What a call hands out, it appends to the list of
+//! wakes that it is given; who gets the list wakes them.
+ghost use Rattle.std.specs.Prelude.{◌≡◌, ◌<◌, ◌≤◌, ◌+◌, ◌++◌, Some, length, is_none, IsSome, IfSome};
+ghost use Rattle.esync_base.specs.Registration.{registered_if, displaced_if};
+ghost use Rattle.esync_pipe.specs.Pipe.{waker_if, out_if, left_if, puts, rest_of, WritesAll, slots_after_write_all, wakes_of_write_all};
+
+use esync_base::ring_buffer::ByteRing;
+use esync_base::waitqueue::{Context, Poll, WakerRegistration, Wakes};
+pub use shared::{
+    ByteState, Copied, Pipe, PipeReader, PipeWriter, ReadFuture, Reader, SharedPipe,
+    WriteAllFuture, WriteFuture, Writer,
+};
+use std::marker::Model;
+use thiserror::Error;
+
+pub mod machine;
+mod shared;
+
+/// Why no byte was read.
+#[derive(Clone, Copy, Debug, PartialEq, Eq, Error)]
+pub enum TryReadError {
+    /// No byte is held.
+    #[error("the pipe is empty")]
+    Empty,
+}
+
+/// Why no byte was written.
+#[derive(Clone, Copy, Debug, PartialEq, Eq, Error)]
+pub enum TryWriteError {
+    /// As many bytes are held as there is room for.
+    #[error("the pipe is full")]
+    Full,
+}
+
+/// The state of a pipe of at most `N` bytes: the bytes, oldest first, and a waker each of who waits for bytes and of who waits for
+/// room.
+#[derive(Drop)]
+pub struct PipeState<W, const N: usize> {
+    buffer: ByteRing<N>,
+    read_waker: WakerRegistration<W>,
+    write_waker: WakerRegistration<W>,
+}
+
+impl<W, const N: usize> Model for PipeState<W, N> {
+    ghost use Rattle.esync_pipe.specs.Piped.{Piped, piped_code};
+
+    ghost Value = { Piped W };
+
+    ghost coded = { piped_code W.code };
+
+    ghost view = { λ a. record { ring = a.buffer; slots = record { readers = a.read_waker; writers = a.write_waker } } };
+}
+
+// Hands a slot out where this is so.
+fn wake_if<W: Copy + Eq, const K: usize>(
+    is: bool,
+    slot: &mut WakerRegistration<W>,
+    wakes: &mut Wakes<W, K>,
+)
+    requires { length wakes.old < K }
+    ensures slot { slot.new ≡ left_if is slot.old }
+    ensures wakes { wakes.new ≡ wakes.old ++ out_if is slot.old }
+    ensures one { length wakes.new ≤ length wakes.old + 1 }
+{
+    if is {
+        slot.wake(wakes);
+    }
+}
+
+// Registers a waker in a slot where this is so.
+fn register_if<W: Copy + Eq, const K: usize>(
+    is: bool,
+    waker: W,
+    slot: &mut WakerRegistration<W>,
+    wakes: &mut Wakes<W, K>,
+)
+    requires { length wakes.old < K }
+    ensures slot { slot.new ≡ registered_if W.eq 1 slot.old (waker_if is waker) }
+    ensures wakes { wakes.new ≡ wakes.old ++ displaced_if W.eq 1 slot.old (waker_if is waker) }
+{
+    if is {
+        slot.register(waker, wakes);
+    }
+}
+
+impl<W: Copy + Eq, const N: usize> PipeState<W, N> {
+    ghost use Rattle.std.specs.Prelude.{◌≡◌, ◌<◌, ◌≤◌, ◌+◌, ◌++◌, [], Some, None, length, is_ok, IfOk, OnErr, ◌&&◌, nat_lt, take, ⊤, false};
+    ghost use Rattle.std.specs.Option.{option_copied};
+    ghost use mathlib.Core.Option.{none};
+    ghost use Rattle.std.specs.Borrow.{sem, follows_so};
+    ghost use Rattle.esync_pipe.specs.Pipe.{Writes, Reads, shown, without, out_if, left_if, is_empty, is_full, slots_after_write, wakes_of_write, slots_after_read, wakes_of_read, slots_after_fill, wakes_of_fill, behind, puts, slots_after_write_all, wakes_of_write_all};
+    ghost use Rattle.esync_pipe.specs.contracts.pipe.PipeState.{the_row};
+
+    /// No byte, and nobody who waits.
+    pub fn new() -> Self
+        ensures items { result.ring.items ≡ [] }
+        ensures front { result.ring.front ≡ 0 }
+        ensures readers { result.slots.readers ≡ [] }
+        ensures writers { result.slots.writers ≡ [] }
+    {
+        PipeState {
+            buffer: ByteRing::new(),
+            read_waker: WakerRegistration::new(),
+            write_waker: WakerRegistration::new(),
+        }
+    }
+
+    fn read<const K: usize>(
+        &mut self,
+        to: &mut [u8],
+        waker: Option<W>,
+        wakes: &mut Wakes<W, K>,
+    ) -> Result<usize, TryReadError>
+        requires { length wakes.old < K }
+        ensures bytes { Reads N self.old.ring to.old result to.new self.new.ring }
+        ensures slots { self.new.slots ≡ slots_after_read W.eq N self.old.ring waker (is_ok result) self.old.slots }
+        ensures wakes { wakes.new ≡ wakes.old ++ wakes_of_read W.eq N self.old.ring waker (is_ok result) self.old.slots }
+    {
+        if self.is_empty() {
+            if let Some(waker) = waker {
+                self.read_waker.register(waker, wakes);
+            }
+            return Err(TryReadError::Empty);
+        }
+        let was_full = self.is_full();
+        wake_if(was_full, &mut self.write_waker, wakes);
+        Ok(self.buffer.read(to))
+    }
+
+    /// Takes the oldest bytes out into the front of the slice, as many as there are and as it has places, and tells how many. Reading
+    /// from a full pipe wakes who waits for room, also into an empty slice.
+    pub fn try_read<const K: usize>(
+        &mut self,
+        to: &mut [u8],
+        wakes: &mut Wakes<W, K>,
+    ) -> Result<usize, TryReadError>
+        requires { length wakes.old < K }
+        ensures bytes { Reads N self.old.ring to.old result to.new self.new.ring }
+        ensures slots { self.new.slots ≡ slots_after_read W.eq N self.old.ring None (is_ok result) self.old.slots }
+        ensures wakes { wakes.new ≡ wakes.old ++ wakes_of_read W.eq N self.old.ring None (is_ok result) self.old.slots }
+    {
+        self.read(to, None, wakes)
+    }
+
+    /// The same. Where there is no byte, the context's waker waits for one.
+    pub fn try_read_with_context<const K: usize>(
+        &mut self,
+        cx: Option<&Context<W>>,
+        to: &mut [u8],
+        wakes: &mut Wakes<W, K>,
+    ) -> Result<usize, TryReadError>
+        requires { length wakes.old < K }
+        ensures bytes { Reads N self.old.ring to.old result to.new self.new.ring }
+        ensures slots { self.new.slots ≡ slots_after_read W.eq N self.old.ring (option_copied cx.entry) (is_ok result) self.old.slots }
+        ensures wakes { wakes.new ≡ wakes.old ++ wakes_of_read W.eq N self.old.ring (option_copied cx.entry) (is_ok result) self.old.slots }
+    {
+        let waker = match cx {
+            Some(cx) => Some(cx.waker()),
+            None => None,
+        };
+        self.read(to, waker, wakes)
+    }
+
+    /// Shows the oldest bytes, as many as stand one behind the other. They stay, until `consume` drops them.
+    pub fn try_fill_buf(&self) -> Result<&[u8], TryReadError>
+        ensures ok { IfOk result (λ bytes. (0 < length self.now.ring.items) × (bytes.now ≡ shown N self.now.ring)) }
+        ensures err { OnErr result (length self.now.ring.items ≡ 0) }
+    {
+        if self.is_empty() {
+            return Err(TryReadError::Empty);
+        }
+        Ok(self.buffer.filled())
+    }
+
+    /// The same. Where there is no byte, the context's waker waits for one.
+    pub fn try_fill_buf_with_context<const K: usize>(
+        &mut self,
+        cx: Option<&Context<W>>,
+        wakes: &mut Wakes<W, K>,
+    ) -> Result<&[u8], TryReadError>
+        requires { length wakes.old < K }
+        ensures* leaves { sem 𝓛 (follows_so (the_row W.row N.row) (the_row W.row N.row) self.entry.ghost_name none (λ _ _. ⊤) (λ v. v ≡ record { ring = self.old.ring; slots = slots_after_fill W.eq (option_copied cx.entry) (is_ok result) self.old.slots })) }
+        ensures ok { IfOk result (λ bytes. (0 < length self.old.ring.items) × (bytes.now ≡ shown N self.old.ring)) }
+        ensures err { OnErr result (length self.old.ring.items ≡ 0) }
+        ensures wakes { wakes.new ≡ wakes.old ++ wakes_of_fill W.eq (option_copied cx.entry) (is_ok result) self.old.slots }
+    {
+        if self.is_empty() {
+            self.wait_for_bytes(cx, wakes);
+            return Err(TryReadError::Empty);
+        }
+        Ok(self.shown())
+    }
+
+    // Where a context is given, its waker waits for bytes.
+    fn wait_for_bytes<const K: usize>(&mut self, cx: Option<&Context<W>>, wakes: &mut Wakes<W, K>)
+        requires { length wakes.old < K }
+        ensures state { self.new ≡ record { ring = self.old.ring; slots = slots_after_fill W.eq (option_copied cx.entry) false self.old.slots } }
+        ensures wakes { wakes.new ≡ wakes.old ++ wakes_of_fill W.eq (option_copied cx.entry) false self.old.slots }
+    {
+        if let Some(cx) = cx {
+            self.read_waker.register(cx.waker(), wakes);
+        }
+    }
+
+    // The oldest bytes, as many as stand one behind the other.
+    pub(crate) fn shown(&self) -> &[u8]
+        ensures { result.now ≡ shown N self.now.ring }
+    {
+        self.buffer.filled()
+    }
+
+    /// Drops so many of the bytes that `try_fill_buf` shows. That wakes who waits for room, where the pipe was full and at least one
+    /// byte is dropped.
+    pub fn consume<const K: usize>(&mut self, amt: usize, wakes: &mut Wakes<W, K>)
+        requires room { length wakes.old < K }
+        requires shown { amt ≤ length (shown N self.old.ring) }
+        ensures bytes { self.new.ring ≡ without N self.old.ring amt }
+        ensures slots { self.new.slots ≡ record self.old.slots { writers = left_if (nat_lt 0 amt && is_full N self.old.ring) self.old.slots.writers } }
+        ensures wakes { wakes.new ≡ wakes.old ++ out_if (nat_lt 0 amt && is_full N self.old.ring) self.old.slots.writers }
+    {
+        let makes_room = amt > 0 && self.is_full();
+        wake_if(makes_room, &mut self.write_waker, wakes);
+        self.buffer.consume(amt);
+    }
+
+    fn write<const K: usize>(
+        &mut self,
+        from: &[u8],
+        waker: Option<W>,
+        wakes: &mut Wakes<W, K>,
+    ) -> Result<usize, TryWriteError>
+        requires { length wakes.old < K }
+        ensures bytes { Writes N self.old.ring from.now result self.new.ring }
+        ensures slots { self.new.slots ≡ slots_after_write W.eq self.old.ring waker (is_ok result) self.old.slots }
+        ensures wakes { wakes.new ≡ wakes.old ++ wakes_of_write W.eq self.old.ring waker (is_ok result) self.old.slots }
+    {
+        if self.len() == N {
+            if let Some(waker) = waker {
+                self.write_waker.register(waker, wakes);
+            }
+            return Err(TryWriteError::Full);
+        }
+        let was_empty = self.is_empty();
+        wake_if(was_empty, &mut self.read_waker, wakes);
+        Ok(self.buffer.write(from))
+    }
+
+    /// Puts as many of the bytes behind the others as there is room for, and tells how many. Writing into an empty pipe wakes who waits
+    /// for bytes, also of an empty slice.
+    pub fn try_write<const K: usize>(
+        &mut self,
+        from: &[u8],
+        wakes: &mut Wakes<W, K>,
+    ) -> Result<usize, TryWriteError>
+        requires { length wakes.old < K }
+        ensures bytes { Writes N self.old.ring from.now result self.new.ring }
+        ensures slots { self.new.slots ≡ slots_after_write W.eq self.old.ring None (is_ok result) self.old.slots }
+        ensures wakes { wakes.new ≡ wakes.old ++ wakes_of_write W.eq self.old.ring None (is_ok result) self.old.slots }
+    {
+        self.write(from, None, wakes)
+    }
+
+    /// The same. Where there is no room, the context's waker waits for it.
+    pub fn try_write_with_context<const K: usize>(
+        &mut self,
+        cx: Option<&Context<W>>,
+        from: &[u8],
+        wakes: &mut Wakes<W, K>,
+    ) -> Result<usize, TryWriteError>
+        requires { length wakes.old < K }
+        ensures bytes { Writes N self.old.ring from.now result self.new.ring }
+        ensures slots { self.new.slots ≡ slots_after_write W.eq self.old.ring (option_copied cx.entry) (is_ok result) self.old.slots }
+        ensures wakes { wakes.new ≡ wakes.old ++ wakes_of_write W.eq self.old.ring (option_copied cx.entry) (is_ok result) self.old.slots }
+    {
+        let waker = match cx {
+            Some(cx) => Some(cx.waker()),
+            None => None,
+        };
+        self.write(from, waker, wakes)
+    }
+
+    // Puts as many of the bytes behind the others as there is room for, and tells how many. Where some are left, the waker waits for
+    // room.
+    fn write_all<const K: usize>(&mut self, from: &[u8], waker: W, wakes: &mut Wakes<W, K>) -> usize
+        requires { length wakes.old + 1 < K }
+        ensures count { result ≡ puts N self.old.ring from.now }
+        ensures bytes { self.new.ring ≡ behind self.old.ring (take result from.now) }
+        ensures full { result < length from.now → length self.new.ring.items ≡ N }
+        ensures slots { self.new.slots ≡ slots_after_write_all W.eq self.old.ring result (length from.now) waker self.old.slots }
+        ensures wakes { wakes.new ≡ wakes.old ++ wakes_of_write_all W.eq self.old.ring result (length from.now) waker self.old.slots }
+    {
+        let was_empty = self.is_empty();
+        let written = self.buffer.write(from);
+        let fills = written > 0 && was_empty;
+        wake_if(fills, &mut self.read_waker, wakes);
+        let is_left = written < from.len();
+        register_if(is_left, waker, &mut self.write_waker, wakes);
+        written
+    }
+
+    /// Drops all bytes, and wakes who waits for room.
+    pub fn clear<const K: usize>(&mut self, wakes: &mut Wakes<W, K>)
+        requires { length wakes.old < K }
+        ensures bytes { self.new.ring ≡ record { items = []; front = 0 } }
+        ensures slots { self.new.slots ≡ record self.old.slots { writers = [] } }
+        ensures wakes { wakes.new ≡ wakes.old ++ self.old.slots.writers }
+    {
+        self.buffer.clear();
+        self.write_waker.wake(wakes);
+    }
+
+    /// As many bytes are held as there is room for.
+    pub fn is_full(&self) -> bool
+        ensures { result ≡ is_full N self.now.ring }
+    {
+        self.buffer.len() == N
+    }
+
+    /// No byte is held.
+    pub fn is_empty(&self) -> bool
+        ensures { result ≡ is_empty self.now.ring }
+    {
+        self.buffer.len() == 0
+    }
+
+    /// How many bytes can be held.
+    pub fn capacity(&self) -> usize
+        ensures { result ≡ N }
+    {
+        N
+    }
+
+    /// How many bytes are held.
+    pub fn len(&self) -> usize
+        ensures value { result ≡ length self.now.ring.items }
+        ensures within { result ≤ N }
+    {
+        self.buffer.len()
+    }
+
+    /// How many bytes there is room for.
+    pub fn free_capacity(&self) -> usize
+        ensures { result + length self.now.ring.items ≡ N }
+    {
+        N - self.buffer.len()
+    }
+}
+
+/// Bytes that wait to be written, all of them.
+#[derive(Drop)]
+pub struct WriteAllRequest<'a> {
+    rest: Option<&'a [u8]>,
+}
+
+impl<'a> Model for WriteAllRequest<'a> {
+    ghost use Rattle.std.specs.Prelude.{ℕ, List, Option};
+    ghost use Rattle.std.specs.Option.{option_copied};
+    ghost use Rattle.std.specs.Coded.{coded_option, coded_list, coded_ℕ};
+
+    ghost Value = { Option (List ℕ) };
+
+    ghost coded = { coded_option (coded_list coded_ℕ) };
+
+    ghost view = { λ a. option_copied a.rest };
+}
+
+impl<'a> WriteAllRequest<'a> {
+    /// These bytes, which are still to be written.
+    pub fn new(bytes: &'a [u8]) -> Self
+        ensures { result ≡ Some bytes.now }
+    {
+        WriteAllRequest { rest: Some(bytes) }
+    }
+
+    /// All bytes were written.
+    pub fn is_finished(&self) -> bool
+        ensures { result ≡ is_none self.now }
+    {
+        self.rest.is_none()
+    }
+
+    /// The bytes that are still to be written.
+    pub fn rest(&self) -> &'a [u8]
+        ensures { result.now ≡ rest_of self.now }
+    {
+        match self.rest {
+            Some(rest) => rest,
+            None => &[],
+        }
+    }
+
+    /// Writes as many of the bytes as there is room for. Where some are left, the context's waker waits for room. Without bytes it is
+    /// ready at once.
+    ///
+    /// A request that is finished is not polled.
+    pub fn poll_state<W: Copy + Eq, const N: usize, const K: usize>(
+        &mut self,
+        state: &mut PipeState<W, N>,
+        cx: &Context<W>,
+        wakes: &mut Wakes<W, K>,
+    ) -> Poll<()>
+        requires room { length wakes.old + 1 < K }
+        requires unfinished { IsSome self.old }
+        ensures bytes { IfSome self.old (λ rest. WritesAll N state.old.ring rest result state.new.ring self.new) }
+        ensures slots { IfSome self.old (λ rest. state.new.slots ≡ slots_after_write_all W.eq state.old.ring (puts N state.old.ring rest) (length rest) cx.now state.old.slots) }
+        ensures wakes { IfSome self.old (λ rest. wakes.new ≡ wakes.old ++ wakes_of_write_all W.eq state.old.ring (puts N state.old.ring rest) (length rest) cx.now state.old.slots) }
+    {
+        let Some(rest) = self.rest else {
+            unreachable!()
+        };
+        let written = state.write_all(rest, cx.waker(), wakes);
+        if written < rest.len() {
+            self.rest = Some(&rest[written..]);
+            return Poll::Pending;
+        }
+        self.rest = None;
+        Poll::Ready(())
+    }
+}

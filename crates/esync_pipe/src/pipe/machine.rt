@@ -1,0 +1,337 @@
+//! The pipe as a machine that takes commands.
+ghost use Rattle.std.specs.Prelude.{◌≡◌, ◌<◌, ◌++◌, [], None, is_ok, length, IfOk, OnErr};
+ghost use Rattle.std.proofs.Math.ListN.{replicate};
+ghost use Rattle.esync_machine.specs.Runs.{GoodRun};
+ghost use Rattle.esync_machine.specs.Object.{Object, requests_meaning};
+ghost use Rattle.esync_machine.specs.Wakings.{IsHanded, called};
+ghost use Rattle.esync_pipe.specs.PipeRules.{pipe_rules, pipe_wakings, poll_hands, Polls, Calls, TakesOut, Fills};
+ghost use Rattle.esync_pipe.specs.PipeOrder.{InOrder, SizesAddUp};
+ghost use Rattle.esync_pipe.specs.Pipe.{slots_after_read, wakes_of_read};
+
+use super::{PipeState, TryReadError, TryWriteError, WriteAllRequest};
+use crate::bytes::Bytes;
+use esync_base::waitqueue::{Context, Poll, Wakes};
+use esync_machine::primitive::{Answer, Command, Primitive, Reach, Turn};
+use esync_machine::requests::Requests;
+use esync_machine::run::{Reply, run};
+use std::alloc::{AllocError, Global};
+
+/// What a request on a pipe waits for.
+#[derive(Clone, Copy, Debug, PartialEq, Eq)]
+pub enum PipeAsk {
+    /// To put some of the bytes in.
+    Write(Bytes),
+    /// To put all of the bytes in, in as many polls as it takes.
+    WriteAll(Bytes),
+    /// To take out so many bytes, or fewer.
+    Read(usize),
+    /// For bytes, without taking them out.
+    Fill,
+}
+
+/// The other calls of a pipe.
+#[derive(Clone, Copy, Debug, PartialEq, Eq)]
+pub enum PipeCall {
+    TryWrite(Bytes),
+    TryRead(usize),
+    TryFill,
+    Consume(usize),
+    Clear,
+    Len,
+    FreeCapacity,
+}
+
+/// What a pipe answers. An answer has at most 16 bytes: a read of more asks for 16, and a fill shows the first 16.
+#[derive(Clone, Copy, Debug, PartialEq, Eq)]
+pub enum PipeHeard {
+    /// So many bytes of the request are written.
+    Wrote(usize),
+    /// All bytes of the request are written.
+    WroteAll,
+    /// The bytes that the request took out.
+    HasRead(Bytes),
+    /// The bytes that are there.
+    Filled(Bytes),
+    TryWrote(Result<usize, TryWriteError>),
+    HasTriedRead(Result<Bytes, TryReadError>),
+    TryFilled(Result<Bytes, TryReadError>),
+    Number(usize),
+}
+
+// What a poll does, of each request.
+impl<W: Copy + Eq, const N: usize> PipeState<W, N> {
+    fn turn_write<const K: usize>(
+        &mut self,
+        bytes: Bytes,
+        cx: &Context<W>,
+        wakes: &mut Wakes<W, K>,
+    ) -> Turn<PipeHeard, PipeAsk>
+        requires empty { wakes.old ≡ [] }
+        requires room { 1 < K }
+        ensures allowed { Polls N self.old.ring (PipeAsk.Write bytes) result.answer self.new.ring result.place }
+        ensures exact { IsHanded (poll_hands W.eq N self.old.ring self.old.slots (PipeAsk.Write bytes) cx.now) wakes.new self.new.slots }
+    {
+        match self.try_write_with_context(Some(cx), bytes.as_slice(), wakes) {
+            Ok(n) => Turn::over(PipeHeard::Wrote(n)),
+            Err(TryWriteError::Full) => Turn::waits(PipeAsk::Write(bytes)),
+        }
+    }
+
+    fn turn_write_all<const K: usize>(
+        &mut self,
+        bytes: Bytes,
+        cx: &Context<W>,
+        wakes: &mut Wakes<W, K>,
+    ) -> Turn<PipeHeard, PipeAsk>
+        requires empty { wakes.old ≡ [] }
+        requires room { 1 < K }
+        ensures allowed { Polls N self.old.ring (PipeAsk.WriteAll bytes) result.answer self.new.ring result.place }
+        ensures exact { IsHanded (poll_hands W.eq N self.old.ring self.old.slots (PipeAsk.WriteAll bytes) cx.now) wakes.new self.new.slots }
+    {
+        let mut request = WriteAllRequest::new(bytes.as_slice());
+        match request.poll_state(self, cx, wakes) {
+            Poll::Ready(()) => Turn::over(PipeHeard::WroteAll),
+            Poll::Pending => Turn::waits(PipeAsk::WriteAll(Bytes::from_slice(request.rest()))),
+        }
+    }
+
+    fn turn_read<const K: usize>(
+        &mut self,
+        count: usize,
+        cx: &Context<W>,
+        wakes: &mut Wakes<W, K>,
+    ) -> Turn<PipeHeard, PipeAsk>
+        requires empty { wakes.old ≡ [] }
+        requires room { 1 < K }
+        ensures allowed { Polls N self.old.ring (PipeAsk.Read count) result.answer self.new.ring result.place }
+        ensures exact { IsHanded (poll_hands W.eq N self.old.ring self.old.slots (PipeAsk.Read count) cx.now) wakes.new self.new.slots }
+    {
+        match self.read_row(count, Some(cx.waker()), wakes) {
+            Ok(bytes) => Turn::over(PipeHeard::HasRead(bytes)),
+            Err(TryReadError::Empty) => Turn::waits(PipeAsk::Read(count)),
+        }
+    }
+
+    fn turn_fill<const K: usize>(
+        &mut self,
+        cx: &Context<W>,
+        wakes: &mut Wakes<W, K>,
+    ) -> Turn<PipeHeard, PipeAsk>
+        requires empty { wakes.old ≡ [] }
+        requires room { 1 < K }
+        ensures allowed { Polls N self.old.ring PipeAsk.Fill result.answer self.new.ring result.place }
+        ensures exact { IsHanded (poll_hands W.eq N self.old.ring self.old.slots PipeAsk.Fill cx.now) wakes.new self.new.slots }
+    {
+        match self.try_fill_buf_with_context(Some(cx), wakes) {
+            Ok(bytes) => Turn::over(PipeHeard::Filled(Bytes::from_slice(bytes))),
+            Err(TryReadError::Empty) => Turn::waits(PipeAsk::Fill),
+        }
+    }
+
+    // Takes so many bytes out, or 16 where more are asked for.
+    fn read_row<const K: usize>(
+        &mut self,
+        count: usize,
+        waker: Option<W>,
+        wakes: &mut Wakes<W, K>,
+    ) -> Result<Bytes, TryReadError>
+        requires { length wakes.old < K }
+        ensures bytes { TakesOut N self.old.ring count result self.new.ring }
+        ensures slots { self.new.slots ≡ slots_after_read W.eq N self.old.ring waker (is_ok result) self.old.slots }
+        ensures wakes { wakes.new ≡ wakes.old ++ wakes_of_read W.eq N self.old.ring waker (is_ok result) self.old.slots }
+    {
+        let mut row = [0; 16];
+        let places = if count < 16 { count } else { 16 };
+        match self.read(&mut row[..places], waker, wakes) {
+            Ok(n) => Ok(Bytes::from_slice(&row[..n])),
+            Err(error) => Err(error),
+        }
+    }
+
+    // What a call does.
+    fn perform<const K: usize>(
+        &mut self,
+        call: PipeCall,
+        wakes: &mut Wakes<W, K>,
+    ) -> Answer<PipeHeard>
+        requires empty { wakes.old ≡ [] }
+        requires room { 1 < K }
+        ensures allowed { Calls N self.old.ring call result self.new.ring }
+        ensures exact { IsHanded (called (pipe_wakings W.eq N) self.old.ring self.old.slots call None result) wakes.new self.new.slots }
+    {
+        match call {
+            PipeCall::TryWrite(bytes) => {
+                Answer::Gives(PipeHeard::TryWrote(self.try_write(bytes.as_slice(), wakes)))
+            }
+            PipeCall::TryRead(count) => {
+                Answer::Gives(PipeHeard::HasTriedRead(self.read_row(count, None, wakes)))
+            }
+            PipeCall::TryFill => Answer::Gives(PipeHeard::TryFilled(self.shown_row())),
+            PipeCall::Consume(count) => self.consume_row(count, wakes),
+            PipeCall::Clear => {
+                self.clear(wakes);
+                Answer::Done
+            }
+            PipeCall::Len => Answer::Gives(PipeHeard::Number(self.len())),
+            PipeCall::FreeCapacity => Answer::Gives(PipeHeard::Number(self.free_capacity())),
+        }
+    }
+
+    // Shows the bytes that `try_fill_buf` shows, or the first 16 of them.
+    fn shown_row(&self) -> Result<Bytes, TryReadError>
+        ensures { Fills N self.now.ring result self.now.ring }
+    {
+        match self.try_fill_buf() {
+            Ok(bytes) => Ok(Bytes::from_slice(bytes)),
+            Err(error) => Err(error),
+        }
+    }
+
+    // Drops so many of the bytes that `try_fill_buf` shows, where there are so many.
+    fn consume_row<const K: usize>(
+        &mut self,
+        count: usize,
+        wakes: &mut Wakes<W, K>,
+    ) -> Answer<PipeHeard>
+        requires empty { wakes.old ≡ [] }
+        requires room { 1 < K }
+        ensures allowed { Calls N self.old.ring (PipeCall.Consume count) result self.new.ring }
+        ensures exact { IsHanded (called (pipe_wakings W.eq N) self.old.ring self.old.slots (PipeCall.Consume count) None result) wakes.new self.new.slots }
+    {
+        if count > self.shown().len() {
+            return Answer::NoSuch;
+        }
+        self.consume(count, wakes);
+        Answer::Done
+    }
+}
+
+// What a poll does.
+fn turn<W: Copy + Eq, const N: usize, const K: usize>(
+    state: &mut PipeState<W, N>,
+    held: PipeAsk,
+    cx: &Context<W>,
+    wakes: &mut Wakes<W, K>,
+) -> Turn<PipeHeard, PipeAsk>
+    requires empty { wakes.old ≡ [] }
+    requires room { 1 < K }
+    ensures allowed { Polls N state.old.ring held result.answer state.new.ring result.place }
+    ensures exact { IsHanded (poll_hands W.eq N state.old.ring state.old.slots held cx.now) wakes.new state.new.slots }
+{
+    match held {
+        PipeAsk::Write(bytes) => state.turn_write(bytes, cx, wakes),
+        PipeAsk::WriteAll(bytes) => state.turn_write_all(bytes, cx, wakes),
+        PipeAsk::Read(count) => state.turn_read(count, cx, wakes),
+        PipeAsk::Fill => state.turn_fill(cx, wakes),
+    }
+}
+
+impl<W: Copy + Eq, const N: usize, const K: usize> Primitive<K> for PipeState<W, N> {
+    type Ask = PipeAsk;
+
+    type Held = PipeAsk;
+
+    type Call = PipeCall;
+
+    type Heard = PipeHeard;
+
+    type Waker = W;
+
+    ghost use Rattle.esync_pipe.specs.PipeRules.{pipe_rules, pipe_wakings};
+    ghost use Rattle.esync_pipe.specs.PipeLaws.{OwesFor};
+
+    ghost rules = { pipe_rules N };
+
+    ghost core = { λ m. m.ring };
+
+    ghost wakings = { pipe_wakings W.eq N };
+
+    ghost registrations = { λ m. m.slots };
+
+    ghost most = { 2 };
+
+    ghost Owes = { λ m ask w. OwesFor W.eq N m.ring m.slots ask w };
+
+    ghost Fits = { λ m ask. Unit };
+
+    ghost Apart = { λ ask other. Unit };
+
+    fn begin(&self, ask: PipeAsk) -> Option<PipeAsk> {
+        Some(ask)
+    }
+
+    fn poll(
+        &mut self,
+        held: PipeAsk,
+        waker: W,
+        wakes: &mut Wakes<W, K>,
+    ) -> Turn<PipeHeard, PipeAsk> {
+        turn(self, held, &Context::from_waker(waker), wakes)
+    }
+
+    fn end(&mut self, _held: PipeAsk, _wakes: &mut Wakes<W, K>) {}
+
+    fn reach(_call: &PipeCall) -> Reach {
+        Reach::Nobody
+    }
+
+    fn leaves(&self, _call: &PipeCall, _held: &PipeAsk) -> bool {
+        false
+    }
+
+    fn call(
+        &mut self,
+        call: PipeCall,
+        _place: &mut Option<PipeAsk>,
+        wakes: &mut Wakes<W, K>,
+    ) -> Answer<PipeHeard> {
+        self.perform(call, wakes)
+    }
+
+    ghost use Rattle.esync_pipe.specs.PipeLaws.{pipe_idle, pipe_pending};
+
+    ghost idle = { λ m ask w f h. pipe_idle W.eq N m.ring m.slots ask w h };
+
+    ghost pending = { pipe_pending N };
+
+    ghost no_such = { λ o h a o2 p n k. absurd (n tt) };
+
+    ghost symmetric = { λ h k a. tt };
+
+    ghost use Rattle.esync_machine.specs.RulesLaws.{all_requests};
+
+    ghost no_requests = { all_requests (pipe_rules N) (λ h. tt) (λ o o2 call p p2 a c. c.1) };
+}
+
+/// A pipe of at most `N` bytes as a machine, with requests at the numbers below `REQS`.
+pub type PipeRun<W, const N: usize, const REQS: usize, const K: usize> = Requests<
+    PipeState<W, N>,
+    REQS,
+    K,
+>;
+
+/// The commands of a pipe.
+pub type PipeCommand<W> = Command<PipeAsk, W, PipeCall>;
+
+/// What a pipe answers to a command, with the wakers that it hands out.
+pub type PipeReply<W, const K: usize> = Reply<Answer<PipeHeard>, W, K>;
+
+/// Gives the commands to the pipe, one after another, as `run` does.
+///
+/// Each answer is one that a list of at most `N` bytes with a place allows. No live request that last heard Pending would now be
+/// answered Ready, or write any byte, unless its waker was handed out in that poll or since. No Pending poll that changes nothing
+/// hands out its own waker. What is written comes out in order: where the machine has no requests at first, the bytes that the run
+/// read, consumed or cleared, and then those that are held, are those held at first and those that it wrote, in order. And its
+/// sizes add up: the length is the number of bytes that were written and not taken, and the free capacity what it lacks to `N`.
+pub fn run_pipe<W: Copy + Eq, const N: usize, const REQS: usize, const K: usize>(
+    alloc: Global,
+    machine: &mut PipeRun<W, N, REQS, K>,
+    commands: Vec<PipeCommand<W>>,
+) -> Result<Vec<PipeReply<W, K>>, AllocError>
+    ensures run { IfOk result (λ replies. GoodRun (requests_meaning (pipe_rules N) (pipe_wakings W.eq N) W.eq K) (record { core = machine.old.state.ring; requests = machine.old.requests }) machine.old.state.slots commands.items replies.items (record { core = machine.new.state.ring; requests = machine.new.requests }) machine.new.state.slots) }
+    ensures order { IfOk result (λ replies. machine.old.requests ≡ replicate REQS None → InOrder N machine.old.state.ring.items commands.items replies.items machine.new.state.ring.items) }
+    ensures sizes { IfOk result (λ replies. machine.old.requests ≡ replicate REQS None → SizesAddUp N machine.old.state.ring.items commands.items replies.items) }
+    ensures refused { OnErr result (machine.new ≡ machine.old) }
+{
+    run(alloc, machine, commands)
+}

@@ -1,0 +1,571 @@
+//! A pipe that tasks on several threads share by reference, its two ends, and its futures.
+ghost use Rattle.std.specs.Prelude.{◌≡◌, ℕ, List, [], ◌++◌, ◌≤◌, Some, IsSome, IfOk, length, take, drop, is_none};
+
+use super::{PipeState, TryReadError, TryWriteError, WriteAllRequest};
+use esync_base::shared::Shared;
+use esync_base::step;
+use esync_base::waitqueue::{Context, Hand, Poll, Wakes};
+use std::marker::Model;
+
+// N places for bytes.
+#[derive(Drop)]
+struct CopiedRow<const N: usize> {
+    bytes: [u8; N],
+}
+
+impl<const N: usize> CopiedRow<N> {
+    // Writes the bytes from the first place on.
+    fn copy_in(&mut self, from: &[u8])
+        requires { length from.now ≤ N }
+        ensures { self.new.bytes ≡ from.now ++ drop (length from.now) self.old.bytes }
+    {
+        let places = &mut self.bytes[..];
+        places[0..from.len()].copy_from_slice(from);
+    }
+}
+
+/// A copy of the bytes that a reader filled, of which the first ones may be consumed since.
+#[derive(Drop)]
+pub struct Copied<const N: usize> {
+    row: CopiedRow<N>,
+    start: usize,
+    end: usize,
+}
+
+impl<const N: usize> Model for Copied<N> {
+    ghost use Rattle.std.specs.Prelude.{ℕ, List, take, drop, ◌≤◌};
+    ghost use Rattle.std.specs.Coded.{coded_list, coded_ℕ};
+
+    ghost Value = { List ℕ };
+
+    ghost coded = { coded_list coded_ℕ };
+
+    ghost view = { λ a. drop a.start (take a.end a.row.bytes) };
+
+    ghost invariant = { λ a. (a.start ≤ a.end) × (a.end ≤ N) };
+}
+
+impl<const N: usize> Copied<N> {
+    fn new() -> Self
+        ensures { length result ≡ 0 }
+    {
+        Copied {
+            row: CopiedRow { bytes: [0; N] },
+            start: 0,
+            end: 0,
+        }
+    }
+
+    // The bytes that aren't consumed.
+    fn filled(&self) -> &[u8]
+        ensures { result.now ≡ self.now }
+    {
+        let row = &self.row.bytes[..];
+        &row[self.start..self.end]
+    }
+
+    // Copies as many of the bytes as it has places.
+    fn fill(&mut self, bytes: &[u8])
+        ensures { self.new ≡ take N bytes.now }
+    {
+        let n = if bytes.len() < N { bytes.len() } else { N };
+        self.row.copy_in(&bytes[..n]);
+        self.start = 0;
+        self.end = n;
+    }
+
+    fn consume(&mut self, amt: usize)
+        requires { amt ≤ length self.old }
+        ensures { self.new ≡ drop amt self.old }
+    {
+        self.start += amt;
+    }
+
+    fn clear(&mut self)
+        ensures { length self.new ≡ 0 }
+    {
+        self.start = 0;
+        self.end = 0;
+    }
+}
+
+/// What a shared pipe takes of its state, whatever its capacity.
+pub trait ByteState: Drop {
+    type Waker: Copy + Eq;
+
+    /// What a reader keeps of the bytes that it filled.
+    type Copied: Drop;
+
+    ghost use Rattle.std.specs.Prelude.{ℕ, List};
+
+    /// How many bytes can be held.
+    ghost places: { ℕ };
+
+    /// The bytes that were filled and not consumed since.
+    ghost copied: { Self.Copied → List ℕ };
+
+    /// No byte, and nobody who waits.
+    fn new() -> Self;
+
+    /// How many bytes can be held.
+    fn capacity() -> usize
+        ensures { result ≡ places };
+
+    /// How many bytes are held.
+    fn len(&self) -> usize
+        ensures { result ≤ places };
+
+    /// Puts as many of the bytes in as there is room for. Where there is none, the waker, if it is given one, waits for it.
+    fn try_write(
+        &mut self,
+        waker: Option<Self::Waker>,
+        from: &[u8],
+        wakes: &mut Wakes<Self::Waker, 2>,
+    ) -> Result<usize, TryWriteError>
+        requires { wakes.old ≡ [] }
+        ensures { IfOk result (λ n. n ≤ length from.now) };
+
+    /// Takes the oldest bytes out. Where there are none, the waker of a context, if there is one, waits for them.
+    fn try_read(
+        &mut self,
+        waker: Option<Self::Waker>,
+        to: &mut [u8],
+        wakes: &mut Wakes<Self::Waker, 2>,
+    ) -> Result<usize, TryReadError>
+        requires { wakes.old ≡ [] }
+        ensures { IfOk result (λ n. n ≤ length to.old) };
+
+    /// Writes as many of the bytes of the request as there is room for.
+    fn poll_write_all(
+        &mut self,
+        request: &mut WriteAllRequest<'_>,
+        cx: &Context<Self::Waker>,
+        wakes: &mut Wakes<Self::Waker, 2>,
+    ) -> Poll<()>
+        requires empty { wakes.old ≡ [] }
+        requires unfinished { IsSome request.old };
+
+    /// Copies the oldest bytes that stand one behind the other. Where there are none, the waker of a context, if there is one, waits
+    /// for them.
+    fn fill(
+        &mut self,
+        waker: Option<Self::Waker>,
+        row: &mut Self::Copied,
+        wakes: &mut Wakes<Self::Waker, 2>,
+    ) -> Result<(), TryReadError>
+        requires { wakes.old ≡ [] };
+
+    /// Drops so many of the bytes that were filled, in the copy, and in the pipe where so many stand one behind the other.
+    fn consume(&mut self, row: &mut Self::Copied, amt: usize, wakes: &mut Wakes<Self::Waker, 2>)
+        requires empty { wakes.old ≡ [] }
+        requires filled { amt ≤ length (copied row.old) }
+        ensures { copied row.new ≡ drop amt (copied row.old) };
+
+    /// Drops all bytes, and wakes who waits for room.
+    fn clear(&mut self, wakes: &mut Wakes<Self::Waker, 2>)
+        requires { wakes.old ≡ [] };
+
+    /// Nothing was filled.
+    fn nothing_copied() -> Self::Copied
+        ensures { length (copied result) ≡ 0 };
+
+    /// The bytes that were filled and not consumed since.
+    fn copied(row: &Self::Copied) -> &[u8]
+        ensures { result.now ≡ copied row.now };
+}
+
+impl<W: Copy + Eq, const N: usize> ByteState for PipeState<W, N> {
+    type Waker = W;
+
+    type Copied = Copied<N>;
+
+    ghost places = { N };
+
+    ghost copied = { λ row. row };
+
+    fn new() -> Self {
+        PipeState::new()
+    }
+
+    fn capacity() -> usize {
+        N
+    }
+
+    fn len(&self) -> usize {
+        PipeState::len(self)
+    }
+
+    fn try_write(
+        &mut self,
+        waker: Option<W>,
+        from: &[u8],
+        wakes: &mut Wakes<W, 2>,
+    ) -> Result<usize, TryWriteError>
+        requires { wakes.old ≡ [] }
+        ensures { IfOk result (λ n. n ≤ length from.now) }
+    {
+        self.write(from, waker, wakes)
+    }
+
+    fn try_read(
+        &mut self,
+        waker: Option<W>,
+        to: &mut [u8],
+        wakes: &mut Wakes<W, 2>,
+    ) -> Result<usize, TryReadError>
+        requires { wakes.old ≡ [] }
+        ensures { IfOk result (λ n. n ≤ length to.old) }
+    {
+        self.read(to, waker, wakes)
+    }
+
+    fn poll_write_all(
+        &mut self,
+        request: &mut WriteAllRequest<'_>,
+        cx: &Context<W>,
+        wakes: &mut Wakes<W, 2>,
+    ) -> Poll<()> {
+        request.poll_state(self, cx, wakes)
+    }
+
+    fn fill(
+        &mut self,
+        waker: Option<W>,
+        row: &mut Copied<N>,
+        wakes: &mut Wakes<W, 2>,
+    ) -> Result<(), TryReadError>
+        requires { wakes.old ≡ [] }
+    {
+        if PipeState::is_empty(self) {
+            if let Some(waker) = waker {
+                self.read_waker.register(waker, wakes);
+            }
+            return Err(TryReadError::Empty);
+        }
+        row.fill(self.shown());
+        Ok(())
+    }
+
+    fn consume(&mut self, row: &mut Copied<N>, amt: usize, wakes: &mut Wakes<W, 2>) {
+        row.consume(amt);
+        if amt <= self.shown().len() {
+            PipeState::consume(self, amt, wakes);
+        }
+    }
+
+    fn clear(&mut self, wakes: &mut Wakes<W, 2>) {
+        PipeState::clear(self, wakes)
+    }
+
+    fn nothing_copied() -> Copied<N> {
+        Copied::new()
+    }
+
+    fn copied(row: &Copied<N>) -> &[u8] {
+        row.filled()
+    }
+}
+
+/// A pipe of at most `N` bytes.
+pub type Pipe<W, H, const N: usize> = SharedPipe<PipeState<W, N>, W, H>;
+
+/// A pipe that tasks on several threads share by reference, with backpressure.
+///
+/// Each call takes the lock, takes the call of its name on the state, releases the lock, and then gives each waker that the step
+/// handed out to the hand, in order.
+#[derive(Drop)]
+pub struct SharedPipe<S, W, H> {
+    inner: Shared<S, W, H>,
+}
+
+impl<S: ByteState<Waker = W>, W: Copy + Eq, H: Hand<W>> SharedPipe<S, W, H> {
+    /// No byte, and nobody who waits.
+    pub fn new(hand: H) -> Self {
+        SharedPipe {
+            inner: Shared::new(S::new(), hand),
+        }
+    }
+
+    /// The two ends of the pipe. There is one reader, which fills a copy of the oldest bytes.
+    pub fn split(&mut self) -> (PipeReader<'_, S, W, H>, PipeWriter<'_, S, W, H>)
+        ensures { length (S.copied result.0.row) ≡ 0 }
+    {
+        let pipe = &*self;
+        (PipeReader::new(pipe), PipeWriter { pipe })
+    }
+
+    /// Puts some of the bytes in, when there is room.
+    pub fn write<'a>(&'a self, from: &'a [u8]) -> WriteFuture<'a, S, W, H> {
+        WriteFuture { pipe: self, from }
+    }
+
+    /// Puts all of the bytes in, as there is room.
+    pub fn write_all<'a>(&'a self, from: &'a [u8]) -> WriteAllFuture<'a, S, W, H>
+        ensures { result.request ≡ Some from.now }
+    {
+        WriteAllFuture::new(self, from)
+    }
+
+    /// Takes some bytes out, when there are any.
+    pub fn read<'a, 'b>(&'a self, to: &'b mut [u8]) -> ReadFuture<'a, 'b, S, W, H> {
+        ReadFuture { pipe: self, to }
+    }
+
+    fn step_write(&self, waker: Option<W>, from: &[u8]) -> Result<usize, TryWriteError>
+        ensures { IfOk result (λ n. n ≤ length from.now) }
+    {
+        step!(
+            self.inner,
+            2,
+            |state, wakes| state.try_write(waker, from, &mut wakes)
+        )
+    }
+
+    fn step_read(&self, waker: Option<W>, to: &mut [u8]) -> Result<usize, TryReadError>
+        ensures { IfOk result (λ n. n ≤ length to.old) }
+    {
+        step!(
+            self.inner,
+            2,
+            |state, wakes| state.try_read(waker, to, &mut wakes)
+        )
+    }
+
+    fn step_fill(&self, waker: Option<W>, row: &mut S::Copied) -> Result<(), TryReadError> {
+        step!(
+            self.inner,
+            2,
+            |state, wakes| state.fill(waker, row, &mut wakes)
+        )
+    }
+
+    fn step_consume(&self, row: &mut S::Copied, amt: usize)
+        requires { amt ≤ length (S.copied row.old) }
+        ensures { S.copied row.new ≡ drop amt (S.copied row.old) }
+    {
+        step!(
+            self.inner,
+            2,
+            |state, wakes| state.consume(row, amt, &mut wakes)
+        )
+    }
+
+    fn step_write_all(&self, request: &mut WriteAllRequest<'_>, cx: &Context<W>) -> Poll<()>
+        requires { IsSome request.old }
+    {
+        step!(
+            self.inner,
+            2,
+            |state, wakes| state.poll_write_all(request, cx, &mut wakes)
+        )
+    }
+
+    /// Puts as many of the bytes in as there is room for, and tells how many.
+    pub fn try_write(&self, from: &[u8]) -> Result<usize, TryWriteError>
+        ensures { IfOk result (λ n. n ≤ length from.now) }
+    {
+        self.step_write(None, from)
+    }
+
+    /// Takes the oldest bytes out, as many as there are and as the slice has places, and tells how many.
+    pub fn try_read(&self, to: &mut [u8]) -> Result<usize, TryReadError>
+        ensures { IfOk result (λ n. n ≤ length to.old) }
+    {
+        self.step_read(None, to)
+    }
+
+    /// Drops all bytes, and wakes who waits for room.
+    pub fn clear(&self) {
+        step!(self.inner, 2, |state, wakes| state.clear(&mut wakes))
+    }
+
+    /// How many bytes can be held. It takes no lock.
+    pub fn capacity(&self) -> usize
+        ensures { result ≡ S.places }
+    {
+        S::capacity()
+    }
+
+    /// How many bytes are held now.
+    pub fn len(&self) -> usize
+        ensures { result ≤ S.places }
+    {
+        self.inner.guard().len()
+    }
+
+    /// How many bytes there is room for now.
+    pub fn free_capacity(&self) -> usize
+        ensures { result ≤ S.places }
+    {
+        S::capacity() - self.len()
+    }
+
+    /// No byte is held now.
+    pub fn is_empty(&self) -> bool {
+        self.len() == 0
+    }
+
+    /// As many bytes are held now as there is room for.
+    pub fn is_full(&self) -> bool {
+        self.len() == S::capacity()
+    }
+}
+
+/// The end of a pipe of at most `N` bytes that writes.
+pub type Writer<'p, W, H, const N: usize> = PipeWriter<'p, PipeState<W, N>, W, H>;
+
+/// The end of a pipe that writes.
+#[derive(Drop)]
+pub struct PipeWriter<'p, S, W, H> {
+    pipe: &'p SharedPipe<S, W, H>,
+}
+
+impl<'p, S: ByteState<Waker = W>, W: Copy + Eq, H: Hand<W>> PipeWriter<'p, S, W, H> {
+    /// Puts some of the bytes in, when there is room.
+    pub fn write<'a>(&'a self, from: &'a [u8]) -> WriteFuture<'a, S, W, H> {
+        self.pipe.write(from)
+    }
+
+    /// Puts as many of the bytes in as there is room for, and tells how many.
+    pub fn try_write(&self, from: &[u8]) -> Result<usize, TryWriteError>
+        ensures { IfOk result (λ n. n ≤ length from.now) }
+    {
+        self.pipe.try_write(from)
+    }
+}
+
+/// The end of a pipe of at most `N` bytes that reads.
+pub type Reader<'p, W, H, const N: usize> = PipeReader<'p, PipeState<W, N>, W, H>;
+
+/// The end of a pipe that reads. It keeps a copy of the bytes that it filled, until they are consumed.
+#[derive(Drop)]
+pub struct PipeReader<'p, S: ByteState, W, H> {
+    pipe: &'p SharedPipe<S, W, H>,
+    row: S::Copied,
+}
+
+impl<'p, S: ByteState<Waker = W>, W: Copy + Eq, H: Hand<W>> PipeReader<'p, S, W, H> {
+    fn new(pipe: &'p SharedPipe<S, W, H>) -> Self
+        ensures { length (S.copied result.row) ≡ 0 }
+    {
+        PipeReader {
+            pipe,
+            row: S::nothing_copied(),
+        }
+    }
+
+    /// Takes the oldest bytes out, as many as there are and as the slice has places, and tells how many. What was filled is forgotten.
+    pub fn try_read(&mut self, to: &mut [u8]) -> Result<usize, TryReadError>
+        ensures count { IfOk result (λ n. n ≤ length to.old) }
+        ensures filled { length (S.copied self.new.row) ≡ 0 }
+    {
+        self.row = S::nothing_copied();
+        self.pipe.try_read(to)
+    }
+
+    /// Takes some bytes out, when there are any. What was filled is forgotten.
+    pub fn read<'b>(&mut self, to: &'b mut [u8]) -> ReadFuture<'p, 'b, S, W, H> {
+        self.row = S::nothing_copied();
+        let pipe = self.pipe;
+        pipe.read(to)
+    }
+
+    /// Copies the oldest bytes that stand one behind the other. They stay in the pipe, until `consume` drops them.
+    pub fn try_fill_buf(&mut self) -> Result<(), TryReadError> {
+        self.pipe.step_fill(None, &mut self.row)
+    }
+
+    /// The same. Where there is none, the context's waker waits for one.
+    pub fn poll_fill_buf(&mut self, cx: &Context<W>) -> Poll<()> {
+        match self.pipe.step_fill(Some(cx.waker()), &mut self.row) {
+            Ok(()) => Poll::Ready(()),
+            Err(TryReadError::Empty) => Poll::Pending,
+        }
+    }
+
+    /// The bytes that were filled and not consumed since.
+    pub fn filled(&self) -> &[u8]
+        ensures { result.now ≡ S.copied self.now.row }
+    {
+        S::copied(&self.row)
+    }
+
+    /// Drops so many of the bytes that were filled, here and in the pipe.
+    pub fn consume(&mut self, amt: usize)
+        requires { amt ≤ length (S.copied self.old.row) }
+        ensures { S.copied self.new.row ≡ drop amt (S.copied self.old.row) }
+    {
+        self.pipe.step_consume(&mut self.row, amt);
+    }
+}
+
+/// Bytes on their way into a pipe: what `write` gives. It acts anew after it was ready.
+#[derive(Drop)]
+pub struct WriteFuture<'p, S, W, H> {
+    pipe: &'p SharedPipe<S, W, H>,
+    from: &'p [u8],
+}
+
+impl<'p, S: ByteState<Waker = W>, W: Copy + Eq, H: Hand<W>> WriteFuture<'p, S, W, H> {
+    /// Puts as many of the bytes in as there is room for, and tells how many. Where there is none, the context's waker waits for it.
+    pub fn poll(&mut self, cx: &Context<W>) -> Poll<usize> {
+        match self.pipe.step_write(Some(cx.waker()), self.from) {
+            Ok(n) => Poll::Ready(n),
+            Err(TryWriteError::Full) => Poll::Pending,
+        }
+    }
+}
+
+/// Bytes on their way into a pipe, all of them: what `write_all` gives.
+#[derive(Drop)]
+pub struct WriteAllFuture<'p, S, W, H> {
+    pipe: &'p SharedPipe<S, W, H>,
+    request: WriteAllRequest<'p>,
+}
+
+impl<'p, S: ByteState<Waker = W>, W: Copy + Eq, H: Hand<W>> WriteAllFuture<'p, S, W, H> {
+    /// The bytes are still to be written.
+    pub(crate) fn new(pipe: &'p SharedPipe<S, W, H>, from: &'p [u8]) -> Self
+        ensures { result.request ≡ Some from.now }
+    {
+        WriteAllFuture {
+            pipe,
+            request: WriteAllRequest::new(from),
+        }
+    }
+
+    /// All bytes were written.
+    pub fn is_finished(&self) -> bool
+        ensures { result ≡ is_none self.now.request }
+    {
+        self.request.is_finished()
+    }
+
+    /// Writes as many of the bytes as there is room for. Where some are left, the context's waker waits for room. A future that is
+    /// finished isn't polled.
+    pub fn poll(&mut self, cx: &Context<W>) -> Poll<()>
+        requires { IsSome self.old.request }
+    {
+        self.pipe.step_write_all(&mut self.request, cx)
+    }
+}
+
+/// Bytes on their way out of a pipe: what `read` gives. It acts anew after it was ready.
+#[derive(Drop)]
+pub struct ReadFuture<'p, 'b, S, W, H> {
+    pipe: &'p SharedPipe<S, W, H>,
+    to: &'b mut [u8],
+}
+
+impl<'p, 'b, S: ByteState<Waker = W>, W: Copy + Eq, H: Hand<W>> ReadFuture<'p, 'b, S, W, H> {
+    /// Takes the oldest bytes out, as many as there are and as the slice has places, and tells how many. Where there are none, the
+    /// context's waker waits for them.
+    pub fn poll(&mut self, cx: &Context<W>) -> Poll<usize> {
+        let pipe = self.pipe;
+        let to = &mut *self.to;
+        match pipe.step_read(Some(cx.waker()), to) {
+            Ok(n) => Poll::Ready(n),
+            Err(TryReadError::Empty) => Poll::Pending,
+        }
+    }
+}
