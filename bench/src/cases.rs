@@ -148,7 +148,7 @@ pub const CASES: [Case; 30] = [
     state(
         "pipe_byte",
         ours::pipe_byte,
-        upstream::pipe_blocks::<NoopRawMutex, 64, 1>,
+        upstream::pipe_blocks::<NoopRawMutex, 16, 1>,
     ),
     state(
         "pipe_16",
@@ -168,7 +168,7 @@ pub const CASES: [Case; 30] = [
     state(
         "pipe_wait_and_wake",
         ours::pipe_wait_and_wake,
-        upstream::pipe_wait_and_wake::<NoopRawMutex, 64, 16>,
+        upstream::pipe_wait_and_wake::<NoopRawMutex, 32, 16>,
     ),
     shared(
         "shared_ping_pong_4",

@@ -43,10 +43,11 @@ impl<const N: usize> RingBuffer<N> {
         ensures { result ≡ slot N self.now.front behind }
     {
         let before_end = N - self.start;
+        let from_first = behind.saturating_sub(before_end);
         if behind < before_end {
             self.start + behind
         } else {
-            behind - before_end
+            from_first
         }
     }
 

@@ -158,7 +158,7 @@ pub extern "C" fn esync_bench_pipe_byte(messages: &[u8], woken: &mut [u64]) -> u
     requires { sum messages.now < 2 ^ 64 }
     ensures { result ≡ sum messages.now }
 {
-    let mut state = State::<64>::new();
+    let mut state = State::<16>::new();
     write_and_read(
         &mut state,
         &mut [0; 1],
@@ -222,7 +222,7 @@ pub extern "C" fn esync_bench_pipe_wait_and_wake(messages: &[u8], woken: &mut [u
     requires { sum messages.now < 2 ^ 64 }
     ensures { result ≡ sum messages.now }
 {
-    let mut state = State::<64>::new();
+    let mut state = State::<32>::new();
     wait_and_wake(
         &mut state,
         &mut [0; 16],
