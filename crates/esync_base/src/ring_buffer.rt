@@ -37,16 +37,18 @@ impl<const N: usize> RingBuffer<N> {
         RingBuffer { start: 0, len: 0 }
     }
 
-    // The place so many places behind the first.
+    // The place so many places behind the first. The subtraction stands before the branch: else `pop` may load both fields as one vector,
+    // right behind a store of one, for which the processor waits.
     fn place(&self, behind: usize) -> usize
         requires { behind ≤ N }
         ensures { result ≡ slot N self.now.front behind }
     {
         let before_end = N - self.start;
+        let from_first = behind.saturating_sub(before_end);
         if behind < before_end {
             self.start + behind
         } else {
-            behind - before_end
+            from_first
         }
     }
 
