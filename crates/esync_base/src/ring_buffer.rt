@@ -325,7 +325,8 @@ impl<const N: usize> ByteRing<N> {
 
     /// The oldest bytes, as many as stand one behind the other. They stay.
     pub fn filled(&self) -> &[u8]
-        ensures { result.now ≡ take (N - self.now.front) self.now.items }
+        ensures value { result.now ≡ take (N - self.now.front) self.now.items }
+        ensures some { 0 < length self.now.items → 0 < length result.now }
     {
         let run = self.ring.pop_buf();
         let places = &self.row.bytes[..];
