@@ -9,7 +9,7 @@ ghost use Rattle.esync_pipe.specs.Pipe.{waker_if, out_if, left_if, puts, rest_of
 use esync_base::ring_buffer::ByteRing;
 use esync_base::waitqueue::{Context, Poll, WakerRegistration, Wakes};
 pub use shared::{
-    ByteState, Copied, Pipe, PipeReader, PipeWriter, ReadFuture, Reader, SharedPipe,
+    ByteState, Copied, FillBufFuture, Pipe, PipeReader, PipeWriter, ReadFuture, Reader, SharedPipe,
     WriteAllFuture, WriteFuture, Writer,
 };
 use std::marker::Model;
