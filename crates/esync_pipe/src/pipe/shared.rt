@@ -1,5 +1,5 @@
 //! A pipe that tasks on several threads share by reference, its two ends, and its futures.
-ghost use Rattle.std.specs.Prelude.{◌≡◌, ℕ, List, [], ◌++◌, ◌≤◌, Some, IsSome, IfOk, length, take, drop, is_none};
+ghost use Rattle.std.specs.Prelude.{◌≡◌, ℕ, List, [], ◌++◌, ◌≤◌, Some, IsSome, IfOk, OnErr, length, take, drop, is_none};
 ghost use Rattle.esync_pipe.specs.Polls.{IfReady, LeavesBytes};
 
 use super::{PipeState, TryReadError, TryWriteError, WriteAllRequest};
@@ -90,6 +90,19 @@ impl<const N: usize> Copied<N> {
     }
 }
 
+// Copies as many of the bytes as there are places, and tells how many.
+fn copy_front(from: &[u8], to: &mut [u8]) -> usize
+    ensures { result ≤ length to.old }
+{
+    let n = if from.len() < to.len() {
+        from.len()
+    } else {
+        to.len()
+    };
+    to[..n].copy_from_slice(&from[..n]);
+    n
+}
+
 /// What a shared pipe takes of its state, whatever its capacity.
 pub trait ByteState: Drop {
     type Waker: Copy + Eq;
@@ -162,6 +175,22 @@ pub trait ByteState: Drop {
         requires empty { wakes.old ≡ [] }
         requires filled { amt ≤ length (copied row.old) }
         ensures { copied row.new ≡ drop amt (copied row.old) };
+
+    /// Copies the oldest bytes that stand one behind the other, as many as the slice has places, and tells how many. They stay. Where
+    /// there are none nothing is written, and the waker, if it is given one, waits for them.
+    fn show(
+        &mut self,
+        waker: Option<Self::Waker>,
+        to: &mut [u8],
+        wakes: &mut Wakes<Self::Waker, 2>,
+    ) -> Result<usize, TryReadError>
+        requires { wakes.old ≡ [] }
+        ensures count { IfOk result (λ n. n ≤ length to.old) }
+        ensures kept { OnErr result (to.new ≡ to.old) };
+
+    /// Drops so many of the oldest bytes, where so many stand one behind the other.
+    fn drop_shown(&mut self, amt: usize, wakes: &mut Wakes<Self::Waker, 2>)
+        requires { wakes.old ≡ [] };
 
     /// Drops all bytes, and wakes who waits for room.
     fn clear(&mut self, wakes: &mut Wakes<Self::Waker, 2>)
@@ -250,6 +279,29 @@ impl<W: Copy + Eq, const N: usize> ByteState for PipeState<W, N> {
 
     fn consume(&mut self, row: &mut Copied<N>, amt: usize, wakes: &mut Wakes<W, 2>) {
         row.consume(amt);
+        self.drop_shown(amt, wakes);
+    }
+
+    fn show(
+        &mut self,
+        waker: Option<W>,
+        to: &mut [u8],
+        wakes: &mut Wakes<W, 2>,
+    ) -> Result<usize, TryReadError>
+        requires { wakes.old ≡ [] }
+        ensures count { IfOk result (λ n. n ≤ length to.old) }
+        ensures kept { OnErr result (to.new ≡ to.old) }
+    {
+        if PipeState::is_empty(self) {
+            if let Some(waker) = waker {
+                self.read_waker.register(waker, wakes);
+            }
+            return Err(TryReadError::Empty);
+        }
+        Ok(copy_front(self.shown(), to))
+    }
+
+    fn drop_shown(&mut self, amt: usize, wakes: &mut Wakes<W, 2>) {
         if amt <= self.shown().len() {
             PipeState::consume(self, amt, wakes);
         }
@@ -317,7 +369,7 @@ impl<S: ByteState<Waker = W>, W: Copy + Eq, H: Hand<W>> SharedPipe<S, W, H> {
         ReadFuture { pipe: self, to }
     }
 
-    fn step_write(&self, waker: Option<W>, from: &[u8]) -> Result<usize, TryWriteError>
+    pub(crate) fn step_write(&self, waker: Option<W>, from: &[u8]) -> Result<usize, TryWriteError>
         ensures { IfOk result (λ n. n ≤ length from.now) }
     {
         step!(
@@ -327,7 +379,7 @@ impl<S: ByteState<Waker = W>, W: Copy + Eq, H: Hand<W>> SharedPipe<S, W, H> {
         )
     }
 
-    fn step_read(&self, waker: Option<W>, to: &mut [u8]) -> Result<usize, TryReadError>
+    pub(crate) fn step_read(&self, waker: Option<W>, to: &mut [u8]) -> Result<usize, TryReadError>
         ensures { IfOk result (λ n. n ≤ length to.old) }
     {
         step!(
@@ -342,6 +394,25 @@ impl<S: ByteState<Waker = W>, W: Copy + Eq, H: Hand<W>> SharedPipe<S, W, H> {
             self.inner,
             2,
             |state, wakes| state.fill(waker, row, &mut wakes)
+        )
+    }
+
+    pub(crate) fn step_show(&self, waker: Option<W>, to: &mut [u8]) -> Result<usize, TryReadError>
+        ensures count { IfOk result (λ n. n ≤ length to.old) }
+        ensures kept { OnErr result (to.new ≡ to.old) }
+    {
+        step!(
+            self.inner,
+            2,
+            |state, wakes| state.show(waker, to, &mut wakes)
+        )
+    }
+
+    pub(crate) fn step_drop(&self, amt: usize) {
+        step!(
+            self.inner,
+            2,
+            |state, wakes| state.drop_shown(amt, &mut wakes)
         )
     }
 
