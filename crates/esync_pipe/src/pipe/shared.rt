@@ -574,13 +574,11 @@ impl<'p, S: ByteState<Waker = W>, W: Copy + Eq, H: Hand<W>> PipeReader<'p, S, W,
     }
 
     /// Takes some bytes out, when there are any. What was filled is forgotten.
-    pub fn read<'b>(&mut self, to: &'b mut [u8]) -> ReadFuture<'p, 'b, S, W, H>
-        ensures slice { length result.to.now ≡ length to.old }
-        ensures filled { length (S.copied self.new.row) ≡ 0 }
+    pub fn read<'a, 'b>(&'a mut self, to: &'b mut [u8]) -> ReadFuture<'a, 'b, S, W, H>
+        ensures { length result.to.now ≡ length to.old }
     {
         self.row = S::nothing_copied();
-        let pipe = self.pipe;
-        pipe.read(to)
+        self.pipe.read(to)
     }
 
     /// Copies the oldest bytes that stand one behind the other. They stay in the pipe, until `consume` drops them.
