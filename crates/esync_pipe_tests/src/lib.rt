@@ -2,6 +2,8 @@
 #![tactic(auto)]
 
 #[cfg(test)]
+mod dynamic;
+#[cfg(test)]
 mod futures;
 #[cfg(test)]
 mod pipes;
