@@ -12,3 +12,8 @@ IfReady Pending P = Unit {0}
 abbrev pub LeavesBytes : Poll (Unit {0}) → Option (List ℕ) → Type 0
 LeavesBytes (Ready done) rest = rest ≡ None
 LeavesBytes Pending rest = IsSome rest
+
+-- what a poll to fill leaves of a copy: the same, where it waits
+abbrev pub KeepsCopy : Poll (Unit {0}) → List ℕ → List ℕ → Type 0
+KeepsCopy (Ready done) old new = Unit {0}
+KeepsCopy Pending old new = new ≡ old

@@ -1,6 +1,6 @@
 //! The ends of a pipe whose type doesn't say how many bytes it can hold, and their futures.
 ghost use Rattle.std.specs.Prelude.{◌≡◌, ◌≤◌, IfOk, OnErr, length, drop};
-ghost use Rattle.esync_pipe.specs.Polls.{IfReady};
+ghost use Rattle.esync_pipe.specs.Polls.{IfReady, KeepsCopy};
 
 use super::{ByteState, SharedPipe, TryReadError, TryWriteError};
 use esync_base::waitqueue::{Context, Hand, Poll, TaskId};
@@ -300,7 +300,9 @@ pub struct DynamicFillBufFuture<'r, P> {
 
 impl<'r, P: DynamicPipe> DynamicFillBufFuture<'r, P> {
     /// Copies the oldest bytes that stand one behind the other. Where there is none, the context's waker waits for one.
-    pub fn poll(&mut self, cx: &Context<TaskId>) -> Poll<()> {
+    pub fn poll(&mut self, cx: &Context<TaskId>) -> Poll<()>
+        ensures kept { KeepsCopy result self.old.reader.now.row self.new.reader.now.row }
+    {
         let reader = &mut *self.reader;
         match reader.row.fill(&reader.pipe, Some(cx.waker())) {
             Ok(()) => Poll::Ready(()),

@@ -1,6 +1,6 @@
 //! A pipe that tasks on several threads share by reference, its two ends, and its futures.
 ghost use Rattle.std.specs.Prelude.{◌≡◌, ℕ, List, [], ◌++◌, ◌≤◌, Some, IsSome, IfOk, OnErr, length, take, drop, is_none};
-ghost use Rattle.esync_pipe.specs.Polls.{IfReady, LeavesBytes};
+ghost use Rattle.esync_pipe.specs.Polls.{IfReady, KeepsCopy, LeavesBytes};
 
 use super::{PipeState, TryReadError, TryWriteError, WriteAllRequest};
 use esync_base::shared::Shared;
@@ -168,7 +168,8 @@ pub trait ByteState: Drop {
         row: &mut Self::Copied,
         wakes: &mut Wakes<Self::Waker, 2>,
     ) -> Result<(), TryReadError>
-        requires { wakes.old ≡ [] };
+        requires { wakes.old ≡ [] }
+        ensures kept { OnErr result (copied row.new ≡ copied row.old) };
 
     /// Drops so many of the bytes that were filled, in the copy, and in the pipe where so many stand one behind the other.
     fn consume(&mut self, row: &mut Self::Copied, amt: usize, wakes: &mut Wakes<Self::Waker, 2>)
@@ -266,6 +267,7 @@ impl<W: Copy + Eq, const N: usize> ByteState for PipeState<W, N> {
         wakes: &mut Wakes<W, 2>,
     ) -> Result<(), TryReadError>
         requires { wakes.old ≡ [] }
+        ensures kept { OnErr result (row.new ≡ row.old) }
     {
         if PipeState::is_empty(self) {
             if let Some(waker) = waker {
@@ -389,7 +391,9 @@ impl<S: ByteState<Waker = W>, W: Copy + Eq, H: Hand<W>> SharedPipe<S, W, H> {
         )
     }
 
-    fn step_fill(&self, waker: Option<W>, row: &mut S::Copied) -> Result<(), TryReadError> {
+    fn step_fill(&self, waker: Option<W>, row: &mut S::Copied) -> Result<(), TryReadError>
+        ensures kept { OnErr result (S.copied row.new ≡ S.copied row.old) }
+    {
         step!(
             self.inner,
             2,
@@ -582,7 +586,9 @@ impl<'p, S: ByteState<Waker = W>, W: Copy + Eq, H: Hand<W>> PipeReader<'p, S, W,
     }
 
     /// Copies the oldest bytes that stand one behind the other. They stay in the pipe, until `consume` drops them.
-    pub fn try_fill_buf(&mut self) -> Result<(), TryReadError> {
+    pub fn try_fill_buf(&mut self) -> Result<(), TryReadError>
+        ensures kept { OnErr result (S.copied self.new.row ≡ S.copied self.old.row) }
+    {
         self.pipe.step_fill(None, &mut self.row)
     }
 
@@ -592,7 +598,9 @@ impl<'p, S: ByteState<Waker = W>, W: Copy + Eq, H: Hand<W>> PipeReader<'p, S, W,
     }
 
     /// Copies the oldest bytes that stand one behind the other. Where there is none, the context's waker waits for one.
-    pub fn poll_fill_buf(&mut self, cx: &Context<W>) -> Poll<()> {
+    pub fn poll_fill_buf(&mut self, cx: &Context<W>) -> Poll<()>
+        ensures kept { KeepsCopy result (S.copied self.old.row) (S.copied self.new.row) }
+    {
         match self.pipe.step_fill(Some(cx.waker()), &mut self.row) {
             Ok(()) => Poll::Ready(()),
             Err(TryReadError::Empty) => Poll::Pending,
@@ -701,7 +709,9 @@ pub struct FillBufFuture<'r, 'p, S: ByteState, W, H> {
 
 impl<'r, 'p, S: ByteState<Waker = W>, W: Copy + Eq, H: Hand<W>> FillBufFuture<'r, 'p, S, W, H> {
     /// Copies the oldest bytes that stand one behind the other. Where there is none, the context's waker waits for one.
-    pub fn poll(&mut self, cx: &Context<W>) -> Poll<()> {
+    pub fn poll(&mut self, cx: &Context<W>) -> Poll<()>
+        ensures kept { KeepsCopy result (S.copied self.old.reader.now.row) (S.copied self.new.reader.now.row) }
+    {
         self.reader.poll_fill_buf(cx)
     }
 }
