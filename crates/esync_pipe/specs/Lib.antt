@@ -4,3 +4,4 @@ pub mod Padded
 pub mod PipeRules
 pub mod PipeLaws
 pub mod PipeOrder
+pub mod Polls

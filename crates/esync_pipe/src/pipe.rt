@@ -6,15 +6,20 @@ ghost use Rattle.std.specs.Prelude.{◌≡◌, ◌<◌, ◌≤◌, ◌+◌, ◌+
 ghost use Rattle.esync_base.specs.Registration.{registered_if, displaced_if};
 ghost use Rattle.esync_pipe.specs.Pipe.{waker_if, out_if, left_if, puts, rest_of, WritesAll, slots_after_write_all, wakes_of_write_all};
 
+pub use dynamic::{
+    DynamicFillBufFuture, DynamicPipe, DynamicReadFuture, DynamicReader, DynamicWriteFuture,
+    DynamicWriter,
+};
 use esync_base::ring_buffer::ByteRing;
 use esync_base::waitqueue::{Context, Poll, WakerRegistration, Wakes};
 pub use shared::{
-    ByteState, Copied, Pipe, PipeReader, PipeWriter, ReadFuture, Reader, SharedPipe,
+    ByteState, Copied, FillBufFuture, Pipe, PipeReader, PipeWriter, ReadFuture, Reader, SharedPipe,
     WriteAllFuture, WriteFuture, Writer,
 };
 use std::marker::Model;
 use thiserror::Error;
 
+mod dynamic;
 pub mod machine;
 mod shared;
 

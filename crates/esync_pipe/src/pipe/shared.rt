@@ -1,5 +1,6 @@
 //! A pipe that tasks on several threads share by reference, its two ends, and its futures.
-ghost use Rattle.std.specs.Prelude.{◌≡◌, ℕ, List, [], ◌++◌, ◌≤◌, Some, IsSome, IfOk, length, take, drop, is_none};
+ghost use Rattle.std.specs.Prelude.{◌≡◌, ℕ, List, [], ◌++◌, ◌≤◌, Some, IsSome, IfOk, OnErr, length, take, drop, is_none};
+ghost use Rattle.esync_pipe.specs.Polls.{IfReady, KeepsCopy, LeavesBytes};
 
 use super::{PipeState, TryReadError, TryWriteError, WriteAllRequest};
 use esync_base::shared::Shared;
@@ -89,6 +90,19 @@ impl<const N: usize> Copied<N> {
     }
 }
 
+// Copies as many of the bytes as there are places, and tells how many.
+fn copy_front(from: &[u8], to: &mut [u8]) -> usize
+    ensures { result ≤ length to.old }
+{
+    let n = if from.len() < to.len() {
+        from.len()
+    } else {
+        to.len()
+    };
+    to[..n].copy_from_slice(&from[..n]);
+    n
+}
+
 /// What a shared pipe takes of its state, whatever its capacity.
 pub trait ByteState: Drop {
     type Waker: Copy + Eq;
@@ -143,7 +157,8 @@ pub trait ByteState: Drop {
         wakes: &mut Wakes<Self::Waker, 2>,
     ) -> Poll<()>
         requires empty { wakes.old ≡ [] }
-        requires unfinished { IsSome request.old };
+        requires unfinished { IsSome request.old }
+        ensures { LeavesBytes result request.new };
 
     /// Copies the oldest bytes that stand one behind the other. Where there are none, the waker of a context, if there is one, waits
     /// for them.
@@ -153,13 +168,30 @@ pub trait ByteState: Drop {
         row: &mut Self::Copied,
         wakes: &mut Wakes<Self::Waker, 2>,
     ) -> Result<(), TryReadError>
-        requires { wakes.old ≡ [] };
+        requires { wakes.old ≡ [] }
+        ensures kept { OnErr result (copied row.new ≡ copied row.old) };
 
     /// Drops so many of the bytes that were filled, in the copy, and in the pipe where so many stand one behind the other.
     fn consume(&mut self, row: &mut Self::Copied, amt: usize, wakes: &mut Wakes<Self::Waker, 2>)
         requires empty { wakes.old ≡ [] }
         requires filled { amt ≤ length (copied row.old) }
         ensures { copied row.new ≡ drop amt (copied row.old) };
+
+    /// Copies the oldest bytes that stand one behind the other, as many as the slice has places, and tells how many. They stay. Where
+    /// there are none nothing is written, and the waker, if it is given one, waits for them.
+    fn show(
+        &mut self,
+        waker: Option<Self::Waker>,
+        to: &mut [u8],
+        wakes: &mut Wakes<Self::Waker, 2>,
+    ) -> Result<usize, TryReadError>
+        requires { wakes.old ≡ [] }
+        ensures count { IfOk result (λ n. n ≤ length to.old) }
+        ensures kept { OnErr result (to.new ≡ to.old) };
+
+    /// Drops so many of the oldest bytes, where so many stand one behind the other.
+    fn drop_shown(&mut self, amt: usize, wakes: &mut Wakes<Self::Waker, 2>)
+        requires { wakes.old ≡ [] };
 
     /// Drops all bytes, and wakes who waits for room.
     fn clear(&mut self, wakes: &mut Wakes<Self::Waker, 2>)
@@ -235,6 +267,7 @@ impl<W: Copy + Eq, const N: usize> ByteState for PipeState<W, N> {
         wakes: &mut Wakes<W, 2>,
     ) -> Result<(), TryReadError>
         requires { wakes.old ≡ [] }
+        ensures kept { OnErr result (row.new ≡ row.old) }
     {
         if PipeState::is_empty(self) {
             if let Some(waker) = waker {
@@ -248,6 +281,29 @@ impl<W: Copy + Eq, const N: usize> ByteState for PipeState<W, N> {
 
     fn consume(&mut self, row: &mut Copied<N>, amt: usize, wakes: &mut Wakes<W, 2>) {
         row.consume(amt);
+        self.drop_shown(amt, wakes);
+    }
+
+    fn show(
+        &mut self,
+        waker: Option<W>,
+        to: &mut [u8],
+        wakes: &mut Wakes<W, 2>,
+    ) -> Result<usize, TryReadError>
+        requires { wakes.old ≡ [] }
+        ensures count { IfOk result (λ n. n ≤ length to.old) }
+        ensures kept { OnErr result (to.new ≡ to.old) }
+    {
+        if PipeState::is_empty(self) {
+            if let Some(waker) = waker {
+                self.read_waker.register(waker, wakes);
+            }
+            return Err(TryReadError::Empty);
+        }
+        Ok(copy_front(self.shown(), to))
+    }
+
+    fn drop_shown(&mut self, amt: usize, wakes: &mut Wakes<W, 2>) {
         if amt <= self.shown().len() {
             PipeState::consume(self, amt, wakes);
         }
@@ -295,7 +351,9 @@ impl<S: ByteState<Waker = W>, W: Copy + Eq, H: Hand<W>> SharedPipe<S, W, H> {
     }
 
     /// Puts some of the bytes in, when there is room.
-    pub fn write<'a>(&'a self, from: &'a [u8]) -> WriteFuture<'a, S, W, H> {
+    pub fn write<'a>(&'a self, from: &'a [u8]) -> WriteFuture<'a, S, W, H>
+        ensures { result.from.now ≡ from.now }
+    {
         WriteFuture { pipe: self, from }
     }
 
@@ -307,11 +365,13 @@ impl<S: ByteState<Waker = W>, W: Copy + Eq, H: Hand<W>> SharedPipe<S, W, H> {
     }
 
     /// Takes some bytes out, when there are any.
-    pub fn read<'a, 'b>(&'a self, to: &'b mut [u8]) -> ReadFuture<'a, 'b, S, W, H> {
+    pub fn read<'a, 'b>(&'a self, to: &'b mut [u8]) -> ReadFuture<'a, 'b, S, W, H>
+        ensures { length result.to.now ≡ length to.old }
+    {
         ReadFuture { pipe: self, to }
     }
 
-    fn step_write(&self, waker: Option<W>, from: &[u8]) -> Result<usize, TryWriteError>
+    pub(crate) fn step_write(&self, waker: Option<W>, from: &[u8]) -> Result<usize, TryWriteError>
         ensures { IfOk result (λ n. n ≤ length from.now) }
     {
         step!(
@@ -321,7 +381,7 @@ impl<S: ByteState<Waker = W>, W: Copy + Eq, H: Hand<W>> SharedPipe<S, W, H> {
         )
     }
 
-    fn step_read(&self, waker: Option<W>, to: &mut [u8]) -> Result<usize, TryReadError>
+    pub(crate) fn step_read(&self, waker: Option<W>, to: &mut [u8]) -> Result<usize, TryReadError>
         ensures { IfOk result (λ n. n ≤ length to.old) }
     {
         step!(
@@ -331,11 +391,32 @@ impl<S: ByteState<Waker = W>, W: Copy + Eq, H: Hand<W>> SharedPipe<S, W, H> {
         )
     }
 
-    fn step_fill(&self, waker: Option<W>, row: &mut S::Copied) -> Result<(), TryReadError> {
+    fn step_fill(&self, waker: Option<W>, row: &mut S::Copied) -> Result<(), TryReadError>
+        ensures kept { OnErr result (S.copied row.new ≡ S.copied row.old) }
+    {
         step!(
             self.inner,
             2,
             |state, wakes| state.fill(waker, row, &mut wakes)
+        )
+    }
+
+    pub(crate) fn step_show(&self, waker: Option<W>, to: &mut [u8]) -> Result<usize, TryReadError>
+        ensures count { IfOk result (λ n. n ≤ length to.old) }
+        ensures kept { OnErr result (to.new ≡ to.old) }
+    {
+        step!(
+            self.inner,
+            2,
+            |state, wakes| state.show(waker, to, &mut wakes)
+        )
+    }
+
+    pub(crate) fn step_drop(&self, amt: usize) {
+        step!(
+            self.inner,
+            2,
+            |state, wakes| state.drop_shown(amt, &mut wakes)
         )
     }
 
@@ -352,6 +433,7 @@ impl<S: ByteState<Waker = W>, W: Copy + Eq, H: Hand<W>> SharedPipe<S, W, H> {
 
     fn step_write_all(&self, request: &mut WriteAllRequest<'_>, cx: &Context<W>) -> Poll<()>
         requires { IsSome request.old }
+        ensures { LeavesBytes result request.new }
     {
         step!(
             self.inner,
@@ -367,11 +449,41 @@ impl<S: ByteState<Waker = W>, W: Copy + Eq, H: Hand<W>> SharedPipe<S, W, H> {
         self.step_write(None, from)
     }
 
+    /// The same. Where there is no room, the context's waker waits for it.
+    pub fn try_write_with_context(
+        &self,
+        cx: Option<&Context<W>>,
+        from: &[u8],
+    ) -> Result<usize, TryWriteError>
+        ensures { IfOk result (λ n. n ≤ length from.now) }
+    {
+        let waker = match cx {
+            Some(cx) => Some(cx.waker()),
+            None => None,
+        };
+        self.step_write(waker, from)
+    }
+
     /// Takes the oldest bytes out, as many as there are and as the slice has places, and tells how many.
     pub fn try_read(&self, to: &mut [u8]) -> Result<usize, TryReadError>
         ensures { IfOk result (λ n. n ≤ length to.old) }
     {
         self.step_read(None, to)
+    }
+
+    /// The same. Where there is no byte, the context's waker waits for one.
+    pub fn try_read_with_context(
+        &self,
+        cx: Option<&Context<W>>,
+        to: &mut [u8],
+    ) -> Result<usize, TryReadError>
+        ensures { IfOk result (λ n. n ≤ length to.old) }
+    {
+        let waker = match cx {
+            Some(cx) => Some(cx.waker()),
+            None => None,
+        };
+        self.step_read(waker, to)
     }
 
     /// Drops all bytes, and wakes who waits for room.
@@ -415,14 +527,16 @@ impl<S: ByteState<Waker = W>, W: Copy + Eq, H: Hand<W>> SharedPipe<S, W, H> {
 pub type Writer<'p, W, H, const N: usize> = PipeWriter<'p, PipeState<W, N>, W, H>;
 
 /// The end of a pipe that writes.
-#[derive(Drop)]
+#[derive_where(Clone, Copy)]
 pub struct PipeWriter<'p, S, W, H> {
     pipe: &'p SharedPipe<S, W, H>,
 }
 
 impl<'p, S: ByteState<Waker = W>, W: Copy + Eq, H: Hand<W>> PipeWriter<'p, S, W, H> {
     /// Puts some of the bytes in, when there is room.
-    pub fn write<'a>(&'a self, from: &'a [u8]) -> WriteFuture<'a, S, W, H> {
+    pub fn write<'a>(&'a self, from: &'a [u8]) -> WriteFuture<'a, S, W, H>
+        ensures { result.from.now ≡ from.now }
+    {
         self.pipe.write(from)
     }
 
@@ -464,19 +578,29 @@ impl<'p, S: ByteState<Waker = W>, W: Copy + Eq, H: Hand<W>> PipeReader<'p, S, W,
     }
 
     /// Takes some bytes out, when there are any. What was filled is forgotten.
-    pub fn read<'b>(&mut self, to: &'b mut [u8]) -> ReadFuture<'p, 'b, S, W, H> {
+    pub fn read<'a, 'b>(&'a mut self, to: &'b mut [u8]) -> ReadFuture<'a, 'b, S, W, H>
+        ensures { length result.to.now ≡ length to.old }
+    {
         self.row = S::nothing_copied();
-        let pipe = self.pipe;
-        pipe.read(to)
+        self.pipe.read(to)
     }
 
     /// Copies the oldest bytes that stand one behind the other. They stay in the pipe, until `consume` drops them.
-    pub fn try_fill_buf(&mut self) -> Result<(), TryReadError> {
+    pub fn try_fill_buf(&mut self) -> Result<(), TryReadError>
+        ensures kept { OnErr result (S.copied self.new.row ≡ S.copied self.old.row) }
+    {
         self.pipe.step_fill(None, &mut self.row)
     }
 
-    /// The same. Where there is none, the context's waker waits for one.
-    pub fn poll_fill_buf(&mut self, cx: &Context<W>) -> Poll<()> {
+    /// Copies the oldest bytes that stand one behind the other, when there are any. They stay in the pipe, until `consume` drops them.
+    pub fn fill_buf<'r>(&'r mut self) -> FillBufFuture<'r, 'p, S, W, H> {
+        FillBufFuture { reader: self }
+    }
+
+    /// Copies the oldest bytes that stand one behind the other. Where there is none, the context's waker waits for one.
+    pub fn poll_fill_buf(&mut self, cx: &Context<W>) -> Poll<()>
+        ensures kept { KeepsCopy result (S.copied self.old.row) (S.copied self.new.row) }
+    {
         match self.pipe.step_fill(Some(cx.waker()), &mut self.row) {
             Ok(()) => Poll::Ready(()),
             Err(TryReadError::Empty) => Poll::Pending,
@@ -508,7 +632,10 @@ pub struct WriteFuture<'p, S, W, H> {
 
 impl<'p, S: ByteState<Waker = W>, W: Copy + Eq, H: Hand<W>> WriteFuture<'p, S, W, H> {
     /// Puts as many of the bytes in as there is room for, and tells how many. Where there is none, the context's waker waits for it.
-    pub fn poll(&mut self, cx: &Context<W>) -> Poll<usize> {
+    pub fn poll(&mut self, cx: &Context<W>) -> Poll<usize>
+        ensures count { IfReady result (λ n. n ≤ length self.old.from.now) }
+        ensures from { self.new.from.now ≡ self.old.from.now }
+    {
         match self.pipe.step_write(Some(cx.waker()), self.from) {
             Ok(n) => Poll::Ready(n),
             Err(TryWriteError::Full) => Poll::Pending,
@@ -545,6 +672,7 @@ impl<'p, S: ByteState<Waker = W>, W: Copy + Eq, H: Hand<W>> WriteAllFuture<'p, S
     /// finished isn't polled.
     pub fn poll(&mut self, cx: &Context<W>) -> Poll<()>
         requires { IsSome self.old.request }
+        ensures { LeavesBytes result self.new.request }
     {
         self.pipe.step_write_all(&mut self.request, cx)
     }
@@ -560,12 +688,30 @@ pub struct ReadFuture<'p, 'b, S, W, H> {
 impl<'p, 'b, S: ByteState<Waker = W>, W: Copy + Eq, H: Hand<W>> ReadFuture<'p, 'b, S, W, H> {
     /// Takes the oldest bytes out, as many as there are and as the slice has places, and tells how many. Where there are none, the
     /// context's waker waits for them.
-    pub fn poll(&mut self, cx: &Context<W>) -> Poll<usize> {
+    pub fn poll(&mut self, cx: &Context<W>) -> Poll<usize>
+        ensures count { IfReady result (λ n. n ≤ length self.old.to.now) }
+        ensures slice { length self.new.to.now ≡ length self.old.to.now }
+    {
         let pipe = self.pipe;
         let to = &mut *self.to;
         match pipe.step_read(Some(cx.waker()), to) {
             Ok(n) => Poll::Ready(n),
             Err(TryReadError::Empty) => Poll::Pending,
         }
+    }
+}
+
+/// A copy on its way to a reader: what `fill_buf` gives. It acts anew after it was ready, and the reader shows the copy by `filled`.
+#[derive(Drop)]
+pub struct FillBufFuture<'r, 'p, S: ByteState, W, H> {
+    reader: &'r mut PipeReader<'p, S, W, H>,
+}
+
+impl<'r, 'p, S: ByteState<Waker = W>, W: Copy + Eq, H: Hand<W>> FillBufFuture<'r, 'p, S, W, H> {
+    /// Copies the oldest bytes that stand one behind the other. Where there is none, the context's waker waits for one.
+    pub fn poll(&mut self, cx: &Context<W>) -> Poll<()>
+        ensures kept { KeepsCopy result (S.copied self.old.reader.now.row) (S.copied self.new.reader.now.row) }
+    {
+        self.reader.poll_fill_buf(cx)
     }
 }

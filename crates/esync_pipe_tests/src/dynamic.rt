@@ -1,0 +1,143 @@
+//! The ends of any pipe, by a reference to its `dyn` that the test makes.
+use esync_base::waitqueue::{Context, Hand, Poll, TaskId};
+use esync_pipe::pipe::{
+    DynamicPipe, DynamicReader, DynamicWriter, Pipe, TryReadError, TryWriteError,
+};
+use std::alloc::AllocError;
+use std::cell::Cell;
+use std::process::Abort;
+use std::sync::Wait;
+
+// Aborts where a task is woken out of turn: task 1 comes first, and then each comes after the other. A `dyn` of a pipe whose hand
+// borrows gets no proof.
+#[derive(Drop)]
+struct Turns<R> {
+    rt: R,
+    next: Cell<u64>,
+}
+
+impl<R: Wait + Abort> Hand<TaskId> for Turns<R> {
+    type Rt = R;
+
+    fn rt(&self) -> &R {
+        &self.rt
+    }
+
+    fn wake(&self, waker: TaskId) {
+        if waker.0 != self.next.get() {
+            self.rt.abort();
+        }
+        self.next.set(if waker.0 == 1 { 2 } else { 1 });
+    }
+}
+
+// A fill that shows these bytes, or finds none.
+fn fills<P: DynamicPipe + Drop>(rt: &impl Abort, reader: &mut DynamicReader<P>, bytes: &[u8]) {
+    match reader.try_fill_buf() {
+        Ok(()) => assert_eq!(rt; reader.filled(), bytes),
+        Err(TryReadError::Empty) => assert_eq!(rt; bytes.len(), 0),
+    }
+}
+
+// Consumes so many of the bytes that were filled.
+fn consumes<P: DynamicPipe + Drop>(rt: &impl Abort, reader: &mut DynamicReader<P>, count: usize) {
+    assert!(rt; count <= reader.filled().len());
+    reader.consume(count);
+}
+
+#[test]
+fn dynamic_dispatch_pipe(rt: HostRuntime) -> Result<(), AllocError> {
+    let shared: Pipe<TaskId, _, 3> = Pipe::new(Turns {
+        rt,
+        next: Cell::new(1),
+    });
+    let pipe: &dyn DynamicPipe = &shared;
+    let mut reader: DynamicReader<&dyn DynamicPipe> = DynamicReader::new(rt.alloc(), pipe)?;
+    let writer: DynamicWriter<&dyn DynamicPipe> = DynamicWriter::new(pipe);
+    assert!(rt; writer.try_write(&[42, 43]) == Ok(2));
+    fills(&rt, &mut reader, &[42, 43]);
+    fills(&rt, &mut reader, &[42, 43]);
+    consumes(&rt, &mut reader, 1);
+    assert_eq!(rt; reader.filled(), [43].as_slice());
+    fills(&rt, &mut reader, &[43]);
+    consumes(&rt, &mut reader, 1);
+    fills(&rt, &mut reader, &[]);
+    assert!(rt; writer.try_write(&[44, 45, 46]) == Ok(3));
+    assert!(rt; writer.try_write(&[45, 46]) == Err(TryWriteError::Full));
+    fills(&rt, &mut reader, &[44]);
+    consumes(&rt, &mut reader, 1);
+    fills(&rt, &mut reader, &[45, 46]);
+    assert!(rt; writer.try_write(&[47]) == Ok(1));
+    fills(&rt, &mut reader, &[45, 46, 47]);
+    consumes(&rt, &mut reader, 3);
+    assert!(rt; shared.is_empty());
+    Ok(())
+}
+
+// The bytes that are still to be written once a future of these was polled, if there was room.
+fn writes_some<'a, P: DynamicPipe>(
+    writer: &DynamicWriter<P>,
+    from: &'a [u8],
+    cx: &Context<TaskId>,
+) -> Option<&'a [u8]> {
+    let mut write = writer.write(from);
+    let first = write.poll(cx);
+    match first {
+        Poll::Ready(n) => Some(&from[n..]),
+        Poll::Pending => None,
+    }
+}
+
+// The bytes that a future read, if there were any.
+fn reads_some<'a, P: DynamicPipe + Drop>(
+    reader: &mut DynamicReader<P>,
+    to: &'a mut [u8],
+    cx: &Context<TaskId>,
+) -> Option<&'a [u8]> {
+    let first = {
+        let mut read = reader.read(&mut to[..]);
+        read.poll(cx)
+    };
+    match first {
+        Poll::Ready(n) => Some(&to[..n]),
+        Poll::Pending => None,
+    }
+}
+
+#[test]
+fn the_futures_of_any_pipe_wait(rt: HostRuntime) -> Result<(), AllocError> {
+    let shared: Pipe<TaskId, _, 2> = Pipe::new(Turns {
+        rt,
+        next: Cell::new(1),
+    });
+    let pipe: &dyn DynamicPipe = &shared;
+    let mut reader: DynamicReader<&dyn DynamicPipe> = DynamicReader::new(rt.alloc(), pipe)?;
+    let writer: DynamicWriter<&dyn DynamicPipe> = DynamicWriter::new(pipe);
+    let copied = writer;
+    let (one, two) = (
+        Context::from_waker(TaskId(1)),
+        Context::from_waker(TaskId(2)),
+    );
+    let mut to = [0; 4];
+    assert!(rt; reads_some(&mut reader, &mut to[..], &one).is_none());
+    match writes_some(&writer, &[1, 2, 3], &two) {
+        Some(rest) => assert_eq!(rt; rest, [3].as_slice()),
+        None => rt.abort(),
+    }
+    assert!(rt; writes_some(&copied, &[3], &two).is_none());
+    match reads_some(&mut reader, &mut to[..], &one) {
+        Some(bytes) => assert_eq!(rt; bytes, [1, 2].as_slice()),
+        None => rt.abort(),
+    }
+    let mut fill = reader.fill_buf();
+    assert!(rt; fill.poll(&one) == Poll::Pending);
+    assert!(rt; writer.try_write(&[4]) == Ok(1));
+    assert!(rt; fill.poll(&one) == Poll::Ready(()));
+    assert!(rt; fill.poll(&one) == Poll::Ready(()));
+    drop(fill);
+    assert_eq!(rt; reader.filled(), [4].as_slice());
+    assert!(rt; reader.try_read(&mut to[..]) == Ok(1));
+    assert_eq!(rt; reader.filled().len(), 0);
+    assert!(rt; pipe.capacity() == 2);
+    Ok(())
+}
