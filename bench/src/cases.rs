@@ -34,7 +34,7 @@ const fn shared(name: &'static str, case: &'static str, upstream: Pass) -> Case 
     }
 }
 
-pub const CASES: [Case; 25] = [
+pub const CASES: [Case; 30] = [
     state(
         "channel_ping_pong_4",
         ours::ping_pong_4,
@@ -144,6 +144,31 @@ pub const CASES: [Case; 25] = [
         "fair_wait_and_wake",
         ours::fair_wait_and_wake,
         upstream::permits_wait_and_wake::<FairSemaphore<NoopRawMutex, 4>>,
+    ),
+    state(
+        "pipe_byte",
+        ours::pipe_byte,
+        upstream::pipe_blocks::<NoopRawMutex, 16, 1>,
+    ),
+    state(
+        "pipe_16",
+        ours::pipe_16,
+        upstream::pipe_blocks::<NoopRawMutex, 64, 16>,
+    ),
+    state(
+        "pipe_1024",
+        ours::pipe_1024,
+        upstream::pipe_blocks::<NoopRawMutex, 1024, 1024>,
+    ),
+    state(
+        "pipe_1024_of_1500",
+        ours::pipe_1024_of_1500,
+        upstream::pipe_parts::<NoopRawMutex, 1500, 1024>,
+    ),
+    state(
+        "pipe_wait_and_wake",
+        ours::pipe_wait_and_wake,
+        upstream::pipe_wait_and_wake::<NoopRawMutex, 32, 16>,
     ),
     shared(
         "shared_ping_pong_4",

@@ -29,6 +29,12 @@ pub struct Answer {
 /// One pass over the messages.
 pub type Pass = fn(&[u32]) -> Answer;
 
+/// A byte for each message.
+fn bytes(messages: &[u32]) -> &[u8] {
+    // A number is four bytes, and each byte is a `u8`.
+    unsafe { std::slice::from_raw_parts(messages.as_ptr().cast(), messages.len()) }
+}
+
 /// Pseudo-random numbers (xorshift of 32 bits).
 fn messages() -> Vec<u32> {
     let mut state = 0x9E37_79B9u32;

@@ -3,24 +3,29 @@ use std::path::Path;
 use std::process::Command;
 use std::time::Duration;
 
-use crate::Answer;
+use crate::{bytes, Answer};
 
 /// How the static library's exports are called: a slice is a pointer and then a length.
-type Export = unsafe extern "C" fn(*const u32, usize, *mut u64, usize) -> u64;
+type Export<T> = unsafe extern "C" fn(*const T, usize, *mut u64, usize) -> u64;
 
 macro_rules! exports {
-    ($($name:ident = $export:ident;)*) => {
+    ($row:ident: &[$message:ty]; $($name:ident = $export:ident;)*) => {
         extern "C" {
-            $(fn $export(messages: *const u32, count: usize, woken: *mut u64, tasks: usize) -> u64;)*
+            $(fn $export(messages: *const $message, count: usize, woken: *mut u64, tasks: usize) -> u64;)*
         }
 
         $(pub fn $name(messages: &[u32]) -> Answer {
-            pass($export, messages)
+            pass($export, $row(messages))
         })*
     };
 }
 
+fn whole(messages: &[u32]) -> &[u32] {
+    messages
+}
+
 exports! {
+    whole: &[u32];
     ping_pong_4 = esync_bench_channel_ping_pong_4;
     ping_pong_64 = esync_bench_channel_ping_pong_64;
     ping_pong_1024 = esync_bench_channel_ping_pong_1024;
@@ -45,7 +50,16 @@ exports! {
     fair_wait_and_wake = esync_bench_fair_wait_and_wake;
 }
 
-fn pass(export: Export, messages: &[u32]) -> Answer {
+exports! {
+    bytes: &[u8];
+    pipe_byte = esync_bench_pipe_byte;
+    pipe_16 = esync_bench_pipe_16;
+    pipe_1024 = esync_bench_pipe_1024;
+    pipe_1024_of_1500 = esync_bench_pipe_1024_of_1500;
+    pipe_wait_and_wake = esync_bench_pipe_wait_and_wake;
+}
+
+fn pass<T>(export: Export<T>, messages: &[T]) -> Answer {
     let mut woken = [0];
     // An export requires nothing but two slices that nobody else writes.
     let total = unsafe {

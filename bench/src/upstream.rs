@@ -7,11 +7,12 @@ use std::task::{Context, Poll, RawWaker, RawWakerVTable, Waker};
 
 use embassy_sync::blocking_mutex::raw::RawMutex;
 use embassy_sync::channel::Channel;
+use embassy_sync::pipe::Pipe;
 use embassy_sync::priority_channel::{Max, PriorityChannel};
 use embassy_sync::semaphore::{FairSemaphore, GreedySemaphore, Semaphore, SemaphoreReleaser};
 use embassy_sync::signal::Signal;
 
-use crate::Answer;
+use crate::{bytes, Answer};
 
 /// A word that is read between two calls, as in the static library.
 struct Turn(AtomicU64);
@@ -324,6 +325,117 @@ pub fn permits_wait_and_wake<S: Permits>(messages: &[u32]) -> Answer {
     let total = permits_wait_and_wake_through(
         &S::with(0),
         messages,
+        &mut Context::from_waker(&waker),
+        &Turn::new(),
+    );
+    answer(total, count.get())
+}
+
+#[inline(never)]
+fn pipe_blocks_through<M: RawMutex, const N: usize>(
+    pipe: &Pipe<M, N>,
+    block: &mut [u8],
+    row: &mut [u8],
+    messages: &[u8],
+    turn: &Turn,
+) -> u64 {
+    let last = block.len() - 1;
+    let mut total = 0u64;
+    for message in messages {
+        block[last] = *message;
+        let _ = pipe.try_write(block);
+        turn.next();
+        let _ = pipe.try_read(row);
+        turn.next();
+        total = total.wrapping_add(row[last].into());
+    }
+    total
+}
+
+/// Blocks of `K` bytes that never go across the wrap.
+pub fn pipe_blocks<M: RawMutex, const N: usize, const K: usize>(messages: &[u32]) -> Answer {
+    let total = pipe_blocks_through(
+        &Pipe::<M, N>::new(),
+        &mut [0; K],
+        &mut [0; K],
+        bytes(messages),
+        &Turn::new(),
+    );
+    answer(total, 0)
+}
+
+#[inline(never)]
+fn pipe_parts_through<M: RawMutex, const N: usize>(
+    pipe: &Pipe<M, N>,
+    block: &mut [u8],
+    row: &mut [u8],
+    messages: &[u8],
+    turn: &Turn,
+) -> u64 {
+    let last = block.len() - 1;
+    let mut total = 0u64;
+    for message in messages {
+        block[last] = *message;
+        let mut rest = &block[..];
+        while !rest.is_empty() {
+            rest = &rest[pipe.try_write(rest).unwrap_or(rest.len())..];
+        }
+        turn.next();
+        let mut done = 0;
+        while done < row.len() {
+            done += pipe.try_read(&mut row[done..]).unwrap_or(row.len());
+        }
+        turn.next();
+        total = total.wrapping_add(row[last].into());
+    }
+    total
+}
+
+/// Blocks of `K` bytes that go across the wrap, where a call stops: it is called until all bytes are through.
+pub fn pipe_parts<M: RawMutex, const N: usize, const K: usize>(messages: &[u32]) -> Answer {
+    let total = pipe_parts_through(
+        &Pipe::<M, N>::new(),
+        &mut [0; K],
+        &mut [0; K],
+        bytes(messages),
+        &Turn::new(),
+    );
+    answer(total, 0)
+}
+
+#[inline(never)]
+fn pipe_wait_and_wake_through<M: RawMutex, const N: usize>(
+    pipe: &Pipe<M, N>,
+    block: &mut [u8],
+    row: &mut [u8],
+    messages: &[u8],
+    cx: &mut Context<'_>,
+    turn: &Turn,
+) -> u64 {
+    let last = block.len() - 1;
+    let mut total = 0u64;
+    for message in messages {
+        block[last] = *message;
+        let mut reading = pin!(pipe.read(row));
+        let _ = reading.as_mut().poll(cx);
+        turn.next();
+        let _ = pipe.try_write(block);
+        turn.next();
+        let _ = reading.as_mut().poll(cx);
+        turn.next();
+        total = total.wrapping_add(row[last].into());
+    }
+    total
+}
+
+pub fn pipe_wait_and_wake<M: RawMutex, const N: usize, const K: usize>(messages: &[u32]) -> Answer {
+    let count = Cell::new(0);
+    let waker = counted(&count);
+    let total = pipe_wait_and_wake_through(
+        &Pipe::<M, N>::new(),
+        &mut [0; K],
+        &mut [0; K],
+        bytes(messages),
         &mut Context::from_waker(&waker),
         &Turn::new(),
     );

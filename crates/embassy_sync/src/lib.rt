@@ -9,5 +9,6 @@ pub use esync_cells::signal;
 pub use esync_channel::channel;
 pub use esync_history::executor;
 pub use esync_permits::semaphore;
+pub use esync_pipe::pipe;
 pub use esync_priority::{prio, priority_channel};
 pub use esync_run as run;

@@ -37,16 +37,18 @@ impl<const N: usize> RingBuffer<N> {
         RingBuffer { start: 0, len: 0 }
     }
 
-    // The place so many places behind the first.
+    // The place so many places behind the first. The subtraction stands before the branch: else `pop` may load both fields as one vector,
+    // right behind a store of one, for which the processor waits.
     fn place(&self, behind: usize) -> usize
         requires { behind ≤ N }
         ensures { result ≡ slot N self.now.front behind }
     {
         let before_end = N - self.start;
+        let from_first = behind.saturating_sub(before_end);
         if behind < before_end {
             self.start + behind
         } else {
-            behind - before_end
+            from_first
         }
     }
 
@@ -323,7 +325,8 @@ impl<const N: usize> ByteRing<N> {
 
     /// The oldest bytes, as many as stand one behind the other. They stay.
     pub fn filled(&self) -> &[u8]
-        ensures { result.now ≡ take (N - self.now.front) self.now.items }
+        ensures value { result.now ≡ take (N - self.now.front) self.now.items }
+        ensures some { 0 < length self.now.items → 0 < length result.now }
     {
         let run = self.ring.pop_buf();
         let places = &self.row.bytes[..];

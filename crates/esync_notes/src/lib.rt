@@ -3,7 +3,6 @@
 
 use esync_base::waitqueue::{Hand, Wakes};
 use std::cell::Cell;
-use std::process::Abort;
 use std::sync::Wait;
 
 /// A hand that notes the wakers that it was given, in order. It has room for 8.
@@ -11,6 +10,7 @@ use std::sync::Wait;
 pub struct Notes<'a, R> {
     rt: &'a R,
     given: Cell<Wakes<u64, 8>>,
+    has_lost: Cell<bool>,
 }
 
 impl<'a, R: Wait> Notes<'a, R> {
@@ -18,11 +18,27 @@ impl<'a, R: Wait> Notes<'a, R> {
         Notes {
             rt,
             given: Cell::new(Wakes::new()),
+            has_lost: Cell::new(false),
         }
+    }
+
+    /// Whether it was given just these wakers, in this order, since it was last asked. It wasn't where it was given more than it
+    /// has room for.
+    pub fn are(&self, wakers: &[u64]) -> bool {
+        let given = self.given.replace(Wakes::new());
+        if self.has_lost.replace(false) || given.len() != wakers.len() {
+            return false;
+        }
+        for (noted, waker) in given.as_slice().iter().zip(wakers) {
+            if *noted != Some(*waker) {
+                return false;
+            }
+        }
+        true
     }
 }
 
-impl<R: Wait + Abort> Hand<u64> for &Notes<'_, R> {
+impl<R: Wait> Hand<u64> for &Notes<'_, R> {
     type Rt = R;
 
     fn rt(&self) -> &R {
@@ -32,7 +48,8 @@ impl<R: Wait + Abort> Hand<u64> for &Notes<'_, R> {
     fn wake(&self, waker: u64) {
         let mut given = self.given.get();
         if given.len() == 8 {
-            self.rt.abort();
+            self.has_lost.set(true);
+            return;
         }
         given.push(waker);
         self.given.set(given);
@@ -40,12 +57,11 @@ impl<R: Wait + Abort> Hand<u64> for &Notes<'_, R> {
 }
 
 /// The hand was given these wakers in this order since it was last asked.
-pub fn woken<R: Wait>(rt: &impl Abort, notes: &Notes<'_, R>, wakers: &[u64]) {
-    let given = notes.given.replace(Wakes::new());
-    assert_eq!(rt; given.len(), wakers.len());
-    for (noted, waker) in given.as_slice().iter().zip(wakers) {
-        assert_eq!(rt; *noted, Some(*waker));
-    }
+#[macro_export]
+macro_rules! woken {
+    ($rt:expr, $notes:expr, $wakers:expr) => {
+        assert!($rt; $notes.are($wakers))
+    };
 }
 
 /// Drops a future, if this is the point where it is to be dropped.

@@ -127,7 +127,9 @@ module _ (W : Type 0) (n : ℕ) where
     called (TryRead count) a t = rw t.1 (tried_read count t.0 t.2)
     called TryFill a t = rw t.1 (tried_fill t.0 t.2)
     called (Consume count) a t = consumed count (nat_lt (length (shown n o)) count) a t
-    called Clear a t = rw t.0 (ap (λ (x : Ringed ℕ). k.written ++ x.items) t.1 ∙ append-nil k.written)
+    called Clear a t =
+        let taken = k.taken ++ drop (length k.taken) k.written in
+        rw t.0 (ap (λ (x : Ringed ℕ). taken ++ x.items) t.1 ∙ append-nil taken ∙ ap (λ (l : List ℕ). k.taken ++ l) (sym (held-told o k order)) ∙ order)
     called Len a t = rw t.0 (same_held o o2 k t.1 order)
     called FreeCapacity a t = rw t.1 (same_held o o2 k t.3 order)
 

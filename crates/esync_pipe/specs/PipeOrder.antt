@@ -70,7 +70,7 @@ module _ (n : ℕ) where
   taken_after k (Poll r w) (Gives (HasRead bytes)) = k.taken ++ bytes
   taken_after k (Call (TryRead count)) (Gives (HasTriedRead (Ok bytes))) = k.taken ++ bytes
   taken_after k (Call (Consume count)) Done = k.taken ++ take count (drop (length k.taken) k.written)
-  taken_after k (Call Clear) Done = k.written
+  taken_after k (Call Clear) Done = k.taken ++ drop (length k.taken) k.written
   taken_after k _ _ = k.taken
 
   abbrev pub after : {W : Type 0} → Account → Command PipeAsk W PipeCall → Answer PipeHeard → Account

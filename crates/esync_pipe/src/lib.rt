@@ -3,5 +3,3 @@
 
 pub mod bytes;
 pub mod pipe;
-#[cfg(test)]
-mod tests;

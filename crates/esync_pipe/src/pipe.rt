@@ -171,6 +171,7 @@ impl<W: Copy + Eq, const N: usize> PipeState<W, N> {
     /// Shows the oldest bytes, as many as stand one behind the other. They stay, until `consume` drops them.
     pub fn try_fill_buf(&self) -> Result<&[u8], TryReadError>
         ensures ok { IfOk result (λ bytes. (0 < length self.now.ring.items) × (bytes.now ≡ shown N self.now.ring)) }
+        ensures some { IfOk result (λ bytes. 0 < length bytes.now) }
         ensures err { OnErr result (length self.now.ring.items ≡ 0) }
     {
         if self.is_empty() {
@@ -188,6 +189,7 @@ impl<W: Copy + Eq, const N: usize> PipeState<W, N> {
         requires { length wakes.old < K }
         ensures* leaves { sem 𝓛 (follows_so (the_row W.row N.row) (the_row W.row N.row) self.entry.ghost_name none (λ _ _. ⊤) (λ v. v ≡ record { ring = self.old.ring; slots = slots_after_fill W.eq (option_copied cx.entry) (is_ok result) self.old.slots })) }
         ensures ok { IfOk result (λ bytes. (0 < length self.old.ring.items) × (bytes.now ≡ shown N self.old.ring)) }
+        ensures some { IfOk result (λ bytes. 0 < length bytes.now) }
         ensures err { OnErr result (length self.old.ring.items ≡ 0) }
         ensures wakes { wakes.new ≡ wakes.old ++ wakes_of_fill W.eq (option_copied cx.entry) (is_ok result) self.old.slots }
     {
@@ -211,7 +213,8 @@ impl<W: Copy + Eq, const N: usize> PipeState<W, N> {
 
     // The oldest bytes, as many as stand one behind the other.
     pub(crate) fn shown(&self) -> &[u8]
-        ensures { result.now ≡ shown N self.now.ring }
+        ensures value { result.now ≡ shown N self.now.ring }
+        ensures some { 0 < length self.now.ring.items → 0 < length result.now }
     {
         self.buffer.filled()
     }

@@ -7,4 +7,6 @@ pub use esync_cells::signal::machine as signal;
 pub use esync_channel::channel::machine as channel;
 pub use esync_machine::{primitive, requests, run};
 pub use esync_permits::semaphore::machine as semaphore;
+pub use esync_pipe::bytes;
+pub use esync_pipe::pipe::machine as pipe;
 pub use esync_priority::priority_channel::machine as priority_channel;

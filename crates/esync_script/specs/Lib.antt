@@ -1,4 +1,5 @@
 pub mod Channel
 pub mod Signal
 pub mod Semaphore
+pub mod Pipe
 pub mod Opening

@@ -13,6 +13,9 @@ use Rattle.esync_channel.specs.ChannelRules.{channel_rules, channel_wakings}
 use Rattle.esync_cells.specs.SignalRules.{signal_rules, signal_wakings}
 use Rattle.esync_permits.specs.GreedyRules.{greedy_rules, greedy_wakings}
 use Rattle.esync_permits.specs.FairRules.{fair_rules, fair_wakings}
+use Rattle.esync_base.specs.Ring.{Ringed}
+use Rattle.esync_pipe.specs.PipeRules.{pipe_rules, pipe_wakings}
+use Rattle.esync_pipe.specs.Piped.{Slots as PipeSlots}
 use Rattle.esync_words.specs.declared.fault.Fault.{Fault}
 use Rattle.esync_words.specs.declared.play.Giver.{Giver}
 use Rattle.esync_words.specs.Fault.{status_of}
@@ -23,9 +26,10 @@ use Rattle.esync_words.specs.Tells.{tells_of}
 use Rattle.esync_script.specs.declared.opening.Capacity.{Capacity}
 use Rattle.esync_script.specs.declared.opening.Capacity.TheVariants.{One, Two, Three, Four, Eight}
 use Rattle.esync_script.specs.declared.opening.Opening.{Opening}
-use Rattle.esync_script.specs.declared.opening.Opening.TheVariants.{Channel, Max, Min, Signal, Greedy, Fair}
+use Rattle.esync_script.specs.declared.opening.Opening.TheVariants.{Channel, Max, Min, Signal, Greedy, Fair, Pipe}
 use Rattle.esync_script.specs.Channel.{channel_asks, channel_calls, channel_text}
 use Rattle.esync_script.specs.Signal.{signal_asks, signal_calls, signal_text}
+use Rattle.esync_script.specs.Pipe.{pipe_asks, pipe_calls, pipe_text}
 use Rattle.esync_script.specs.Semaphore.{permit_asks, permit_calls, permit_text, fair_text}
 use Rattle.std.specs.Prelude.{decimal}
 
@@ -58,6 +62,7 @@ opening name words =
     else if is_text name (codes "signal") then and_then (one 64 words) (only_one Signal)
     else if is_text name (codes "greedy") then and_then (two 64 64 words) (λ p. only_one (Greedy p.1) p.0)
     else if is_text name (codes "fair") then and_then (two 64 64 words) (λ p. option_map (λ c. Fair c p.1) (capacity p.0))
+    else if is_text name (codes "pipe") then option_map (λ c. Pipe c) (and_then (one 64 words) capacity)
     else None
 
 -- without requests
@@ -68,31 +73,44 @@ new_object core = record { core = core; requests = replicate 16 None }
 abbrev pub nobody_waits : Slots ℕ
 nobody_waits = record { receivers = []; senders = [] }
 
+-- no byte, and no waker in either slot
+abbrev pub an_empty_pipe : Ringed ℕ
+an_empty_pipe = record { items = []; front = 0 }
+
+abbrev pub no_slot : PipeSlots ℕ
+no_slot = record { readers = []; writers = [] }
+
 -- What is played behind line n: a run of the named primitive, which begins as that line says, without requests and with no waker
--- registered.
+-- registered. A step hands out so many wakers at most.
 module _ (eq : ℕ → ℕ → Bool) (tells : (A : Type 0) → (A → List ℕ) → List ℕ → Giver → Answer A → List ℕ → List ℕ) where
-  abbrev pub PlaysAs : {Ask Held C A : Type 0} (R : Rules Ask Held C A) (T : Wakings R.Core Held C A ℕ) → (List ℕ → List (List ℕ) → Option Ask) → (List ℕ → List (List ℕ) → Option C) → (A → List ℕ) → R.Core → T.Registered → ℕ → Option (List ℕ) → Option (List ℕ) → Option (List ℕ) → Result (Unit {0}) Fault → Type 0
-  PlaysAs {A = A} R T asks calls text core registered n left before after outcome =
-      Played (requests_meaning R T eq 1) (says (command asks calls)) (tells_of (λ a. a.answer) (λ a. a.wakes) (tells A text)) (new_object core) registered n left before after outcome
+  abbrev pub PlaysAs : {Ask Held C A : Type 0} (most : ℕ) (R : Rules Ask Held C A) (T : Wakings R.Core Held C A ℕ) → (List ℕ → List (List ℕ) → Option Ask) → (List ℕ → List (List ℕ) → Option C) → (A → List ℕ) → R.Core → T.Registered → ℕ → Option (List ℕ) → Option (List ℕ) → Option (List ℕ) → Result (Unit {0}) Fault → Type 0
+  PlaysAs {A = A} most R T asks calls text core registered n left before after outcome =
+      Played (requests_meaning R T eq most) (says (command asks calls)) (tells_of (λ a. a.answer) (λ a. a.wakes) (tells A text)) (new_object core) registered n left before after outcome
 
   -- a channel or a priority channel
   abbrev pub PlaysMessages : Keeping ℕ → ℕ → Option (List ℕ) → Option (List ℕ) → Option (List ℕ) → Result (Unit {0}) Fault → Type 0
   PlaysMessages keeping n left before after outcome =
-      PlaysAs (channel_rules keeping) (channel_wakings eq keeping) channel_asks channel_calls channel_text [] nobody_waits n left before after outcome
+      PlaysAs 1 (channel_rules keeping) (channel_wakings eq keeping) channel_asks channel_calls channel_text [] nobody_waits n left before after outcome
 
   abbrev pub PlaysFair : ℕ → ℕ → ℕ → Option (List ℕ) → Option (List ℕ) → Option (List ℕ) → Result (Unit {0}) Fault → Type 0
   PlaysFair places permits n left before after outcome =
-      PlaysAs (fair_rules places) fair_wakings permit_asks permit_calls (permit_text fair_text) (record { permits = permits; queue = [] }) [] n left before after outcome
+      PlaysAs 1 (fair_rules places) fair_wakings permit_asks permit_calls (permit_text fair_text) (record { permits = permits; queue = [] }) [] n left before after outcome
+
+  -- a pipe, of which a step hands out two wakers at most
+  abbrev pub PlaysPipe : ℕ → ℕ → Option (List ℕ) → Option (List ℕ) → Option (List ℕ) → Result (Unit {0}) Fault → Type 0
+  PlaysPipe places n left before after outcome =
+      PlaysAs 2 (pipe_rules places) (pipe_wakings eq places) pipe_asks pipe_calls pipe_text an_empty_pipe no_slot n left before after outcome
 
   abbrev pub Plays : (max_above min_above : ℕ → ℕ → Bool) → Opening → ℕ → Option (List ℕ) → Option (List ℕ) → Option (List ℕ) → Result (Unit {0}) Fault → Type 0
   Plays max_above min_above (Channel c) n left before after outcome = PlaysMessages (BoundedList ℕ (places c)) n left before after outcome
   Plays max_above min_above (Max c) n left before after outcome = PlaysMessages (Bag ℕ max_above (places c)) n left before after outcome
   Plays max_above min_above (Min c) n left before after outcome = PlaysMessages (Bag ℕ min_above (places c)) n left before after outcome
   Plays max_above min_above Signal n left before after outcome =
-      PlaysAs (signal_rules ℕ) (signal_wakings eq) signal_asks signal_calls signal_text None [] n left before after outcome
+      PlaysAs 1 (signal_rules ℕ) (signal_wakings eq) signal_asks signal_calls signal_text None [] n left before after outcome
   Plays max_above min_above (Greedy permits) n left before after outcome =
-      PlaysAs greedy_rules (greedy_wakings eq) permit_asks permit_calls (permit_text decimal) permits [] n left before after outcome
+      PlaysAs 1 greedy_rules (greedy_wakings eq) permit_asks permit_calls (permit_text decimal) permits [] n left before after outcome
   Plays max_above min_above (Fair c permits) n left before after outcome = PlaysFair (places c) permits n left before after outcome
+  Plays max_above min_above (Pipe c) n left before after outcome = PlaysPipe (places c) n left before after outcome
 
   -- A whole script: line 1 names a primitive, and the lines behind it are played; or it names none; or a read, a write or memory
   -- failed before.

@@ -14,6 +14,7 @@ use std::io::{self, BufWriter, Read, Write};
 
 pub mod channel;
 pub mod opening;
+pub mod pipe;
 pub mod semaphore;
 pub mod signal;
 

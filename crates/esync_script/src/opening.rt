@@ -2,13 +2,14 @@
 ghost use Rattle.std.specs.Prelude.{◌≡◌, ℕ, []};
 ghost use Rattle.esync_base.specs.Keeping.{BoundedList};
 ghost use Rattle.esync_priority.specs.Prio.{Bag};
-ghost use Rattle.esync_script.specs.Opening.{places, capacity, opening, new_object, nobody_waits, Plays, PlaysMessages, PlaysFair, PlaysScript};
+ghost use Rattle.esync_script.specs.Opening.{places, capacity, opening, new_object, nobody_waits, no_slot, an_empty_pipe, Plays, PlaysMessages, PlaysFair, PlaysPipe, PlaysScript};
 ghost use Rattle.esync_words.specs.Commands.{says, command};
 ghost use Rattle.esync_words.specs.Played.{Played};
 ghost use Rattle.esync_words.specs.Tells.{tells_of};
 ghost use Rattle.esync_words.specs.Words.{one, and_then};
 
 use crate::channel::ChannelWords;
+use crate::pipe::PipeWords;
 use crate::semaphore::{FairWords, GreedyWords};
 use crate::signal::SignalWords;
 use esync_base::deque::Deque;
@@ -22,6 +23,8 @@ use esync_machine::run::Machine;
 use esync_permits::semaphore::machine::fair::FairRun;
 use esync_permits::semaphore::machine::greedy::GreedyRun;
 use esync_permits::semaphore::{FairState, GreedyState};
+use esync_pipe::pipe::PipeState;
+use esync_pipe::pipe::machine::PipeRun;
 use esync_priority::prio::{Kind, Max, Min, PrioQueue};
 use esync_words::fault::Fault;
 use esync_words::lines::Lines;
@@ -69,6 +72,7 @@ pub enum Opening {
     Signal,
     Greedy(usize),
     Fair(Capacity, usize),
+    Pipe(Capacity),
 }
 
 impl Opens for Opening {
@@ -90,6 +94,7 @@ impl Opens for Opening {
                 let (places, permits) = words.two_numbers()?;
                 Some(Opening::Fair(capacity_of(places)?, permits as usize))
             }
+            "pipe" => Some(Opening::Pipe(read_capacity(words)?)),
             _ => None,
         }
     }
@@ -145,6 +150,14 @@ fn fair<const N: usize>(permits: usize) -> FairRun<u64, N, REQS, 1>
     ensures registrations { ⟦<FairRun<u64, N, REQS, 1> as Machine>⟧.semantics.registrations result ≡ [] }
 {
     Requests::new(FairState::new(permits))
+}
+
+// An empty pipe of `N` bytes, with no request.
+fn pipe<const N: usize>() -> PipeRun<u64, N, REQS, 2>
+    ensures object { ⟦<PipeRun<u64, N, REQS, 2> as Machine>⟧.semantics.object result ≡ new_object an_empty_pipe }
+    ensures registrations { ⟦<PipeRun<u64, N, REQS, 2> as Machine>⟧.semantics.registrations result ≡ no_slot }
+{
+    Requests::new(PipeState::new())
 }
 
 // An expression of a capacity, which has to be written for each: a number of places is part of a machine's type.
@@ -220,6 +233,24 @@ fn serve_fair<T: Telling, R: Read + Drop, W: Write>(
     at_capacity!(capacity, serve_queue!(permits, telling, lines, output))
 }
 
+// A script over a pipe of at most `n` bytes.
+macro_rules! serve_bytes {
+    ($n:literal, $telling:ident, $lines:ident, $output:ident) => {
+        serve::<PipeWords, _, T, R, W>($telling, pipe::<$n>(), $lines, $output)
+    };
+}
+
+fn serve_pipe<T: Telling, R: Read + Drop, W: Write>(
+    telling: &T,
+    capacity: Capacity,
+    lines: &mut Lines<R>,
+    output: &mut W,
+) -> Result<(), Fault>
+    ensures { PlaysPipe ⟦<u64 as PartialEq>⟧.eq T.tells (places capacity) lines.old.number lines.old.left (W.contents output.old) (W.contents output.new) result }
+{
+    at_capacity!(capacity, serve_bytes!(telling, lines, output))
+}
+
 // Makes the primitive that line 1 names, and plays the lines behind it.
 fn serve_opening<T: Telling, R: Read + Drop, W: Write>(
     telling: &T,
@@ -238,6 +269,7 @@ fn serve_opening<T: Telling, R: Read + Drop, W: Write>(
             serve::<GreedyWords, _, T, R, W>(telling, greedy(permits), lines, output)
         }
         Opening::Fair(capacity, permits) => serve_fair(telling, capacity, permits, lines, output),
+        Opening::Pipe(capacity) => serve_pipe(telling, capacity, lines, output),
     }
 }
 

@@ -196,9 +196,50 @@ fn a_greedy_request_overtakes(rt: HostRuntime) -> Result<(), Fail> {
 }
 
 #[test]
+fn what_is_written_across_the_wrap_is_read_at_once(rt: HostRuntime) -> Result<(), Fail> {
+    assert_answers(
+        &rt,
+        "pipe 3\nstart 0 read 2\npoll 0 9\nstart 1 write-all 1,2,3,4,5\npoll 1 1\npoll 0 9\npoll 1 1\ntry-read 16\ntry-read 16\ntry-read 16\n",
+        "Ok | -\nPending | -\nOk | -\nPending | 9\nReady(1,2) | 1\nReady | -\nOk(3,4,5) | -\nErr(Empty) | -\nErr(Empty) | -\n",
+    )
+}
+
+#[test]
+fn who_consumes_from_a_full_pipe_makes_room(rt: HostRuntime) -> Result<(), Fail> {
+    assert_answers(
+        &rt,
+        "pipe 1\ntry-write 9\ntry-write -\nstart 0 write 8\npoll 0 1\ntry-fill\nconsume 2\nconsume 1\npoll 0 1\nlen\nclear\ntry-fill\nstart 0 fill\npoll 0 2\ntry-write 7\npoll 0 2\n",
+        "Ok(1) | -\nErr(Full) | -\nOk | -\nPending | -\nOk(9) | -\nErr(NoSuch) | -\nOk | 1\nReady(1) | -\n1 | -\nOk | -\nErr(Empty) | -\nOk | -\nPending | -\nOk(1) | 2\nReady(7) | -\n",
+    )
+}
+
+#[test]
+fn bytes_are_read_and_printed(rt: HostRuntime) -> Result<(), Fail> {
+    for (input, output) in [
+        ("try-write -\ntry-read 16\n", "Ok(0) | -\nErr(Empty) | -\n"),
+        (
+            "try-write 0,007,255\ntry-read 0\ntry-read 1\ntry-read 016\n",
+            "Ok(3) | -\nOk(-) | -\nOk(0) | -\nOk(7,255) | -\n",
+        ),
+        (
+            "try-write 1,2,3,4,5,6,7,8,9,10,11,12,13,14,15,16\ntry-fill\n",
+            "Ok(8) | -\nOk(1,2,3,4,5,6,7,8) | -\n",
+        ),
+        (
+            "start 0 write-all -\npoll 0 1\nstart 0 write -\npoll 0 1\nfree\n",
+            "Ok | -\nReady | -\nOk | -\nReady(0) | -\n8 | -\n",
+        ),
+    ] {
+        let input = format!(in rt.alloc(); "pipe 8\n{input}")?;
+        assert_answers(&rt, &input, output)?;
+    }
+    Ok(())
+}
+
+#[test]
 fn each_primitive_has_its_capacity(rt: HostRuntime) -> Result<(), Fail> {
     for capacity in ["1", "2", "3", "4", "8"] {
-        for primitive in ["channel", "max", "min"] {
+        for primitive in ["channel", "max", "min", "pipe"] {
             let input = format!(in rt.alloc(); "{primitive} {capacity}\nfree\n")?;
             let output = format!(in rt.alloc(); "{capacity} | -\n")?;
             assert_answers(&rt, &input, &output)?;
@@ -317,6 +358,10 @@ fn line_1_names_a_primitive(rt: HostRuntime) -> Result<(), Fail> {
         "fair 5 1\n",
         "fair 2 18446744073709551616\n",
         "fair 2 1 1\n",
+        "pipe\n",
+        "pipe 0\n",
+        "pipe 5\n",
+        "pipe 3 1\n",
         "len\n",
     ] {
         let played = play(rt.alloc(), input.as_bytes());
@@ -328,6 +373,27 @@ fn line_1_names_a_primitive(rt: HostRuntime) -> Result<(), Fail> {
         assert_eq!(rt; played.output.len(), 0, "at {input:?}");
         assert_eq!(rt; played.status, 2, "at {input:?}");
     }
+    Ok(())
+}
+
+/// Line 3 is no command: the script ends before it.
+fn assert_no_command(
+    rt: &(impl Abort + AllocGlobal),
+    head: &[u8],
+    output: &str,
+    line: &[u8],
+) -> Result<(), Fail> {
+    let mut input = Vec::from_slice(rt.alloc(), head)?;
+    input.extend_from_slice(line)?;
+    input.extend_from_slice(b"\nlen\n")?;
+    let played = play(rt.alloc(), &input);
+    assert_eq!(rt; str::from_utf8(&played.output)?, output, "at {line:?}");
+    assert_eq!(rt;
+        str::from_utf8(&played.errors)?,
+        "line 3: not a command\n",
+        "at {line:?}"
+    );
+    assert_eq!(rt; played.status, 2, "at {line:?}");
     Ok(())
 }
 
@@ -367,17 +433,50 @@ fn a_line_that_is_no_command_ends_the_script(rt: HostRuntime) -> Result<(), Fail
         b"start 0 send 4294967296",
         b"try-send 99999999999999999999999999",
     ] {
-        let mut input = Vec::from_slice(rt.alloc(), b"channel 2\ntry-send 1\n")?;
-        input.extend_from_slice(line)?;
-        input.extend_from_slice(b"\nlen\n")?;
-        let played = play(rt.alloc(), &input);
-        assert_eq!(rt; str::from_utf8(&played.output)?, "Ok | -\n", "at {line:?}");
-        assert_eq!(rt;
-            str::from_utf8(&played.errors)?,
-            "line 3: not a command\n",
-            "at {line:?}"
-        );
-        assert_eq!(rt; played.status, 2, "at {line:?}");
+        assert_no_command(&rt, b"channel 2\ntry-send 1\n", "Ok | -\n", line)?;
+    }
+    Ok(())
+}
+
+#[test]
+fn words_of_a_pipe_that_are_no_bytes(rt: HostRuntime) -> Result<(), Fail> {
+    for line in [
+        b"try-write".as_slice(),
+        b"try-write ",
+        b"try-write 1 2",
+        b"try-write 1,",
+        b"try-write ,1",
+        b"try-write 1,,2",
+        b"try-write ,",
+        b"try-write --",
+        b"try-write -,1",
+        b"try-write -1",
+        b"try-write +1",
+        b"try-write 1;2",
+        b"try-write 0x1",
+        b"try-write 256",
+        b"try-write 1,4294967296",
+        b"try-write 18446744073709551616",
+        b"try-write 1,2,3,4,5,6,7,8,9,10,11,12,13,14,15,16,17",
+        b"try-write 1,2,3,4,5,6,7,8,9,10,11,12,13,14,15,16,",
+        b"start 0 write",
+        b"start 0 write-all 1,",
+        b"start 0 read",
+        b"start 0 read 17",
+        b"start 0 read 1,2",
+        b"start 0 fill 1",
+        b"start 0 try-fill",
+        b"try-read 17",
+        b"try-read 18446744073709551616",
+        b"try-read -",
+        b"try-fill 1",
+        b"consume",
+        b"consume 18446744073709551616",
+        b"fill",
+        b"write 1",
+        b"try-send 1",
+    ] {
+        assert_no_command(&rt, b"pipe 3\ntry-write 1\n", "Ok(1) | -\n", line)?;
     }
     Ok(())
 }

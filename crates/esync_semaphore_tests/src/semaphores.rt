@@ -18,7 +18,7 @@ fn waits<S: PermitState<Waker = u64>, H: Hand<u64>, R: Wait>(
     assert!(rt; !request.is_finished());
     let answer = request.poll(&Context::from_waker(waker));
     assert!(rt; matches!(answer, Poll::Pending));
-    woken(rt, notes, handed_out);
+    woken!(rt, notes, handed_out);
 }
 
 // A poll that is granted this number of permits, and hands out these wakers.
@@ -35,7 +35,7 @@ fn is_granted<'a, S: PermitState<Waker = u64>, H: Hand<u64>, R: Wait>(
         Poll::Ready(Ok(releaser)) => {
             assert_eq!(rt; releaser.permits(), permits);
             assert!(rt; request.is_finished());
-            woken(rt, notes, handed_out);
+            woken!(rt, notes, handed_out);
             releaser
         }
         _ => rt.abort(),
@@ -60,10 +60,10 @@ fn a_greedy_request_waits_for_all_its_permits(rt: HostRuntime) {
     let second = takes_one(&rt, &semaphore);
     waits(&rt, &notes, &mut large, 1, &[]);
     drop(first);
-    woken(&rt, &notes, &[1]);
+    woken!(&rt, &notes, &[1]);
     waits(&rt, &notes, &mut large, 1, &[]);
     drop(second);
-    woken(&rt, &notes, &[1]);
+    woken!(&rt, &notes, &[1]);
     let releaser = is_granted(&rt, &notes, &mut large, 1, 3, &[]);
     assert_eq!(rt; semaphore.permits(), 0);
     releaser.end();
@@ -85,14 +85,14 @@ fn a_small_fair_request_may_not_overtake(rt: HostRuntime) {
     let refused = late.poll(&Context::from_waker(3));
     assert!(rt; matches!(refused, Poll::Ready(Err(WaitQueueFull))));
     assert!(rt; late.is_finished());
-    woken(&rt, &notes, &[]);
+    woken!(&rt, &notes, &[]);
     drop(first);
-    woken(&rt, &notes, &[1]);
+    woken!(&rt, &notes, &[1]);
     waits(&rt, &notes, &mut small, 2, &[]);
     let releaser = is_granted(&rt, &notes, &mut large, 1, 3, &[2]);
     waits(&rt, &notes, &mut small, 2, &[]);
     releaser.end();
-    woken(&rt, &notes, &[2]);
+    woken!(&rt, &notes, &[2]);
     let releaser = is_granted(&rt, &notes, &mut small, 2, 1, &[]);
     assert_eq!(rt; semaphore.permits(), 2);
     assert_eq!(rt; releaser.disarm(), 1);
@@ -108,7 +108,7 @@ fn the_new_front_is_told_of_a_cancelled_one(rt: HostRuntime) {
     let mut small = semaphore.acquire(1);
     waits(&rt, &notes, &mut small, 2, &[]);
     drop(large);
-    woken(&rt, &notes, &[2]);
+    woken!(&rt, &notes, &[2]);
     let releaser = is_granted(&rt, &notes, &mut small, 2, 1, &[]);
     assert_eq!(rt; semaphore.permits(), 0);
     drop(releaser);
@@ -123,7 +123,7 @@ fn the_new_front_is_told_of_a_grant_that_leaves_no_permit(rt: HostRuntime) {
     let mut none = semaphore.acquire(0);
     waits(&rt, &notes, &mut none, 2, &[]);
     semaphore.release(1);
-    woken(&rt, &notes, &[1]);
+    woken!(&rt, &notes, &[1]);
     let one = is_granted(&rt, &notes, &mut one, 1, 1, &[2]);
     let none = is_granted(&rt, &notes, &mut none, 2, 0, &[]);
     assert_eq!(rt; one.disarm().wrapping_add(none.disarm()), 1);
@@ -137,14 +137,14 @@ fn a_request_for_all_takes_what_is_there(rt: HostRuntime) {
     let mut all = semaphore.acquire_all(2);
     waits(&rt, &notes, &mut all, 1, &[]);
     semaphore.set(5);
-    woken(&rt, &notes, &[1]);
+    woken!(&rt, &notes, &[1]);
     let releaser = is_granted(&rt, &notes, &mut all, 1, 5, &[]);
     releaser.end();
     let semaphore: FairSemaphore<u64, _, 1> = FairSemaphore::new(1, &notes);
     let mut all = semaphore.acquire_all(2);
     waits(&rt, &notes, &mut all, 1, &[]);
     semaphore.set(5);
-    woken(&rt, &notes, &[1]);
+    woken!(&rt, &notes, &[1]);
     let releaser = is_granted(&rt, &notes, &mut all, 1, 5, &[]);
     releaser.end();
     assert_eq!(rt; semaphore.permits(), 5);
@@ -159,7 +159,7 @@ fn a_request_that_never_waited_leaves_nothing(rt: HostRuntime) {
     waits(&rt, &notes, &mut first, 1, &[]);
     second.end();
     semaphore.release(1);
-    woken(&rt, &notes, &[1]);
+    woken!(&rt, &notes, &[1]);
     first.end();
     assert_eq!(rt; semaphore.permits(), 1);
     assert!(rt; semaphore.try_acquire(1).is_some());
@@ -182,14 +182,14 @@ fn a_request_dropped_at_any_point_lets_the_next_one_have_its_turn(rt: HostRuntim
             waits(&rt, &notes, large, 1, &[]);
         }
         drop_at(&mut large, point == 1);
-        woken(&rt, &notes, &[]);
+        woken!(&rt, &notes, &[]);
         waits(&rt, &notes, &mut small, 2, &[]);
         drop_at(&mut large, point == 2);
-        woken(&rt, &notes, only_if(point == 2));
+        woken!(&rt, &notes, only_if(point == 2));
         semaphore.release(1);
-        woken(&rt, &notes, &[if point == 3 { 1 } else { 2 }]);
+        woken!(&rt, &notes, &[if point == 3 { 1 } else { 2 }]);
         drop_at(&mut large, point == 3);
-        woken(&rt, &notes, only_if(point == 3));
+        woken!(&rt, &notes, only_if(point == 3));
         let releaser = is_granted(&rt, &notes, &mut small, 2, 1, &[]);
         releaser.end();
         assert_eq!(rt; semaphore.permits(), 1);
@@ -229,7 +229,7 @@ fn takes_and_gives_back<S: PermitState<Waker = u64>, R: Wait + Abort>(rt: &R) {
     assert!(rt; releaser.permits() == 1 && semaphore.permits() == 2);
     drop(releaser);
     assert_eq!(rt; semaphore.permits(), 3);
-    woken(rt, &notes, &[]);
+    woken!(rt, &notes, &[]);
 }
 
 #[test]
@@ -243,7 +243,7 @@ fn keeps_from_coming_back<S: PermitState<Waker = u64>, R: Wait + Abort>(rt: &R) 
     let semaphore: SharedSemaphore<S, u64, _> = SharedSemaphore::new(3, &notes);
     assert_eq!(rt; takes_one(rt, &semaphore).disarm(), 1);
     assert_eq!(rt; semaphore.permits(), 2);
-    woken(rt, &notes, &[]);
+    woken!(rt, &notes, &[]);
 }
 
 #[test]
@@ -262,7 +262,7 @@ fn is_granted_at_once<S: PermitState<Waker = u64>, R: Wait + Abort>(rt: &R) {
     let all = is_granted(rt, &notes, &mut semaphore.acquire_all(1), 1, 3, &[]);
     assert_eq!(rt; semaphore.permits(), 0);
     all.end();
-    woken(rt, &notes, &[]);
+    woken!(rt, &notes, &[]);
 }
 
 #[test]
@@ -279,7 +279,7 @@ fn counts_what_is_released<S: PermitState<Waker = u64>, R: Wait + Abort>(rt: &R)
     assert_eq!(rt; semaphore.permits(), 5);
     semaphore.set(2);
     assert_eq!(rt; semaphore.permits(), 2);
-    woken(rt, &notes, &[]);
+    woken!(rt, &notes, &[]);
 }
 
 #[test]
@@ -296,7 +296,7 @@ fn is_contested<S: PermitState<Waker = u64>, R: Wait + Abort>(rt: &R) {
     assert_eq!(rt; semaphore.permits(), 2);
     drop(releaser);
     assert!(rt; semaphore.try_acquire(3).is_some());
-    woken(rt, &notes, &[]);
+    woken!(rt, &notes, &[]);
 }
 
 #[test]
@@ -314,14 +314,14 @@ fn wakers(rt: HostRuntime) {
     waits(&rt, &notes, &mut large, 1, &[]);
     waits(&rt, &notes, &mut small, 2, &[]);
     two.end();
-    woken(&rt, &notes, &[1]);
+    woken!(&rt, &notes, &[1]);
     let large = is_granted(&rt, &notes, &mut large, 1, 2, &[2]);
     let small = is_granted(&rt, &notes, &mut small, 2, 1, &[]);
     assert_eq!(rt; semaphore.permits(), 0);
     large.end();
     small.end();
     assert_eq!(rt; semaphore.permits(), 3);
-    woken(&rt, &notes, &[]);
+    woken!(&rt, &notes, &[]);
 }
 
 #[test]
@@ -337,5 +337,5 @@ fn nobody_waits_where_there_are_no_places(rt: HostRuntime) {
     }
     let releaser = is_granted(&rt, &notes, &mut semaphore.acquire(1), 1, 1, &[]);
     releaser.end();
-    woken(&rt, &notes, &[]);
+    woken!(&rt, &notes, &[]);
 }

@@ -12,9 +12,15 @@ mod permit_runs;
 #[cfg(test)]
 mod permits;
 #[cfg(test)]
+mod pipe;
+#[cfg(test)]
+mod pipe_runs;
+#[cfg(test)]
 mod priority_channel;
 #[cfg(test)]
 mod registrations;
+#[cfg(test)]
+mod ring_buffer;
 #[cfg(test)]
 mod runs;
 #[cfg(test)]

@@ -9,6 +9,11 @@ pub fn hands_out(rt: &impl Abort, wakes: &Wakes<u64, 1>, waker: Option<u64>) {
     assert_eq!(rt; wakes.as_slice(), [waker].as_slice());
 }
 
+/// The wakers that were handed out, of two at most, are these.
+pub fn hand_out(rt: &impl Abort, wakes: &Wakes<u64, 2>, wakers: [Option<u64>; 2]) {
+    assert_eq!(rt; wakes.as_slice(), wakers.as_slice());
+}
+
 type Replies<'a, A> = &'a [Reply<Answer<A>, u64, 1>];
 
 /// Each reply has this answer, and hands out this waker alone or none.

@@ -56,12 +56,12 @@ fn receives_what_is_tried<S: Store<Message = u32>, H: Hand<u64>, R: Wait>(
 ) {
     let mut receive = channel.receive();
     assert!(rt; receive.poll(&cx(1)) == Poll::Pending);
-    woken(rt, notes, &[]);
+    woken!(rt, notes, &[]);
     assert!(rt; channel.try_send(1) == Ok(()));
-    woken(rt, notes, &[1]);
+    woken!(rt, notes, &[1]);
     assert!(rt; receive.poll(&cx(1)) == Poll::Ready(1));
     assert!(rt; receive.poll(&cx(1)) == Poll::Pending);
-    woken(rt, notes, &[]);
+    woken!(rt, notes, &[]);
 }
 
 #[test]
@@ -87,7 +87,7 @@ fn polls_send<C: DynamicChannel<Waker = u64>, R: Wait>(
     assert!(rt; !send.is_finished());
     assert!(rt; send.poll(&cx(waker)) == answer);
     assert!(rt; send.is_finished() == (answer == Poll::Ready(())));
-    woken(rt, notes, handed_out);
+    woken!(rt, notes, handed_out);
 }
 
 fn sends_where_there_is_room<S: Store<Message = u32>, H: Hand<u64>, R: Wait>(
@@ -97,7 +97,7 @@ fn sends_where_there_is_room<S: Store<Message = u32>, H: Hand<u64>, R: Wait>(
 ) {
     polls_send(rt, notes, &mut channel.send(1), 1, Poll::Ready(()), &[]);
     assert!(rt; channel.receive().poll(&cx(1)) == Poll::Ready(1));
-    woken(rt, notes, &[]);
+    woken!(rt, notes, &[]);
 }
 
 #[test]
@@ -122,15 +122,15 @@ fn sends_wait_for_room<S: Store<Message = u32>, H: Hand<u64>, R: Wait>(
     polls_send(rt, notes, &mut three, 3, Poll::Pending, &[2]);
     let mut receive = channel.receive();
     assert!(rt; receive.poll(&cx(1)) == Poll::Ready(1));
-    woken(rt, notes, &[3]);
+    woken!(rt, notes, &[3]);
     polls_send(rt, notes, &mut two, 2, Poll::Ready(()), &[]);
     polls_send(rt, notes, &mut three, 3, Poll::Pending, &[]);
     assert!(rt; receive.poll(&cx(1)) == Poll::Ready(2));
-    woken(rt, notes, &[3]);
+    woken!(rt, notes, &[3]);
     assert!(rt; receive.poll(&cx(1)) == Poll::Pending);
     polls_send(rt, notes, &mut three, 3, Poll::Ready(()), &[1]);
     assert!(rt; receive.poll(&cx(1)) == Poll::Ready(3));
-    woken(rt, notes, &[]);
+    woken!(rt, notes, &[]);
 }
 
 #[test]
@@ -192,29 +192,29 @@ fn acts_by_handles<S: Store<Message = u32>, H: Hand<u64>, R: Wait>(
     let mut receive = receiver.receive();
     assert!(rt; receive.poll(&cx(1)) == Poll::Pending);
     assert!(rt; receiver.poll_receive(&cx(2)) == Poll::Pending);
-    woken(rt, notes, &[1]);
+    woken!(rt, notes, &[1]);
     polls_send(rt, notes, &mut sender.send(5), 3, Poll::Ready(()), &[2]);
     tells(rt, channel, true);
     let mut late = sender.send(6);
     polls_send(rt, notes, &mut late, 3, Poll::Pending, &[]);
     assert!(rt; sender.try_send(7) == Err(TrySendError::Full(7)));
-    woken(rt, notes, &[]);
+    woken!(rt, notes, &[]);
     assert!(rt; sender.poll_ready_to_send(&cx(4)) == Poll::Pending);
-    woken(rt, notes, &[3]);
+    woken!(rt, notes, &[3]);
     assert!(rt; receive.poll(&cx(1)) == Poll::Ready(5));
-    woken(rt, notes, &[4]);
+    woken!(rt, notes, &[4]);
     assert!(rt; receiver.try_receive() == Err(TryReceiveError::Empty));
     assert!(rt; receiver.poll_ready_to_receive(&cx(2)) == Poll::Pending);
     polls_send(rt, notes, &mut late, 3, Poll::Ready(()), &[2]);
     assert!(rt; sender.poll_ready_to_send(&cx(4)) == Poll::Pending);
     sender.clear();
-    woken(rt, notes, &[4]);
+    woken!(rt, notes, &[4]);
     tells(rt, channel, false);
     assert!(rt; sender.poll_ready_to_send(&cx(4)) == Poll::Ready(()));
     assert!(rt; sender.try_send(8) == Ok(()));
-    woken(rt, notes, &[]);
+    woken!(rt, notes, &[]);
     receiver.clear();
-    woken(rt, notes, &[4]);
+    woken!(rt, notes, &[4]);
     tells(rt, channel, false);
 }
 
@@ -239,19 +239,19 @@ fn acts_by_dynamic_handles<S: Store<Message = u32>, H: Hand<u64>, R: Wait>(
     let mut receive = receiver.receive();
     assert!(rt; receive.poll(&cx(1)) == Poll::Pending);
     assert!(rt; receiver.poll_receive(&cx(2)) == Poll::Pending);
-    woken(rt, notes, &[1]);
+    woken!(rt, notes, &[1]);
     let mut send = sender.send(5);
     assert!(rt; !send.is_finished());
     assert!(rt; send.poll(&cx(3)) == Poll::Ready(()) && send.is_finished());
-    woken(rt, notes, &[2]);
+    woken!(rt, notes, &[2]);
     assert!(rt; sender.try_send(6) == Err(TrySendError::Full(6)));
     assert!(rt; sender.poll_ready_to_send(&cx(4)) == Poll::Pending);
     assert!(rt; receive.poll(&cx(1)) == Poll::Ready(5));
-    woken(rt, notes, &[4]);
+    woken!(rt, notes, &[4]);
     assert!(rt; receiver.try_receive() == Err(TryReceiveError::Empty));
     assert!(rt; receiver.poll_ready_to_receive(&cx(2)) == Poll::Pending);
     assert!(rt; sender.try_send(7) == Ok(()));
-    woken(rt, notes, &[2]);
+    woken!(rt, notes, &[2]);
     assert!(rt; receiver.poll_receive(&cx(2)) == Poll::Ready(7));
     let mut send = DynamicSendFuture::from(channel.send(8));
     assert!(rt; !send.is_finished());
@@ -259,7 +259,7 @@ fn acts_by_dynamic_handles<S: Store<Message = u32>, H: Hand<u64>, R: Wait>(
     let mut receive = DynamicReceiveFuture::from(channel.receive());
     assert!(rt; receive.poll(&cx(1)) == Poll::Ready(8));
     assert!(rt; receive.poll(&cx(1)) == Poll::Pending);
-    woken(rt, notes, &[]);
+    woken!(rt, notes, &[]);
 }
 
 #[test]
@@ -282,17 +282,17 @@ fn registers_a_given_context<S: Store<Message = u32>, H: Hand<u64>, R: Wait>(
 ) {
     assert!(rt; channel.try_receive_with_context(None) == Err(TryReceiveError::Empty));
     assert!(rt; channel.try_receive_with_context(Some(first)) == Err(TryReceiveError::Empty));
-    woken(rt, notes, &[]);
+    woken!(rt, notes, &[]);
     assert!(rt; channel.try_send_with_context(5, None) == Ok(()));
-    woken(rt, notes, &[1]);
+    woken!(rt, notes, &[1]);
     assert!(rt; channel.try_send_with_context(6, None) == Err(TrySendError::Full(6)));
     assert!(rt; channel.try_send_with_context(7, Some(second)) == Err(TrySendError::Full(7)));
     assert!(rt; channel.poll_ready_to_receive(&cx(3)) == Poll::Ready(()));
-    woken(rt, notes, &[]);
+    woken!(rt, notes, &[]);
     assert!(rt; channel.try_receive_with_context(Some(first)) == Ok(5));
-    woken(rt, notes, &[2]);
+    woken!(rt, notes, &[2]);
     assert!(rt; channel.try_send_with_context(8, Some(second)) == Ok(()));
-    woken(rt, notes, &[3]);
+    woken!(rt, notes, &[3]);
 }
 
 #[test]

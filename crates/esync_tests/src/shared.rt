@@ -17,14 +17,14 @@ fn displaced_receiver_is_woken_by_the_hand(rt: HostRuntime) {
     let mut second = channel.receive();
     let (one, two) = (Context::from_waker(1), Context::from_waker(2));
     assert!(rt; first.poll(&one) == Poll::Pending);
-    woken(&rt, &notes, &[]);
+    woken!(&rt, &notes, &[]);
     assert!(rt; second.poll(&two) == Poll::Pending);
-    woken(&rt, &notes, &[1]);
+    woken!(&rt, &notes, &[1]);
     assert!(rt; channel.try_send(7) == Ok(()));
-    woken(&rt, &notes, &[2]);
+    woken!(&rt, &notes, &[2]);
     drop(second);
     assert!(rt; first.poll(&one) == Poll::Ready(7));
-    woken(&rt, &notes, &[]);
+    woken!(&rt, &notes, &[]);
 }
 
 #[test]
@@ -40,12 +40,12 @@ fn clear_wakes_the_sender_by_the_hand(rt: HostRuntime) {
     let cx = Context::from_waker(1);
     assert!(rt; !send.is_finished());
     assert!(rt; send.poll(&cx) == Poll::Pending);
-    woken(&rt, &notes, &[]);
+    woken!(&rt, &notes, &[]);
     channel.clear();
-    woken(&rt, &notes, &[1]);
+    woken!(&rt, &notes, &[1]);
     assert!(rt; !send.is_finished());
     assert!(rt; send.poll(&cx) == Poll::Ready(()));
-    woken(&rt, &notes, &[]);
+    woken!(&rt, &notes, &[]);
     assert!(rt; send.is_finished());
     assert_eq!(rt; channel.len(), 1);
     assert_eq!(rt; channel.capacity(), 3);
@@ -57,21 +57,21 @@ fn ready_polls_register_by_handles(rt: HostRuntime) {
     let channel: Channel<u32, u64, _, 2> = Channel::new(&notes);
     let (sender, receiver) = (channel.sender(), channel.receiver());
     assert!(rt; receiver.poll_ready_to_receive(&Context::from_waker(1)) == Poll::Pending);
-    woken(&rt, &notes, &[]);
+    woken!(&rt, &notes, &[]);
     assert!(rt; sender.try_send(1) == Ok(()));
-    woken(&rt, &notes, &[1]);
+    woken!(&rt, &notes, &[1]);
     assert!(rt; receiver.poll_ready_to_receive(&Context::from_waker(1)) == Poll::Ready(()));
     let mut ready = receiver.ready_to_receive();
     assert!(rt; ready.poll(&Context::from_waker(2)) == Poll::Ready(()));
-    woken(&rt, &notes, &[1]);
+    woken!(&rt, &notes, &[1]);
     assert!(rt; ready.poll(&Context::from_waker(2)) == Poll::Ready(()));
-    woken(&rt, &notes, &[]);
+    woken!(&rt, &notes, &[]);
     assert!(rt; sender.try_send(2) == Ok(()));
-    woken(&rt, &notes, &[2]);
+    woken!(&rt, &notes, &[2]);
     assert!(rt; sender.poll_ready_to_send(&Context::from_waker(3)) == Poll::Pending);
-    woken(&rt, &notes, &[]);
+    woken!(&rt, &notes, &[]);
     assert!(rt; receiver.try_receive() == Ok(1));
-    woken(&rt, &notes, &[3]);
+    woken!(&rt, &notes, &[3]);
 }
 
 #[test]
@@ -81,12 +81,12 @@ fn the_greatest_leaves_first(rt: HostRuntime) {
     assert!(rt; channel.poll_ready_to_send(&Context::from_waker(1)) == Poll::Ready(()));
     for message in [1, 2, 3] {
         assert!(rt; channel.try_send(message) == Ok(()));
-        woken(&rt, &notes, &[]);
+        woken!(&rt, &notes, &[]);
     }
     let told: [(u32, &[u64]); 3] = [(3, &[1]), (2, &[]), (1, &[])];
     for (message, wakers) in told {
         assert!(rt; channel.try_receive() == Ok(message));
-        woken(&rt, &notes, wakers);
+        woken!(&rt, &notes, wakers);
     }
 }
 
@@ -99,14 +99,14 @@ fn a_signal_keeps_its_waiter_over_a_reset(rt: HostRuntime) {
     let (one, two) = (Context::from_waker(1), Context::from_waker(2));
     assert!(rt; first.poll(&one) == Poll::Pending);
     assert!(rt; second.poll(&two) == Poll::Pending);
-    woken(&rt, &notes, &[1]);
+    woken!(&rt, &notes, &[1]);
     signal.reset();
-    woken(&rt, &notes, &[]);
+    woken!(&rt, &notes, &[]);
     signal.signal(5);
-    woken(&rt, &notes, &[2]);
+    woken!(&rt, &notes, &[2]);
     assert!(rt; signal.signaled());
     assert!(rt; second.poll(&two) == Poll::Ready(5));
-    woken(&rt, &notes, &[]);
+    woken!(&rt, &notes, &[]);
     assert!(rt; first.poll(&one) == Poll::Pending);
     assert_eq!(rt; signal.try_take(), None);
 }
@@ -143,7 +143,7 @@ fn dynamic_dispatch_constructor(rt: HostRuntime) {
     assert!(rt; !send.is_finished());
     assert!(rt; send.poll(&cx) == Poll::Pending);
     assert!(rt; receiver.try_receive() == Ok(1));
-    woken(&rt, &notes, &[4]);
+    woken!(&rt, &notes, &[4]);
     assert!(rt; !send.is_finished());
     assert!(rt; send.poll(&cx) == Poll::Ready(()));
     let mut receive = receiver.receive();
@@ -163,15 +163,15 @@ fn a_receiver_dropped_at_any_point_takes_no_message(rt: HostRuntime) {
         drop_at(&mut second, point == 1);
         if let Some(second) = &mut second {
             assert!(rt; second.poll(&two) == Poll::Pending);
-            woken(&rt, &notes, &[1]);
+            woken!(&rt, &notes, &[1]);
         }
         drop_at(&mut second, point == 2);
-        woken(&rt, &notes, &[]);
+        woken!(&rt, &notes, &[]);
         assert!(rt; channel.try_send(7) == Ok(()));
-        woken(&rt, &notes, &[told]);
+        woken!(&rt, &notes, &[told]);
         drop_at(&mut second, point == 3);
         assert!(rt; first.poll(&one) == Poll::Ready(7));
-        woken(&rt, &notes, &[]);
+        woken!(&rt, &notes, &[]);
     }
 }
 
@@ -191,9 +191,9 @@ fn a_sender_dropped_at_any_point_sends_nothing(rt: HostRuntime) {
             assert!(rt; send.poll(&cx) == Poll::Pending);
         }
         drop_at(&mut send, point == 2);
-        woken(&rt, &notes, &[]);
+        woken!(&rt, &notes, &[]);
         assert!(rt; channel.try_receive() == Ok(7));
-        woken(&rt, &notes, told);
+        woken!(&rt, &notes, told);
         drop_at(&mut send, point == 3);
         assert!(rt; channel.is_empty());
     }
@@ -244,11 +244,11 @@ fn a_wait_acts_anew_after_it_was_ready(rt: HostRuntime) {
     signal.signal(5);
     assert!(rt; wait.poll(&cx) == Poll::Ready(5));
     assert!(rt; wait.poll(&cx) == Poll::Pending);
-    woken(&rt, &notes, &[]);
+    woken!(&rt, &notes, &[]);
     signal.signal(6);
-    woken(&rt, &notes, &[1]);
+    woken!(&rt, &notes, &[1]);
     assert!(rt; wait.poll(&cx) == Poll::Ready(6));
     signal.signal(7);
     assert!(rt; signal.poll_wait(&cx) == Poll::Ready(7));
-    woken(&rt, &notes, &[]);
+    woken!(&rt, &notes, &[]);
 }

@@ -1,3 +1,4 @@
 mod Known
 mod Wakers
+mod Bytes
 mod Played

@@ -1,6 +1,6 @@
 -- Wakers, printed one after another.
 use Rattle.std.proofs.Common.{◌≡◌, ℕ, ◌+◌, ◌<◌, List, [], ◌∷◌, ◌++◌, Option, Some, None, length, take, get_or, refl, ap, append_assoc, append-nil}
-use Rattle.std.specs.Prelude.{codes, decimal, IsTrue, is_none, ◌↔◌}
+use Rattle.std.specs.Prelude.{IsTrue, is_none, ◌↔◌}
 use Rattle.std.specs.List.{list_all}
 use Rattle.std.specs.Io.KnownBytes.{Appends}
 use Rattle.std.proofs.lemmas.List.{take_more}
@@ -30,6 +30,11 @@ module _ (text : ℕ → List ℕ) where
   -- an empty place prints nothing
   pub prints_none : (row : List (Option ℕ)) (i : ℕ) (a b : Option (List ℕ)) → i < length row → get_or row i None ≡ None → Appends a b (each_text text (items_of (take i row))) → Appends a b (each_text text (items_of (take (i + 1) row)))
   prints_none row i a b h e p = rw (text_more row i None h e, append-nil (each_text text (items_of (take i row)))) p
+
+  -- so is a number, where each place has one
+  pub prints_next : (row : List ℕ) (i n : ℕ) (a b c : Option (List ℕ)) → i < length row → get_or row i 0 ≡ n → Appends a b (each_text text (take i row)) → Appends b c (text n) → Appends a c (each_text text (take (i + 1) row))
+  prints_next row i n a b c h e p q =
+      rw (take_more row i 0 h, e, each_text-append (take i row) (n ∷ [])) (appends_more a b c _ _ p (rw (append-nil (text n)) q))
 
 -- a row of empty places has no waker
 pub free_row : (row : List (Option ℕ)) → IsTrue (list_all is_none row) ↔ (items_of row ≡ [])

@@ -24,6 +24,14 @@ each_text text (w ∷ ws) = text w ++ each_text text ws
 abbrev pub spaced : ℕ → List ℕ
 spaced w = codes " " ++ decimal w
 
+abbrev pub listed : ℕ → List ℕ
+listed b = codes "," ++ decimal b
+
+-- bytes, or a dash
+abbrev pub bytes_text : List ℕ → List ℕ
+bytes_text [] = codes "-"
+bytes_text (b ∷ bs) = decimal b ++ each_text listed bs
+
 -- the wakers that a step hands out, or a dash
 abbrev pub wakers_text : List ℕ → List ℕ
 wakers_text [] = codes " -"

@@ -1,5 +1,6 @@
 -- The words of a line, and what numbers of words say.
-use Rattle.std.specs.Prelude.{ℕ, ◌==◌, ◌^◌, ◌≤◌, Bool, true, false, List, [], ◌∷◌, Option, Some, None, if◌then◌else◌, nat_lt}
+use Rattle.std.specs.Prelude.{ℕ, ◌==◌, ◌^◌, Bool, true, false, List, [], ◌∷◌, length, Option, Some, None, if◌then◌else◌, nat_lt, codes}
+use Rattle.std.specs.Option.{option_map}
 use Rattle.std.specs.Char.{digit_value}
 use Rattle.std.specs.Str.Parse.{digits_value}
 
@@ -7,10 +8,14 @@ abbrev pub with_letter : ℕ → List (List ℕ) → List (List ℕ)
 with_letter c [] = (c ∷ []) ∷ []
 with_letter c (w ∷ ws) = (c ∷ w) ∷ ws
 
+-- what stands between the letters s of a text
+abbrev pub parts_of : ℕ → List ℕ → List (List ℕ)
+parts_of s [] = [] ∷ []
+parts_of s (c ∷ cs) = if c == s then [] ∷ parts_of s cs else with_letter c (parts_of s cs)
+
 -- the words of a line: what stands between its spaces
 abbrev pub words_of : List ℕ → List (List ℕ)
-words_of [] = [] ∷ []
-words_of (c ∷ cs) = if c == 32 then [] ∷ words_of cs else with_letter c (words_of cs)
+words_of line = parts_of 32 line
 
 abbrev pub is_empty : List ℕ → Bool
 is_empty [] = true
@@ -67,3 +72,23 @@ is_text [] [] = true
 is_text (x ∷ xs) (y ∷ ys) = if x == y then is_text xs ys else false
 is_text [] (y ∷ ys) = false
 is_text (x ∷ xs) [] = false
+
+-- the numbers that parts of a word write, if each writes one of k bits
+abbrev pub numbers : ℕ → List (List ℕ) → Option (List ℕ)
+numbers k [] = Some []
+numbers k (w ∷ ws) = and_then (number k w) (λ n. option_map (λ ns. n ∷ ns) (numbers k ws))
+
+abbrev pub at_most : ℕ → List ℕ → Option (List ℕ)
+at_most most ns = if nat_lt most (length ns) then None else Some ns
+
+-- the bytes that a word writes, of which there can be so many: with commas between them, and a dash where there are none
+abbrev pub bytes_of : ℕ → List ℕ → Option (List ℕ)
+bytes_of most w = if is_text w (codes "-") then Some [] else and_then (numbers 8 (parts_of 44 w)) (at_most most)
+
+abbrev pub first_bytes : ℕ → List (List ℕ) → Option (List ℕ)
+first_bytes most [] = None
+first_bytes most (w ∷ ws) = bytes_of most w
+
+-- The bytes that words say and no more of them.
+abbrev pub row : ℕ → List (List ℕ) → Option (List ℕ)
+row most ws = only (first_bytes most ws) (behind ws)

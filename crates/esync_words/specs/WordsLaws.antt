@@ -1,12 +1,12 @@
 -- Laws of words.
-use Rattle.std.proofs.Common.{◌≡◌, ℕ, zero, suc, ◌<◌, ◌+◌, ◌⊎◌, inl, inr, Bool, true, false, List, [], ◌∷◌, Option, Some, None, length, take, drop, refl, ap, ◌∙◌, sym, subst, arith, rules, zero-add, add-zero}
-use Rattle.std.specs.Prelude.{◌==◌, ◌^◌, if◌then◌else◌, nat_lt, not, slice_index, Result, Ok, Err}
+use Rattle.std.proofs.Common.{◌≡◌, ℕ, suc, ◌<◌, ◌+◌, ◌⊎◌, inl, inr, Bool, true, false, List, [], ◌∷◌, Some, length, take, drop, refl, ap, subst, arith}
+use Rattle.std.specs.Prelude.{◌==◌, ◌^◌, nat_lt, slice_index, Result, Ok, Err}
 use Rattle.std.specs.Result.{OkIff, result_ok}
 use Rattle.std.specs.Char.{digit_value}
 use Rattle.std.specs.Str.Parse.{AllDigits, IsNumeral, digits_value, without_leading_plus, ParsesUnsigned}
 use Rattle.std.proofs.lemmas.Bool.Decides.{nat_tests}
-use Rattle.std.specs.List.{before_first, after_first, position_or_len, prefix_len}
-use Rattle.esync_words.specs.Words.{words_of, with_letter, is_text, are_digits, is_numeral, number}
+use Rattle.std.specs.List.{before_first, after_first, position_or_len}
+use Rattle.esync_words.specs.Words.{parts_of, is_text, are_digits, is_numeral, number}
 
 true_or_false : (b : Bool) → (b ≡ true) ⊎ (b ≡ false)
 true_or_false true = inl refl
@@ -28,21 +28,23 @@ take_next n c cs = (let e : 1 + n ≡ suc n = omega arith in rw e refl)
 drop_next : (n c : ℕ) (cs : List ℕ) → drop (1 + n + 1) (c ∷ cs) ≡ drop (n + 1) cs
 drop_next n c cs = (let e : 1 + n + 1 ≡ suc (n + 1) = omega arith in rw e refl)
 
--- a line without a space is a word
-pub words_of_one : (s : List ℕ) → position_or_len (λ b. b == 32) s ≡ length s → words_of s ≡ s ∷ []
-words_of_one [] h = refl
-words_of_one (c ∷ cs) h = elim (true_or_false (c == 32)) [
-  | inl e ↦ (let k = rw e at h in absurd (omega arith))
-  | inr e ↦ (let k = rw e at h in rw (e, words_of_one cs (omega (arith, k))) refl)
-]
+-- What stands between the letters s of a text.
+module _ (s : ℕ) where
+  -- a text without such a letter is one part
+  pub parts_of_one : (t : List ℕ) → position_or_len (λ b. b == s) t ≡ length t → parts_of s t ≡ t ∷ []
+  parts_of_one [] h = refl
+  parts_of_one (c ∷ cs) h = elim (true_or_false (c == s)) [
+    | inl e ↦ (let k = rw e at h in absurd (omega arith))
+    | inr e ↦ (let k = rw e at h in rw (e, parts_of_one cs (omega (arith, k))) refl)
+  ]
 
--- another one is a word, and the words behind the first space
-pub words_of_more : (s : List ℕ) → position_or_len (λ b. b == 32) s < length s → words_of s ≡ before_first (λ b. b == 32) s ∷ words_of (after_first (λ b. b == 32) s)
-words_of_more [] h = absurd (omega arith)
-words_of_more (c ∷ cs) h = elim (true_or_false (c == 32)) [
-  | inl e ↦ rw e refl
-  | inr e ↦ (let k = rw e at h in rw (e, words_of_more cs (omega (arith, k)), take_next (position_or_len (λ b. b == 32) cs) c cs, drop_next (position_or_len (λ b. b == 32) cs) c cs) refl)
-]
+  -- another one is a part, and the parts behind the first such letter
+  pub parts_of_more : (t : List ℕ) → position_or_len (λ b. b == s) t < length t → parts_of s t ≡ before_first (λ b. b == s) t ∷ parts_of s (after_first (λ b. b == s) t)
+  parts_of_more [] h = absurd (omega arith)
+  parts_of_more (c ∷ cs) h = elim (true_or_false (c == s)) [
+    | inl e ↦ rw e refl
+    | inr e ↦ (let k = rw e at h in rw (e, parts_of_more cs (omega (arith, k)), take_next (position_or_len (λ b. b == s) cs) c cs, drop_next (position_or_len (λ b. b == s) cs) c cs) refl)
+  ]
 
 digits-true : (w : List ℕ) → are_digits w ≡ true → AllDigits 10 w
 digits-true [] h = tt

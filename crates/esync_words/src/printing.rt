@@ -3,7 +3,7 @@ ghost use Rattle.std.specs.Prelude.{◌≡◌, ℕ, List, [], OnOk, IfErr, IsTru
 ghost use Rattle.std.specs.List.{list_all};
 ghost use Rattle.std.specs.Io.KnownBytes.{Appends};
 ghost use Rattle.esync_base.specs.Rows.{items_of};
-ghost use Rattle.esync_words.specs.Text.{answer_text, line_text, option_text, each_text, spaced};
+ghost use Rattle.esync_words.specs.Text.{answer_text, line_text, option_text, bytes_text, each_text, spaced, listed};
 ghost use Rattle.esync_words.specs.Played.{IsJudged};
 
 use crate::fault::Fault;
@@ -56,6 +56,29 @@ pub fn print_option<W: Write>(number: Option<u64>, output: &mut W) -> io::Result
         Some(number) => write!(output, "Some({number})"),
         None => write!(output, "None"),
     }
+}
+
+/// Prints bytes with commas between them, or a dash where there are none.
+pub fn print_bytes<W: Write>(bytes: &[u8], output: &mut W) -> io::Result<()>
+    ensures { OnOk result (Appends (W.contents output.old) (W.contents output.new) (bytes_text bytes.now)) }
+{
+    match bytes.split_first() {
+        Some((first, rest)) => {
+            write!(output, "{first}")?;
+            print_list(rest, output)
+        }
+        None => write!(output, "-"),
+    }
+}
+
+// Prints each byte after a comma.
+fn print_list<W: Write>(bytes: &[u8], output: &mut W) -> io::Result<()>
+    ensures { OnOk result (Appends (W.contents output.old) (W.contents output.new) (each_text listed bytes.now)) }
+{
+    for byte in bytes {
+        write!(output, ",{byte}")?;
+    }
+    Ok(())
 }
 
 // The row has no waker.

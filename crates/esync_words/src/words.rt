@@ -1,8 +1,13 @@
 //! The words of a line, and numbers.
 ghost use Rattle.std.specs.Prelude.{◌≡◌, ℕ, ◌∷◌, [], MatchOption, IsTrue, ◌↔◌};
-ghost use Rattle.esync_words.specs.Words.{words_of, number, first_number, behind, nothing, one, two};
+ghost use Rattle.std.specs.Option.{option_map};
+ghost use Rattle.esync_words.specs.Words.{words_of, parts_of, number, numbers, at_most, bytes_of, first_number, behind, nothing, one, two, row, and_then};
 
+use arrayvec::ArrayVec;
 use std::marker::Model;
+
+/// How many bytes a word can write.
+pub const BYTES: usize = 16;
 
 const PLUS: char = '+';
 
@@ -101,6 +106,14 @@ impl<'a> Words<'a> {
         let second = self.number()?;
         Some((first, second))
     }
+
+    /// The bytes that the last word writes: numbers below 256 with commas between them, or a dash where there are none.
+    pub fn bytes(mut self) -> Option<ArrayVec<u8, BYTES>>
+        ensures { option_map (λ bytes. bytes.items) result ≡ row 16 self.entry }
+    {
+        let bytes = read_bytes(self.word()?)?;
+        self.is_over().then_some(bytes)
+    }
 }
 
 // The number that the digits write, unless it is too large for its type. `parse` would also take a plus before them.
@@ -116,8 +129,38 @@ fn read_number(word: &str) -> Option<u64>
 fn read_value(word: &str) -> Option<u32>
     ensures { result ≡ number 32 word.now }
 {
-    if word.starts_with(PLUS) {
-        return None;
+    u32::try_from(read_number(word)?).ok()
+}
+
+fn read_byte(word: &str) -> Option<u8>
+    ensures { result ≡ number 8 word.now }
+{
+    u8::try_from(read_number(word)?).ok()
+}
+
+// The bytes that the word writes, unless they are too many.
+fn read_bytes(word: &str) -> Option<ArrayVec<u8, BYTES>>
+    ensures { option_map (λ bytes. bytes.items) result ≡ bytes_of 16 word.now }
+{
+    match word {
+        "-" => Some(ArrayVec::new()),
+        _ => read_list(word),
     }
-    word.parse().ok()
+}
+
+// The bytes that stand between the commas.
+fn read_list(word: &str) -> Option<ArrayVec<u8, BYTES>>
+    ensures { option_map (λ bytes. bytes.items) result ≡ and_then (numbers 8 (parts_of 44 word.now)) (at_most 16) }
+{
+    let mut bytes = ArrayVec::new();
+    let mut rest = word;
+    while !bytes.is_full() {
+        let Some((part, behind)) = rest.split_once(',') else {
+            bytes.push(read_byte(rest)?);
+            return Some(bytes);
+        };
+        bytes.push(read_byte(part)?);
+        rest = behind;
+    }
+    None
 }

@@ -1,0 +1,107 @@
+//! The words of a pipe.
+ghost use Rattle.std.specs.Prelude.{◌≡◌, OnOk};
+ghost use Rattle.std.specs.Io.KnownBytes.{Appends};
+ghost use Rattle.esync_words.specs.Words.{row};
+ghost use Rattle.esync_script.specs.Pipe.{a_count, ready_text, tried_text};
+
+use esync_pipe::bytes::Bytes;
+use esync_pipe::pipe::machine::{PipeAsk, PipeCall, PipeHeard};
+use esync_pipe::pipe::{TryReadError, TryWriteError};
+use esync_words::printing::print_bytes;
+use esync_words::vocabulary::Vocabulary;
+use esync_words::words::Words;
+use std::io::{self, Write};
+
+// The bytes that the last word writes.
+fn read_bytes(words: Words<'_>) -> Option<Bytes>
+    ensures { result ≡ row 16 words.entry }
+{
+    Some(Bytes::from_slice(words.bytes()?.as_slice()))
+}
+
+// How many bytes are asked for, of those that an answer has room for.
+fn read_count(words: Words<'_>) -> Option<usize>
+    ensures { result ≡ a_count words.entry }
+{
+    let count = words.number()? as usize;
+    (count <= Bytes::CAPACITY).then_some(count)
+}
+
+// Prints the bytes that a request hears.
+fn print_ready<W: Write>(bytes: &Bytes, output: &mut W) -> io::Result<()>
+    ensures { OnOk result (Appends (W.contents output.old) (W.contents output.new) (ready_text bytes.now)) }
+{
+    write!(output, "Ready(")?;
+    print_bytes(bytes.as_slice(), output)?;
+    write!(output, ")")
+}
+
+// Prints the bytes that a call that doesn't wait answers, or that there are none.
+fn print_tried<W: Write>(tried: &Result<Bytes, TryReadError>, output: &mut W) -> io::Result<()>
+    ensures { OnOk result (Appends (W.contents output.old) (W.contents output.new) (tried_text tried.now)) }
+{
+    match tried {
+        Ok(bytes) => {
+            write!(output, "Ok(")?;
+            print_bytes(bytes.as_slice(), output)?;
+            write!(output, ")")
+        }
+        Err(TryReadError::Empty) => write!(output, "Err(Empty)"),
+    }
+}
+
+/// The words of a pipe of bytes.
+pub struct PipeWords {}
+
+impl Vocabulary for PipeWords {
+    type Ask = PipeAsk;
+
+    type Call = PipeCall;
+
+    type Heard = PipeHeard;
+
+    ghost use Rattle.esync_script.specs.Pipe.{pipe_asks, pipe_calls, pipe_text};
+
+    ghost asks = { pipe_asks };
+
+    ghost calls = { pipe_calls };
+
+    ghost text = { pipe_text };
+
+    fn ask(name: &str, words: Words<'_>) -> Option<PipeAsk> {
+        match name {
+            "write" => Some(PipeAsk::Write(read_bytes(words)?)),
+            "write-all" => Some(PipeAsk::WriteAll(read_bytes(words)?)),
+            "read" => Some(PipeAsk::Read(read_count(words)?)),
+            "fill" => words.nothing().map(|_| PipeAsk::Fill),
+            _ => None,
+        }
+    }
+
+    fn call(name: &str, words: Words<'_>) -> Option<PipeCall> {
+        match name {
+            "try-write" => Some(PipeCall::TryWrite(read_bytes(words)?)),
+            "try-read" => Some(PipeCall::TryRead(read_count(words)?)),
+            "try-fill" => words.nothing().map(|_| PipeCall::TryFill),
+            "consume" => Some(PipeCall::Consume(words.number()? as usize)),
+            "clear" => words.nothing().map(|_| PipeCall::Clear),
+            "len" => words.nothing().map(|_| PipeCall::Len),
+            "free" => words.nothing().map(|_| PipeCall::FreeCapacity),
+            _ => None,
+        }
+    }
+
+    fn print<W: Write>(heard: &PipeHeard, output: &mut W) -> io::Result<()> {
+        match heard {
+            PipeHeard::Wrote(count) => write!(output, "Ready({count})"),
+            PipeHeard::WroteAll => write!(output, "Ready"),
+            PipeHeard::HasRead(bytes) => print_ready(bytes, output),
+            PipeHeard::Filled(bytes) => print_ready(bytes, output),
+            PipeHeard::TryWrote(Ok(count)) => write!(output, "Ok({count})"),
+            PipeHeard::TryWrote(Err(TryWriteError::Full)) => write!(output, "Err(Full)"),
+            PipeHeard::HasTriedRead(read) => print_tried(read, output),
+            PipeHeard::TryFilled(filled) => print_tried(filled, output),
+            PipeHeard::Number(number) => write!(output, "{number}"),
+        }
+    }
+}
