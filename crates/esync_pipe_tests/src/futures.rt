@@ -79,7 +79,7 @@ fn a_write_goes_on_behind_its_count(rt: HostRuntime) {
     assert!(rt; writes_some(&pipe, &[4], &cx).is_none());
     let mut to = [0; 2];
     assert_eq!(rt; reads_twice(&pipe, &mut to[..], &cx), [3].as_slice());
-    woken(&rt, &notes, &[1]);
+    woken!(&rt, &notes, &[1]);
 }
 
 #[test]
@@ -91,7 +91,7 @@ fn a_write_of_all_is_polled_until_it_is_finished(rt: HostRuntime) {
     assert!(rt; writes_all(&pipe, &[1, 2, 3], &cx, 1));
     assert!(rt; !writes_all(&pipe, &[4], &cx, 2));
     assert!(rt; !writes_all(&pipe, &[], &cx, 0));
-    woken(&rt, &notes, &[]);
+    woken!(&rt, &notes, &[]);
 }
 
 #[test]
@@ -102,9 +102,9 @@ fn receiver_receives_given_try_write_async(rt: HostRuntime) {
     let mut to = [0; 16];
     let mut read = pipe.read(&mut to[..]);
     assert!(rt; read.poll(&cx) == Poll::Pending);
-    woken(&rt, &notes, &[]);
+    woken!(&rt, &notes, &[]);
     assert!(rt; pipe.try_write(&[42]) == Ok(1));
-    woken(&rt, &notes, &[1]);
+    woken!(&rt, &notes, &[1]);
     assert!(rt; read.poll(&cx) == Poll::Ready(1));
     drop(read);
     assert_eq!(rt; to[0], 42);
@@ -124,7 +124,7 @@ fn sender_send_completes_if_capacity(rt: HostRuntime) {
     assert!(rt; read.poll(&cx) == Poll::Ready(1));
     drop(read);
     assert_eq!(rt; to[0], 42);
-    woken(&rt, &notes, &[1]);
+    woken!(&rt, &notes, &[1]);
     assert!(rt; write.poll(&cx) == Poll::Ready(1));
 }
 
@@ -140,9 +140,9 @@ fn a_write_of_all_goes_on_where_a_read_makes_room(rt: HostRuntime) {
     let mut write = pipe.write_all(&from[..]);
     assert!(rt; !write.is_finished());
     assert!(rt; write.poll(&one) == Poll::Pending);
-    woken(&rt, &notes, &[9]);
+    woken!(&rt, &notes, &[9]);
     assert!(rt; read.poll(&nine) == Poll::Ready(2));
-    woken(&rt, &notes, &[1]);
+    woken!(&rt, &notes, &[1]);
     drop(read);
     assert_eq!(rt; to, [1, 2]);
     assert!(rt; !write.is_finished());
@@ -151,7 +151,7 @@ fn a_write_of_all_goes_on_where_a_read_makes_room(rt: HostRuntime) {
     let mut rest = [0; 16];
     assert!(rt; pipe.try_read(&mut rest[..]) == Ok(3));
     assert_eq!(rt; &rest[..3], [3, 4, 5].as_slice());
-    woken(&rt, &notes, &[]);
+    woken!(&rt, &notes, &[]);
 }
 
 #[test]
@@ -168,9 +168,9 @@ fn a_read_dropped_while_it_waits_takes_nothing(rt: HostRuntime) {
             assert!(rt; read.poll(&cx) == Poll::Pending);
         }
         drop_at(&mut read, point == 1);
-        woken(&rt, &notes, &[]);
+        woken!(&rt, &notes, &[]);
         assert!(rt; pipe.try_write(&[7, 8]) == Ok(2));
-        woken(&rt, &notes, told);
+        woken!(&rt, &notes, told);
         drop_at(&mut read, point == 2);
         assert_eq!(rt; pipe.len(), 2);
     }
@@ -191,10 +191,10 @@ fn a_write_of_all_dropped_while_it_waits_writes_no_more(rt: HostRuntime) {
             assert!(rt; write.poll(&cx) == Poll::Pending);
         }
         drop_at(&mut write, point == 1);
-        woken(&rt, &notes, &[]);
+        woken!(&rt, &notes, &[]);
         assert_eq!(rt; pipe.len(), held);
         pipe.clear();
-        woken(&rt, &notes, told);
+        woken!(&rt, &notes, told);
         drop_at(&mut write, point == 2);
         assert!(rt; pipe.is_empty());
     }
@@ -209,7 +209,7 @@ fn a_fill_waits_for_bytes_and_acts_anew(rt: HostRuntime) {
     let mut fill = reader.fill_buf();
     assert!(rt; fill.poll(&cx) == Poll::Pending);
     assert!(rt; writer.try_write(&[1, 2]) == Ok(2));
-    woken(&rt, &notes, &[1]);
+    woken!(&rt, &notes, &[1]);
     assert!(rt; fill.poll(&cx) == Poll::Ready(()));
     assert!(rt; writer.try_write(&[3]) == Ok(1));
     assert!(rt; fill.poll(&cx) == Poll::Ready(()));
@@ -220,7 +220,7 @@ fn a_fill_waits_for_bytes_and_acts_anew(rt: HostRuntime) {
     assert!(rt; reader.poll_fill_buf(&cx) == Poll::Pending);
     assert!(rt; reader.try_fill_buf() == Err(TryReadError::Empty));
     assert!(rt; writer.try_write(&[5]) == Ok(1));
-    woken(&rt, &notes, &[1]);
+    woken!(&rt, &notes, &[1]);
     let mut to = [0; 4];
     let mut read = reader.read(&mut to[..]);
     assert!(rt; read.poll(&cx) == Poll::Ready(1));

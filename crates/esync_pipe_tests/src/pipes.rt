@@ -36,7 +36,7 @@ fn writing_once(rt: HostRuntime) {
     assert_eq!(rt; pipe.free_capacity(), 2);
     assert!(rt; pipe.len() == 1 && !pipe.is_empty() && !pipe.is_full());
     assert_eq!(rt; pipe.capacity(), 3);
-    woken(&rt, &notes, &[]);
+    woken!(&rt, &notes, &[]);
 }
 
 #[test]
@@ -143,14 +143,14 @@ fn a_context_waits_where_a_try_is_refused(rt: HostRuntime) {
     let mut to = [0; 4];
     let empty = pipe.try_read_with_context(Some(&one), &mut to[..]);
     assert!(rt; empty == Err(TryReadError::Empty));
-    woken(&rt, &notes, &[]);
+    woken!(&rt, &notes, &[]);
     assert!(rt; pipe.try_write_with_context(Some(&two), &[5]) == Ok(1));
-    woken(&rt, &notes, &[1]);
+    woken!(&rt, &notes, &[1]);
     assert!(rt; pipe.try_write_with_context(Some(&two), &[6]) == Err(TryWriteError::Full));
-    woken(&rt, &notes, &[]);
+    woken!(&rt, &notes, &[]);
     assert!(rt; pipe.try_read_with_context(Some(&one), &mut to[..]) == Ok(1));
     assert_eq!(rt; to[0], 5);
-    woken(&rt, &notes, &[2]);
+    woken!(&rt, &notes, &[2]);
 }
 
 #[test]
@@ -161,7 +161,7 @@ fn clear_wakes_the_writer(rt: HostRuntime) {
     assert!(rt; pipe.try_write(&[1, 2, 3]) == Ok(2));
     assert!(rt; pipe.try_write_with_context(Some(&two), &[3]) == Err(TryWriteError::Full));
     pipe.clear();
-    woken(&rt, &notes, &[2]);
+    woken!(&rt, &notes, &[2]);
     assert!(rt; pipe.is_empty() && pipe.free_capacity() == 2);
 }
 
@@ -175,11 +175,11 @@ fn a_consume_from_full_wakes_the_writer(rt: HostRuntime) {
     assert!(rt; write.poll(&Context::from_waker(7)) == Poll::Pending);
     fills(&rt, &mut reader, &[1, 2]);
     consumes(&rt, &mut reader, 0);
-    woken(&rt, &notes, &[]);
+    woken!(&rt, &notes, &[]);
     consumes(&rt, &mut reader, 1);
-    woken(&rt, &notes, &[7]);
+    woken!(&rt, &notes, &[7]);
     consumes(&rt, &mut reader, 1);
-    woken(&rt, &notes, &[]);
+    woken!(&rt, &notes, &[]);
 }
 
 // A hand for threads, which wakes nobody.
