@@ -1,4 +1,4 @@
-use Rattle.std.proofs.Common.{◌≡◌, ◌≤◌, length, take, drop, ap, sym, ◌∙◌, arith}
+use Rattle.std.proofs.Common.{◌≡◌, ◌≤◌, length, take, ap, sym, ◌∙◌, arith}
 use Rattle.std.proofs.lemmas.List.{take_at, take_all, length-take-le}
 use Rattle.esync_pipe.proofs.pipe.shared.Copied.fill.Goals as goal
 use Rattle.esync_pipe.proofs.pipe.shared.Copied.fill.Goals.{then-bytes, else-bytes}
