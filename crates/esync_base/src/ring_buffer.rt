@@ -205,9 +205,20 @@ impl<const N: usize> ByteRow<N> {
         if from.len() <= run {
             self.copy_in(start, from);
         } else {
-            self.copy_in(start, &from[..run]);
-            self.copy_in(0, &from[run..]);
+            self.copy_in_two_runs(start, run, from);
         }
+    }
+
+    // The same, of more bytes than the first run has: out of line, so that what doesn't wrap is short.
+    #[inline(never)]
+    fn copy_in_two_runs(&mut self, start: usize, run: usize, from: &[u8])
+        requires first { start + run ≤ N }
+        requires second { length from.now ≤ N }
+        requires wraps { run < length from.now }
+        ensures { self.new.bytes ≡ written (written self.old.bytes start (take run from.now)) 0 (drop run from.now) }
+    {
+        self.copy_in(start, &from[..run]);
+        self.copy_in(0, &from[run..]);
     }
 
     // Reads the bytes from place `at` on.
@@ -228,9 +239,20 @@ impl<const N: usize> ByteRow<N> {
         if to.len() <= run {
             self.copy_out(start, to);
         } else {
-            self.copy_out(start, &mut to[..run]);
-            self.copy_out(0, &mut to[run..]);
+            self.copy_out_two_runs(start, run, to);
         }
+    }
+
+    // The same, of more bytes than the first run has.
+    #[inline(never)]
+    fn copy_out_two_runs(&self, start: usize, run: usize, to: &mut [u8])
+        requires first { start + run ≤ N }
+        requires second { length to.old ≤ N }
+        requires wraps { run < length to.old }
+        ensures { to.new ≡ take (length to.old) (take run (drop start self.now.bytes) ++ self.now.bytes) }
+    {
+        self.copy_out(start, &mut to[..run]);
+        self.copy_out(0, &mut to[run..]);
     }
 }
 

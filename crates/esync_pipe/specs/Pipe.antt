@@ -1,10 +1,10 @@
 -- What the calls of a pipe of n places do: to its bytes, and to who waits.
-use Rattle.std.specs.Prelude.{◌≡◌, ℕ, ◌-◌, ◌<◌, ◌==◌, ◌&&◌, min, Bool, true, false, List, [], ◌++◌, length, take, drop, Option, Some, None, Result, Ok, Err, nat_lt}
+use Rattle.std.specs.Prelude.{◌≡◌, ℕ, ◌-◌, ◌<◌, ◌==◌, ◌&&◌, min, Bool, true, false, not, List, [], ◌++◌, length, take, drop, Option, Some, None, Result, Ok, Err, is_ok, nat_lt}
 use Rattle.esync_base.specs.Ring.{Ringed, slot}
 use Rattle.esync_base.specs.Registration.{registered_if, displaced_if}
 use Rattle.esync_base.specs.declared.waitqueue.Poll.{Poll}
 use Rattle.esync_base.specs.declared.waitqueue.Poll.TheVariants.{Pending, Ready}
-use Rattle.esync_pipe.specs.Piped.{Slots}
+use Rattle.esync_pipe.specs.Piped.{Slots, Piped}
 use Rattle.esync_pipe.specs.declared.pipe.TryReadError.{TryReadError}
 use Rattle.esync_pipe.specs.declared.pipe.TryWriteError.{TryWriteError}
 
@@ -37,6 +37,20 @@ Writes n o from (Err e) o2 = (length o.items ≡ n) × (o2 ≡ o)
 abbrev pub Reads : ℕ → Ringed ℕ → List ℕ → Result ℕ TryReadError → List ℕ → Ringed ℕ → Type 0
 Reads n o to (Ok k) to2 o2 = (0 < length o.items) × (k ≡ min (length to) (length o.items)) × (to2 ≡ take k o.items ++ drop k to) × (o2 ≡ without n o k)
 Reads n o to (Err e) to2 o2 = (length o.items ≡ 0) × (to2 ≡ to) × (o2 ≡ o)
+
+-- a fill copies the oldest bytes that stand one behind the other, and is refused where there are none
+abbrev pub Copies : ℕ → Ringed ℕ → List ℕ → Result (Unit {0}) TryReadError → List ℕ → Type 0
+Copies n o copy (Ok done) copy2 = (0 < length o.items) × (copy2 ≡ shown n o)
+Copies n o copy (Err e) copy2 = (length o.items ≡ 0) × (copy2 ≡ copy)
+
+-- a fill of the front of a slice copies as many of them as it has places
+abbrev pub Shows : ℕ → Ringed ℕ → List ℕ → Result ℕ TryReadError → List ℕ → Type 0
+Shows n o to (Ok k) to2 = (0 < length o.items) × (k ≡ min (length to) (length (shown n o))) × (to2 ≡ take k (shown n o) ++ drop k to)
+Shows n o to (Err e) to2 = (length o.items ≡ 0) × (to2 ≡ to)
+
+-- so many of the oldest bytes stand one behind the other
+abbrev pub shows : ℕ → Ringed ℕ → ℕ → Bool
+shows n o k = not (nat_lt (length (shown n o)) k)
 
 -- a write of all the bytes puts as many of them behind the others as there is room for, and is ready once none is left; else the pipe is
 -- full then
@@ -108,3 +122,33 @@ module _ {W : Type 0} (eq : W → W → Bool) where
 
   abbrev pub wakes_of_write_all : Ringed ℕ → ℕ → ℕ → W → Slots W → List W
   wakes_of_write_all o k many w s = out_if (nat_lt 0 k && is_empty o) s.readers ++ displaced_if eq 1 s.writers (waker_if (nat_lt k many) w)
+
+  -- a write as one step: the bytes, who waits then, and the wakers that are handed out
+  abbrev pub Writing : ℕ → Piped W → List ℕ → Option W → Result ℕ TryWriteError → Piped W → List W → Type 0
+  Writing n p from w a p2 wakes =
+      Writes n p.ring from a p2.ring × (p2.slots ≡ slots_after_write p.ring w (is_ok a) p.slots) × (wakes ≡ wakes_of_write p.ring w (is_ok a) p.slots)
+
+  abbrev pub Reading : ℕ → Piped W → List ℕ → Option W → Result ℕ TryReadError → List ℕ → Piped W → List W → Type 0
+  Reading n p to w a to2 p2 wakes =
+      Reads n p.ring to a to2 p2.ring × (p2.slots ≡ slots_after_read n p.ring w (is_ok a) p.slots) × (wakes ≡ wakes_of_read n p.ring w (is_ok a) p.slots)
+
+  abbrev pub WritingAll : ℕ → Piped W → List ℕ → W → Poll (Unit {0}) → Piped W → Option (List ℕ) → List W → Type 0
+  WritingAll n p bytes w a p2 rest wakes =
+      WritesAll n p.ring bytes a p2.ring rest
+      × (p2.slots ≡ slots_after_write_all p.ring (puts n p.ring bytes) (length bytes) w p.slots)
+      × (wakes ≡ wakes_of_write_all p.ring (puts n p.ring bytes) (length bytes) w p.slots)
+
+  -- a fill leaves the bytes
+  abbrev pub Filling : Piped W → Option W → Bool → Piped W → List W → Type 0
+  Filling p w ok p2 wakes = (p2 ≡ record { ring = p.ring; slots = slots_after_fill w ok p.slots }) × (wakes ≡ wakes_of_fill w ok p.slots)
+
+-- so many of the oldest bytes are dropped where this is so, which makes room in a full pipe
+abbrev pub Dropping : {W : Type 0} → ℕ → Piped W → ℕ → Bool → Piped W → List W → Type 0
+Dropping n p k true p2 wakes =
+    (p2 ≡ record { ring = without n p.ring k; slots = record p.slots { writers = left_if (nat_lt 0 k && is_full n p.ring) p.slots.writers } })
+    × (wakes ≡ out_if (nat_lt 0 k && is_full n p.ring) p.slots.writers)
+Dropping n p k false p2 wakes = (p2 ≡ p) × (wakes ≡ [])
+
+-- all bytes are dropped
+abbrev pub Clearing : {W : Type 0} → Piped W → Piped W → List W → Type 0
+Clearing p p2 wakes = (p2 ≡ record { ring = record { items = []; front = 0 }; slots = record p.slots { writers = [] } }) × (wakes ≡ p.slots.writers)

@@ -7,8 +7,7 @@ use Rattle.esync_pipe.specs.declared.pipe.TryReadError.{TryReadError}
 use Rattle.esync_pipe.specs.declared.pipe.TryWriteError.{TryWriteError}
 use Rattle.esync_machine.specs.declared.primitive.Answer.{Answer}
 use Rattle.esync_machine.specs.declared.primitive.Answer.TheVariants.{Done, Pending, NoSuch, Gives}
-use Rattle.esync_machine.specs.declared.primitive.Reach.TheVariants.{Nobody}
-use Rattle.esync_machine.specs.Rules.{Rules, Alone}
+use Rattle.esync_machine.specs.Rules.{Rules, asked_rules}
 use Rattle.esync_machine.specs.Wakings.{Wakings, Handed, nothing}
 use Rattle.esync_pipe.specs.declared.pipe.machine.PipeAsk.{PipeAsk}
 use Rattle.esync_pipe.specs.declared.pipe.machine.PipeAsk.TheVariants.{Write, WriteAll, Read, Fill}
@@ -82,17 +81,7 @@ module _ (n : ℕ) where
 
   -- the object is the list of the bytes that are held, with the place of the oldest
   abbrev pub pipe_rules : Rules PipeAsk PipeAsk PipeCall PipeHeard
-  pipe_rules = record {
-    Core = Ringed ℕ;
-    begins = λ o ask p. p ≡ Some ask;
-    polls = Polls;
-    ends = λ o ask o2. o2 ≡ o;
-    reach = λ call. Nobody;
-    calls = Alone Calls;
-    leaves = λ o call ask. false;
-    IsRequest = λ ask. Unit {0};
-    WakesItself = ⊥;
-  }
+  pipe_rules = asked_rules Polls Calls
 
 module _ {W : Type 0} (eq : W → W → Bool) (n : ℕ) where
   -- by a write, with a waker or without

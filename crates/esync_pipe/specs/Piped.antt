@@ -1,5 +1,5 @@
 -- The bytes of a pipe, and who waits.
-use Rattle.std.specs.Prelude.{ℕ, List, refl}
+use Rattle.std.specs.Prelude.{ℕ, List, [], refl}
 use Rattle.std.specs.Coded.{Coded, code_by, coded×, coded_list, coded_ℕ}
 use Rattle.esync_base.specs.Ring.{Ringed, ringed_code}
 
@@ -21,3 +21,7 @@ piped_code {W} w =
     (λ p. (p.ring, (p.slots.readers, p.slots.writers)))
     (λ p. record { ring = p.0; slots = record { readers = p.1.0; writers = p.1.1 } })
     (λ _. refl)
+
+-- no byte, and nobody who waits
+abbrev pub no_byte : {W : Type 0} → Piped W
+no_byte = record { ring = record { items = []; front = 0 }; slots = record { readers = []; writers = [] } }

@@ -3,6 +3,7 @@
 //! The state form takes `&mut self`, holds no lock and waits for nobody. What a call hands out, it appends to the list of
 //! wakes that it is given; who gets the list wakes them.
 ghost use Rattle.std.specs.Prelude.{◌≡◌, ◌<◌, ◌≤◌, ◌+◌, ◌++◌, Some, length, is_none, IsSome, IfSome};
+ghost use Rattle.std.specs.Option.{option_copied};
 ghost use Rattle.esync_base.specs.Registration.{registered_if, displaced_if};
 ghost use Rattle.esync_pipe.specs.Pipe.{waker_if, out_if, left_if, puts, rest_of, WritesAll, slots_after_write_all, wakes_of_write_all};
 
@@ -90,9 +91,18 @@ fn register_if<W: Copy + Eq, const K: usize>(
     }
 }
 
+// The waker of a context, if one is given.
+pub(crate) fn waker_of<W: Copy>(cx: Option<&Context<W>>) -> Option<W>
+    ensures { result ≡ option_copied cx.entry }
+{
+    match cx {
+        Some(cx) => Some(cx.waker()),
+        None => None,
+    }
+}
+
 impl<W: Copy + Eq, const N: usize> PipeState<W, N> {
     ghost use Rattle.std.specs.Prelude.{◌≡◌, ◌<◌, ◌≤◌, ◌+◌, ◌++◌, [], Some, None, length, is_ok, IfOk, OnErr, ◌&&◌, nat_lt, take, ⊤, false};
-    ghost use Rattle.std.specs.Option.{option_copied};
     ghost use mathlib.Core.Option.{none};
     ghost use Rattle.std.specs.Borrow.{sem, follows_so};
     ghost use Rattle.esync_pipe.specs.Pipe.{Writes, Reads, shown, without, out_if, left_if, is_empty, is_full, slots_after_write, wakes_of_write, slots_after_read, wakes_of_read, slots_after_fill, wakes_of_fill, behind, puts, slots_after_write_all, wakes_of_write_all};
@@ -124,9 +134,7 @@ impl<W: Copy + Eq, const N: usize> PipeState<W, N> {
         ensures wakes { wakes.new ≡ wakes.old ++ wakes_of_read W.eq N self.old.ring waker (is_ok result) self.old.slots }
     {
         if self.is_empty() {
-            if let Some(waker) = waker {
-                self.read_waker.register(waker, wakes);
-            }
+            self.wait_for_bytes(waker, wakes);
             return Err(TryReadError::Empty);
         }
         let was_full = self.is_full();
@@ -161,11 +169,7 @@ impl<W: Copy + Eq, const N: usize> PipeState<W, N> {
         ensures slots { self.new.slots ≡ slots_after_read W.eq N self.old.ring (option_copied cx.entry) (is_ok result) self.old.slots }
         ensures wakes { wakes.new ≡ wakes.old ++ wakes_of_read W.eq N self.old.ring (option_copied cx.entry) (is_ok result) self.old.slots }
     {
-        let waker = match cx {
-            Some(cx) => Some(cx.waker()),
-            None => None,
-        };
-        self.read(to, waker, wakes)
+        self.read(to, waker_of(cx), wakes)
     }
 
     /// Shows the oldest bytes, as many as stand one behind the other. They stay, until `consume` drops them.
@@ -194,20 +198,24 @@ impl<W: Copy + Eq, const N: usize> PipeState<W, N> {
         ensures wakes { wakes.new ≡ wakes.old ++ wakes_of_fill W.eq (option_copied cx.entry) (is_ok result) self.old.slots }
     {
         if self.is_empty() {
-            self.wait_for_bytes(cx, wakes);
+            self.wait_for_bytes(waker_of(cx), wakes);
             return Err(TryReadError::Empty);
         }
         Ok(self.shown())
     }
 
-    // Where a context is given, its waker waits for bytes.
-    fn wait_for_bytes<const K: usize>(&mut self, cx: Option<&Context<W>>, wakes: &mut Wakes<W, K>)
+    // The waker, if one is given, waits for bytes.
+    pub(crate) fn wait_for_bytes<const K: usize>(
+        &mut self,
+        waker: Option<W>,
+        wakes: &mut Wakes<W, K>,
+    )
         requires { length wakes.old < K }
-        ensures state { self.new ≡ record { ring = self.old.ring; slots = slots_after_fill W.eq (option_copied cx.entry) false self.old.slots } }
-        ensures wakes { wakes.new ≡ wakes.old ++ wakes_of_fill W.eq (option_copied cx.entry) false self.old.slots }
+        ensures state { self.new ≡ record { ring = self.old.ring; slots = slots_after_fill W.eq waker false self.old.slots } }
+        ensures wakes { wakes.new ≡ wakes.old ++ wakes_of_fill W.eq waker false self.old.slots }
     {
-        if let Some(cx) = cx {
-            self.read_waker.register(cx.waker(), wakes);
+        if let Some(waker) = waker {
+            self.read_waker.register(waker, wakes);
         }
     }
 
@@ -282,11 +290,7 @@ impl<W: Copy + Eq, const N: usize> PipeState<W, N> {
         ensures slots { self.new.slots ≡ slots_after_write W.eq self.old.ring (option_copied cx.entry) (is_ok result) self.old.slots }
         ensures wakes { wakes.new ≡ wakes.old ++ wakes_of_write W.eq self.old.ring (option_copied cx.entry) (is_ok result) self.old.slots }
     {
-        let waker = match cx {
-            Some(cx) => Some(cx.waker()),
-            None => None,
-        };
-        self.write(from, waker, wakes)
+        self.write(from, waker_of(cx), wakes)
     }
 
     // Puts as many of the bytes behind the others as there is room for, and tells how many. Where some are left, the waker waits for

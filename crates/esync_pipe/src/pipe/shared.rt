@@ -1,8 +1,10 @@
 //! A pipe that tasks on several threads share by reference, its two ends, and its futures.
-ghost use Rattle.std.specs.Prelude.{◌≡◌, ℕ, List, [], ◌++◌, ◌≤◌, Some, IsSome, IfOk, OnErr, length, take, drop, is_none};
+ghost use Rattle.std.specs.Prelude.{◌≡◌, ℕ, List, [], ◌++◌, ◌≤◌, Some, IsSome, IfOk, IfSome, OnErr, is_ok, length, min, take, drop, is_none};
+ghost use Rattle.esync_pipe.specs.Pipe.{Writing, Reading, WritingAll, Copies, Shows, Filling, Dropping, Clearing, shows};
+ghost use Rattle.esync_pipe.specs.Piped.{Piped, no_byte};
 ghost use Rattle.esync_pipe.specs.Polls.{IfReady, KeepsCopy, LeavesBytes};
 
-use super::{PipeState, TryReadError, TryWriteError, WriteAllRequest};
+use super::{PipeState, TryReadError, TryWriteError, WriteAllRequest, waker_of};
 use esync_base::shared::Shared;
 use esync_base::step;
 use esync_base::waitqueue::{Context, Hand, Poll, Wakes};
@@ -92,7 +94,9 @@ impl<const N: usize> Copied<N> {
 
 // Copies as many of the bytes as there are places, and tells how many.
 fn copy_front(from: &[u8], to: &mut [u8]) -> usize
-    ensures { result ≤ length to.old }
+    ensures within { result ≤ length to.old }
+    ensures count { result ≡ min (length to.old) (length from.now) }
+    ensures bytes { to.new ≡ take result from.now ++ drop result to.old }
 {
     let n = if from.len() < to.len() {
         from.len()
@@ -111,15 +115,20 @@ pub trait ByteState: Drop {
     type Copied: Drop;
 
     ghost use Rattle.std.specs.Prelude.{ℕ, List};
+    ghost use Rattle.esync_pipe.specs.Piped.{Piped};
 
     /// How many bytes can be held.
     ghost places: { ℕ };
+
+    /// The bytes, and who waits.
+    ghost piped: { Self → Piped Self.Waker };
 
     /// The bytes that were filled and not consumed since.
     ghost copied: { Self.Copied → List ℕ };
 
     /// No byte, and nobody who waits.
-    fn new() -> Self;
+    fn new() -> Self
+        ensures { piped result ≡ no_byte };
 
     /// How many bytes can be held.
     fn capacity() -> usize
@@ -127,7 +136,8 @@ pub trait ByteState: Drop {
 
     /// How many bytes are held.
     fn len(&self) -> usize
-        ensures { result ≤ places };
+        ensures value { result ≡ length (piped self.now).ring.items }
+        ensures within { result ≤ places };
 
     /// Puts as many of the bytes in as there is room for. Where there is none, the waker, if it is given one, waits for it.
     fn try_write(
@@ -137,7 +147,8 @@ pub trait ByteState: Drop {
         wakes: &mut Wakes<Self::Waker, 2>,
     ) -> Result<usize, TryWriteError>
         requires { wakes.old ≡ [] }
-        ensures { IfOk result (λ n. n ≤ length from.now) };
+        ensures count { IfOk result (λ n. n ≤ length from.now) }
+        ensures step { Writing Self.Waker.eq places (piped self.old) from.now waker result (piped self.new) wakes.new };
 
     /// Takes the oldest bytes out. Where there are none, the waker of a context, if there is one, waits for them.
     fn try_read(
@@ -147,7 +158,8 @@ pub trait ByteState: Drop {
         wakes: &mut Wakes<Self::Waker, 2>,
     ) -> Result<usize, TryReadError>
         requires { wakes.old ≡ [] }
-        ensures { IfOk result (λ n. n ≤ length to.old) };
+        ensures count { IfOk result (λ n. n ≤ length to.old) }
+        ensures step { Reading Self.Waker.eq places (piped self.old) to.old waker result to.new (piped self.new) wakes.new };
 
     /// Writes as many of the bytes of the request as there is room for.
     fn poll_write_all(
@@ -158,7 +170,8 @@ pub trait ByteState: Drop {
     ) -> Poll<()>
         requires empty { wakes.old ≡ [] }
         requires unfinished { IsSome request.old }
-        ensures { LeavesBytes result request.new };
+        ensures left { LeavesBytes result request.new }
+        ensures step { IfSome request.old (λ rest. WritingAll Self.Waker.eq places (piped self.old) rest cx.now result (piped self.new) request.new wakes.new) };
 
     /// Copies the oldest bytes that stand one behind the other. Where there are none, the waker of a context, if there is one, waits
     /// for them.
@@ -169,13 +182,16 @@ pub trait ByteState: Drop {
         wakes: &mut Wakes<Self::Waker, 2>,
     ) -> Result<(), TryReadError>
         requires { wakes.old ≡ [] }
-        ensures kept { OnErr result (copied row.new ≡ copied row.old) };
+        ensures kept { OnErr result (copied row.new ≡ copied row.old) }
+        ensures bytes { Copies places (piped self.old).ring (copied row.old) result (copied row.new) }
+        ensures step { Filling Self.Waker.eq (piped self.old) waker (is_ok result) (piped self.new) wakes.new };
 
     /// Drops so many of the bytes that were filled, in the copy, and in the pipe where so many stand one behind the other.
     fn consume(&mut self, row: &mut Self::Copied, amt: usize, wakes: &mut Wakes<Self::Waker, 2>)
         requires empty { wakes.old ≡ [] }
         requires filled { amt ≤ length (copied row.old) }
-        ensures { copied row.new ≡ drop amt (copied row.old) };
+        ensures copy { copied row.new ≡ drop amt (copied row.old) }
+        ensures step { Dropping places (piped self.old) amt (shows places (piped self.old).ring amt) (piped self.new) wakes.new };
 
     /// Copies the oldest bytes that stand one behind the other, as many as the slice has places, and tells how many. They stay. Where
     /// there are none nothing is written, and the waker, if it is given one, waits for them.
@@ -187,15 +203,19 @@ pub trait ByteState: Drop {
     ) -> Result<usize, TryReadError>
         requires { wakes.old ≡ [] }
         ensures count { IfOk result (λ n. n ≤ length to.old) }
-        ensures kept { OnErr result (to.new ≡ to.old) };
+        ensures kept { OnErr result (to.new ≡ to.old) }
+        ensures bytes { Shows places (piped self.old).ring to.old result to.new }
+        ensures step { Filling Self.Waker.eq (piped self.old) waker (is_ok result) (piped self.new) wakes.new };
 
     /// Drops so many of the oldest bytes, where so many stand one behind the other.
     fn drop_shown(&mut self, amt: usize, wakes: &mut Wakes<Self::Waker, 2>)
-        requires { wakes.old ≡ [] };
+        requires { wakes.old ≡ [] }
+        ensures step { Dropping places (piped self.old) amt (shows places (piped self.old).ring amt) (piped self.new) wakes.new };
 
     /// Drops all bytes, and wakes who waits for room.
     fn clear(&mut self, wakes: &mut Wakes<Self::Waker, 2>)
-        requires { wakes.old ≡ [] };
+        requires { wakes.old ≡ [] }
+        ensures step { Clearing (piped self.old) (piped self.new) wakes.new };
 
     /// Nothing was filled.
     fn nothing_copied() -> Self::Copied
@@ -212,6 +232,8 @@ impl<W: Copy + Eq, const N: usize> ByteState for PipeState<W, N> {
     type Copied = Copied<N>;
 
     ghost places = { N };
+
+    ghost piped = { λ state. state };
 
     ghost copied = { λ row. row };
 
@@ -234,7 +256,8 @@ impl<W: Copy + Eq, const N: usize> ByteState for PipeState<W, N> {
         wakes: &mut Wakes<W, 2>,
     ) -> Result<usize, TryWriteError>
         requires { wakes.old ≡ [] }
-        ensures { IfOk result (λ n. n ≤ length from.now) }
+        ensures count { IfOk result (λ n. n ≤ length from.now) }
+        ensures step { Writing W.eq N self.old from.now waker result self.new wakes.new }
     {
         self.write(from, waker, wakes)
     }
@@ -246,7 +269,8 @@ impl<W: Copy + Eq, const N: usize> ByteState for PipeState<W, N> {
         wakes: &mut Wakes<W, 2>,
     ) -> Result<usize, TryReadError>
         requires { wakes.old ≡ [] }
-        ensures { IfOk result (λ n. n ≤ length to.old) }
+        ensures count { IfOk result (λ n. n ≤ length to.old) }
+        ensures step { Reading W.eq N self.old to.old waker result to.new self.new wakes.new }
     {
         self.read(to, waker, wakes)
     }
@@ -268,11 +292,11 @@ impl<W: Copy + Eq, const N: usize> ByteState for PipeState<W, N> {
     ) -> Result<(), TryReadError>
         requires { wakes.old ≡ [] }
         ensures kept { OnErr result (row.new ≡ row.old) }
+        ensures bytes { Copies N self.old.ring row.old result row.new }
+        ensures step { Filling W.eq self.old waker (is_ok result) self.new wakes.new }
     {
         if PipeState::is_empty(self) {
-            if let Some(waker) = waker {
-                self.read_waker.register(waker, wakes);
-            }
+            self.wait_for_bytes(waker, wakes);
             return Err(TryReadError::Empty);
         }
         row.fill(self.shown());
@@ -293,11 +317,11 @@ impl<W: Copy + Eq, const N: usize> ByteState for PipeState<W, N> {
         requires { wakes.old ≡ [] }
         ensures count { IfOk result (λ n. n ≤ length to.old) }
         ensures kept { OnErr result (to.new ≡ to.old) }
+        ensures bytes { Shows N self.old.ring to.old result to.new }
+        ensures step { Filling W.eq self.old waker (is_ok result) self.new wakes.new }
     {
         if PipeState::is_empty(self) {
-            if let Some(waker) = waker {
-                self.read_waker.register(waker, wakes);
-            }
+            self.wait_for_bytes(waker, wakes);
             return Err(TryReadError::Empty);
         }
         Ok(copy_front(self.shown(), to))
@@ -457,11 +481,7 @@ impl<S: ByteState<Waker = W>, W: Copy + Eq, H: Hand<W>> SharedPipe<S, W, H> {
     ) -> Result<usize, TryWriteError>
         ensures { IfOk result (λ n. n ≤ length from.now) }
     {
-        let waker = match cx {
-            Some(cx) => Some(cx.waker()),
-            None => None,
-        };
-        self.step_write(waker, from)
+        self.step_write(waker_of(cx), from)
     }
 
     /// Takes the oldest bytes out, as many as there are and as the slice has places, and tells how many.
@@ -479,11 +499,7 @@ impl<S: ByteState<Waker = W>, W: Copy + Eq, H: Hand<W>> SharedPipe<S, W, H> {
     ) -> Result<usize, TryReadError>
         ensures { IfOk result (λ n. n ≤ length to.old) }
     {
-        let waker = match cx {
-            Some(cx) => Some(cx.waker()),
-            None => None,
-        };
-        self.step_read(waker, to)
+        self.step_read(waker_of(cx), to)
     }
 
     /// Drops all bytes, and wakes who waits for room.
