@@ -1,9 +1,10 @@
 -- Rows of optional items.
-use Rattle.std.proofs.Common.{◌≡◌, ℕ, zero, suc, ◌+◌, ◌-◌, ◌<◌, List, [], ◌∷◌, ◌++◌, length, Some, None, Option, refl, sym, ◌∙◌, ap, get_or, set, arith}
+use Rattle.std.proofs.Common.{◌≡◌, ℕ, zero, suc, ◌+◌, ◌-◌, ◌<◌, List, [], ◌∷◌, ◌++◌, length, Some, None, Option, refl, sym, ◌∙◌, ap, get_or, set, take, append_assoc, arith}
 use Rattle.std.specs.Prelude.{map, slice_get}
 use Rattle.std.proofs.Math.ListN.{replicate}
 use Rattle.std.proofs.lemmas.List.{length_push}
 use Rattle.esync_base.specs.Rows.{items_of, row_of, IsRow}
+use Rattle.esync_base.specs.Registration.{slot_wakers}
 
 pub items_of-replicate : {A : Type 0} (n : ℕ) → items_of (replicate {A = Option A} n None) ≡ []
 items_of-replicate zero = refl
@@ -49,3 +50,21 @@ row_push n row len w r h =
       count = rw (e, length_push) (omega (arith, r.count));
       fits = rw (e, length_push) (omega (arith, r.count));
     }
+
+-- one more of a list's wakers, where there is one
+take_suc : {A : Type 0} (xs : List A) (i : ℕ) → take (suc i) xs ≡ take i xs ++ slot_wakers (slice_get xs i)
+take_suc [] zero = refl
+take_suc [] (suc i) = refl
+take_suc (x ∷ xs) zero = refl
+take_suc (x ∷ xs) (suc i) = ap (λ ys. x ∷ ys) (take_suc xs i)
+
+pub take_next : {A : Type 0} (xs : List A) (i : ℕ) → take (i + 1) xs ≡ take i xs ++ slot_wakers (slice_get xs i)
+take_next xs i = ap (λ k. take k xs) (let h : i + 1 ≡ suc i = omega arith in h) ∙ take_suc xs i
+
+-- a list with the wakers of another so far, and the next of them, if there is one
+pub hand_next : {A : Type 0} (us vs ws : List A) (i : ℕ) (o : Option A) → slice_get vs i ≡ o → ws ≡ us ++ take i vs → ws ++ slot_wakers o ≡ us ++ take (i + 1) vs
+hand_next us vs ws i o at so_far =
+    ap (λ xs. xs ++ slot_wakers o) so_far
+    ∙ append_assoc us (take i vs) (slot_wakers o)
+    ∙ ap (λ p. us ++ (take i vs ++ slot_wakers p)) (sym at)
+    ∙ ap (λ xs. us ++ xs) (sym (take_next vs i))

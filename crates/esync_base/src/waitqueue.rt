@@ -3,10 +3,13 @@ ghost use Rattle.std.specs.Prelude.{◌≡◌, ℕ, ◌+◌, ◌<◌, ◌≤◌,
 ghost use Rattle.esync_base.specs.Rows.{items_of};
 ghost use Rattle.esync_base.specs.Registration.{registered, displaced};
 
+pub use multi_waker::MultiWakerRegistration;
 use std::alloc::AllocError;
 use std::fmt;
 use std::marker::Model;
 use std::sync::Wait;
+
+mod multi_waker;
 
 /// What a poll answers.
 #[derive(Clone, Copy, Debug, PartialEq, Eq)]
