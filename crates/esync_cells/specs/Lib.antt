@@ -1,3 +1,6 @@
 pub mod Signal
 pub mod SignalRules
 pub mod SignalLaws
+pub mod OnceLock
+pub mod OnceRules
+pub mod OnceLaws

@@ -1,0 +1,134 @@
+//! A value that is set once, and then shown to all who ask for it.
+ghost use Rattle.std.specs.Prelude.{◌≡◌, ◌<◌, ◌++◌, None, Some, length, is_some, IfSome, IfNone, unwrap_or, ⊤};
+ghost use Rattle.std.specs.Borrow.{sem, follows_so};
+ghost use Rattle.std.specs.Option.{option_copied};
+ghost use mathlib.Core.Option.{none};
+ghost use Rattle.esync_cells.specs.Signal.{waited};
+ghost use Rattle.esync_cells.specs.OnceLock.{poll_copied, wakes_of_get, set_answer};
+ghost use Rattle.esync_cells.specs.contracts.once_lock.OnceState.{the_row};
+
+use esync_base::waitqueue::{Context, Poll, Wakes};
+use std::marker::{Model, PhantomData};
+
+pub mod machine;
+
+/// Why a value was not set. It comes back.
+#[derive(Clone, Copy, Debug, PartialEq, Eq)]
+pub enum InitError<T> {
+    /// There is a value.
+    Set(T),
+}
+
+impl<T> InitError<T> {
+    /// The value that came back.
+    pub fn into_value(self) -> T
+        ensures { InitError.Set result ≡ self }
+    {
+        match self {
+            InitError::Set(value) => value,
+        }
+    }
+}
+
+/// The state of a value that is set once: the value, if it was set. No waker is kept: who polls for a value that isn't there is
+/// woken at once.
+#[derive(Drop)]
+pub struct OnceState<T, W> {
+    data: Option<T>,
+    wakers: PhantomData<W>,
+}
+
+impl<T, W> Model for OnceState<T, W> {
+    ghost use Rattle.std.specs.Prelude.{Option};
+    ghost use Rattle.std.specs.Coded.{coded_option};
+
+    ghost Value = { Option T };
+
+    ghost coded = { coded_option T.code };
+
+    ghost view = { λ a. a.data };
+}
+
+impl<T: Drop, W: Copy + Eq> OnceState<T, W> {
+    /// No value.
+    pub fn new() -> Self
+        ensures { result ≡ None }
+    {
+        OnceState {
+            data: None,
+            wakers: PhantomData,
+        }
+    }
+
+    /// Lends the value. Where there is none, the context's waker is handed out at once: whoever waits polls again and again.
+    pub fn poll_get<const K: usize>(&self, cx: &Context<W>, wakes: &mut Wakes<W, K>) -> Poll<&T>
+        requires { length wakes.old < K }
+        ensures answer { poll_copied result ≡ waited self.now }
+        ensures wakes { wakes.new ≡ wakes.old ++ wakes_of_get self.now cx.now }
+    {
+        match self.try_get() {
+            Some(value) => Poll::Ready(value),
+            None => {
+                wakes.push(cx.waker());
+                Poll::Pending
+            }
+        }
+    }
+
+    /// Lends the value, if there is one.
+    pub fn try_get(&self) -> Option<&T>
+        ensures { option_copied result ≡ self.now }
+    {
+        self.data.as_ref()
+    }
+
+    /// Sets the value. Where there is one, it stays, and the other comes back.
+    pub fn init(&mut self, value: T) -> Result<(), InitError<T>>
+        ensures answer { result ≡ set_answer self.old value }
+        ensures state { self.new ≡ Some (unwrap_or self.old value) }
+    {
+        if self.is_set() {
+            return Err(InitError::Set(value));
+        }
+        self.data = Some(value);
+        Ok(())
+    }
+
+    /// Lends the value. Where there is none, it is first set to what the closure gives.
+    pub fn get_or_init<F: FnOnce() -> T + Drop>(&mut self, f: F) -> &T
+        requires { F.pre f }
+        ensures* leaves { sem 𝓛 (follows_so (the_row T.row W.row) (the_row T.row W.row) self.entry.ghost_name none (λ _ _. ⊤) (λ v. v ≡ Some result.now)) }
+        ensures there { IfSome self.old (λ value. result.now ≡ value) }
+        ensures made { IfNone self.old (F.post f result.now) }
+    {
+        if self.data.is_none() {
+            self.data = Some(f());
+        }
+        let Some(value) = &self.data else {
+            unreachable!()
+        };
+        value
+    }
+
+    /// The value, if it was set.
+    pub fn into_inner(self) -> Option<T>
+        ensures { result ≡ self }
+    {
+        self.data
+    }
+
+    /// Takes the value, if it was set. It can then be set again.
+    pub fn take(&mut self) -> Option<T>
+        ensures answer { result ≡ self.old }
+        ensures state { self.new ≡ None }
+    {
+        self.data.take()
+    }
+
+    /// The value was set.
+    pub fn is_set(&self) -> bool
+        ensures { result ≡ is_some self.now }
+    {
+        self.data.is_some()
+    }
+}
