@@ -4,3 +4,5 @@ pub mod SignalLaws
 pub mod OnceLock
 pub mod OnceRules
 pub mod OnceLaws
+pub mod LazyLock
+pub mod LazyRules

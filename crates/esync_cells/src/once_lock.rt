@@ -114,7 +114,8 @@ impl<T: Drop, W: Copy + Eq> OnceState<T, W> {
     pub fn into_inner(self) -> Option<T>
         ensures { result ≡ self }
     {
-        self.data
+        let OnceState { data, wakers: _ } = self;
+        data
     }
 
     /// Takes the value, if it was set. It can then be set again.

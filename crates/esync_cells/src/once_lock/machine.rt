@@ -1,7 +1,7 @@
 //! A value that is set once, as a machine that takes commands.
-ghost use Rattle.std.specs.Prelude.{◌≡◌, [], None, IfOk, OnErr};
+ghost use Rattle.std.specs.Prelude.{◌≡◌, IfOk, OnErr};
 ghost use Rattle.esync_machine.specs.Runs.{GoodRun};
-ghost use Rattle.esync_machine.specs.Object.{Object, requests_meaning};
+ghost use Rattle.esync_machine.specs.Object.{requests_meaning};
 ghost use Rattle.esync_cells.specs.OnceRules.{once_rules, once_wakings};
 
 use super::{InitError, OnceState};

@@ -1,0 +1,88 @@
+//! A value that is made when it is first asked for, and then stays.
+
+use std::marker::Model;
+
+pub mod machine;
+
+/// What makes a value when it is first asked for.
+pub trait Maker<T> {
+    /// It may make this value.
+    ghost Makes: { Self → T → Type 0 };
+
+    /// Makes a value.
+    fn make(&self) -> T
+        ensures { Makes self.now result };
+}
+
+/// Makes a value that was given beforehand.
+#[derive(Clone, Copy, Debug, PartialEq, Eq)]
+pub struct Given<T> {
+    pub value: T,
+}
+
+impl<T: Copy> Maker<T> for Given<T> {
+    ghost use Rattle.std.specs.Prelude.{◌≡◌};
+
+    ghost Makes = { λ given x. x ≡ given.value };
+
+    fn make(&self) -> T {
+        self.value
+    }
+}
+
+/// The state of a value that is made when it is first asked for: the value, from then on.
+#[derive(Drop)]
+pub struct LazyState<T, M> {
+    data: Option<T>,
+    maker: M,
+}
+
+impl<T, M> Model for LazyState<T, M> {
+    ghost use Rattle.esync_cells.specs.LazyLock.{Lazy, lazy_code};
+
+    ghost Value = { Lazy T M };
+
+    ghost coded = { lazy_code T.code M.code };
+
+    ghost view = { λ a. record { value = a.data; maker = a.maker } };
+}
+
+impl<T: Drop, M: Maker<T> + Drop> LazyState<T, M> {
+    ghost use Rattle.std.specs.Prelude.{◌≡◌, None, Some, ⊤};
+    ghost use Rattle.std.specs.Borrow.{sem, follows_so};
+    ghost use mathlib.Core.Option.{none};
+    ghost use Rattle.esync_cells.specs.LazyLock.{Shows};
+    ghost use Rattle.esync_cells.specs.contracts.lazy_lock.LazyState.{the_row};
+
+    /// No value yet. None is made before it is asked for.
+    pub fn new(maker: M) -> Self
+        ensures { result ≡ record { value = None; maker = maker } }
+    {
+        LazyState { data: None, maker }
+    }
+
+    /// Lends the value, which is made the first time.
+    pub fn get(&mut self) -> &T
+        ensures* leaves { sem 𝓛 (follows_so (the_row T.row M.row) (the_row T.row M.row) self.entry.ghost_name none (λ _ _. ⊤) (λ v. v ≡ record self.old { value = Some result.now })) }
+        ensures shown { Shows (M.Makes self.old.maker) self.old.value result.now }
+    {
+        if self.data.is_none() {
+            self.data = Some(self.maker.make());
+        }
+        let Some(value) = &self.data else {
+            unreachable!()
+        };
+        value
+    }
+
+    /// The value, which is made where it was not asked for before.
+    pub fn into_inner(self) -> T
+        ensures { Shows (M.Makes self.maker) self.value result }
+    {
+        let LazyState { data, maker } = self;
+        match data {
+            Some(value) => value,
+            None => maker.make(),
+        }
+    }
+}
