@@ -1,8 +1,10 @@
 //! A value that is made when it is first asked for, and then stays.
 
+pub use shared::LazyLock;
 use std::marker::Model;
 
 pub mod machine;
+mod shared;
 
 /// What makes a value when it is first asked for.
 pub trait Maker<T> {

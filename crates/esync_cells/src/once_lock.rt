@@ -8,9 +8,11 @@ ghost use Rattle.esync_cells.specs.OnceLock.{poll_copied, wakes_of_get, set_answ
 ghost use Rattle.esync_cells.specs.contracts.once_lock.OnceState.{the_row};
 
 use esync_base::waitqueue::{Context, Poll, Wakes};
+pub use shared::{OnceGet, OnceLock};
 use std::marker::{Model, PhantomData};
 
 pub mod machine;
+mod shared;
 
 /// Why a value was not set. It comes back.
 #[derive(Clone, Copy, Debug, PartialEq, Eq)]

@@ -1,0 +1,51 @@
+//! A value that is made when it is first asked for, and shared by reference with tasks on several threads.
+ghost use Rattle.std.specs.Prelude.{◌≡◌};
+
+use std::marker::Model;
+use std::sync::{OnceLock, Wait};
+
+/// A value that a closure makes when it is first asked for, shared by reference with tasks on several threads. It has no lock:
+/// only who asks while the closure runs waits for it. The closure must not use this lock.
+#[derive(Drop)]
+pub struct LazyLock<T, F> {
+    data: OnceLock<T>,
+    init_fn: F,
+}
+
+impl<T, F> Model for LazyLock<T, F> {
+    ghost Value = { F };
+
+    ghost coded = { F.code };
+
+    ghost view = { λ a. a.init_fn };
+}
+
+impl<T: Drop, F: Fn() -> T + Drop> LazyLock<T, F> {
+    /// No value yet. The closure isn't called before the value is asked for.
+    pub fn new(init_fn: F) -> Self
+        ensures { result ≡ init_fn }
+    {
+        LazyLock {
+            data: OnceLock::new(),
+            init_fn,
+        }
+    }
+
+    /// Lends the value. The first time the closure makes it.
+    pub fn get(&self, rt: &impl Wait) -> &T
+        requires { F.pre self.now }
+    {
+        self.data.get_or_init(rt, &self.init_fn)
+    }
+
+    /// The value. Where it was not asked for before, the closure makes it.
+    pub fn into_inner(self) -> T
+        requires { F.pre self }
+    {
+        let LazyLock { data, init_fn } = self;
+        match data.into_inner() {
+            Some(value) => value,
+            None => init_fn(),
+        }
+    }
+}
