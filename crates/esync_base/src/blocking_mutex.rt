@@ -1,6 +1,7 @@
-//! A mutex that is held for the length of one call.
+//! A mutex that is held for the length of one call, and one without a lock.
 ghost use Rattle.std.specs.Prelude.{◌≡◌};
 
+use std::marker::Model;
 use std::sync::{Mutex, MutexGuard, Wait};
 
 /// A value that threads share, each while it has the lock.
@@ -63,5 +64,63 @@ impl<T> CriticalSectionMutex<T> {
     /// The value, which nobody else has while it is borrowed.
     pub fn get_mut(&mut self) -> &mut T {
         self.data.get_mut()
+    }
+}
+
+/// A value with the calls of a mutex and no lock: nobody waits.
+#[derive(Drop)]
+pub struct NoopMutex<T> {
+    data: T,
+}
+
+impl<T> Model for NoopMutex<T> {
+    ghost Value = { T };
+
+    ghost coded = { T.code };
+
+    ghost view = { λ a. a.data };
+}
+
+impl<T> NoopMutex<T> {
+    ghost use Rattle.std.specs.Borrow.{sem, Lends};
+    ghost use Rattle.std.specs.Fn.{FnOnceReturnsAt};
+    ghost use Rattle.esync_base.specs.contracts.blocking_mutex.NoopMutex.{the_row};
+
+    /// The value, without a lock.
+    pub fn new(value: T) -> Self
+        ensures { result ≡ value }
+    {
+        NoopMutex { data: value }
+    }
+
+    /// Lends the value.
+    pub fn borrow(&self) -> &T
+        ensures { result.now ≡ self.now }
+    {
+        &self.data
+    }
+
+    /// Lends the value to the closure.
+    pub fn lock<U, F: FnOnce(&T) -> U>(&self, f: F) -> U
+        requires { F.IsAlwaysCallable f }
+        ensures { FnOnceReturnsAt F.FnOnce f self.now result }
+    {
+        f(self.borrow())
+    }
+
+    /// The value.
+    pub fn into_inner(self) -> T
+        ensures { result ≡ self }
+    {
+        let NoopMutex { data: value } = self;
+        value
+    }
+
+    /// Lends the value, which may be changed.
+    pub fn get_mut(&mut self) -> &mut T
+        ensures* lends { sem 𝓛 (Lends (the_row T.row) T.row self.entry result (λ value. value)) }
+        ensures value { result.now ≡ self.old }
+    {
+        &mut self.data
     }
 }
