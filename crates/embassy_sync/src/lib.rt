@@ -5,7 +5,7 @@
 #![tactic(auto)]
 
 pub use esync_base::{blocking_mutex, deque, shared, store, waitqueue};
-pub use esync_cells::signal;
+pub use esync_cells::{lazy_lock, once_lock, signal};
 pub use esync_channel::channel;
 pub use esync_history::executor;
 pub use esync_permits::semaphore;

@@ -3,6 +3,8 @@
 //! Each module is that of a crate below, in which the machine of a primitive stands beside its state.
 #![tactic(auto)]
 
+pub use esync_cells::lazy_lock::machine as lazy_lock;
+pub use esync_cells::once_lock::machine as once_lock;
 pub use esync_cells::signal::machine as signal;
 pub use esync_channel::channel::machine as channel;
 pub use esync_machine::{primitive, requests, run};
