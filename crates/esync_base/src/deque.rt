@@ -5,7 +5,9 @@ ghost use Rattle.std.proofs.Math.ListN.{replicate};
 ghost use Rattle.esync_base.specs.Ring.{next, slot};
 ghost use Rattle.esync_base.specs.Places.{closed};
 
+use crate::kept::Kept;
 use crate::store::Store;
+use std::alloc::AllocError;
 use std::marker::Model;
 
 // The place behind place i.
@@ -22,6 +24,20 @@ fn behind<const N: usize>(i: usize) -> usize
 struct Row<T, const N: usize> {
     places: [Option<T>; N],
 }
+
+impl<T: Copy, const N: usize> Clone for Row<T, N> {
+    ghost use Rattle.std.specs.Prelude.{◌≡◌};
+
+    ghost is_clone = { λ s r. r ≡ s };
+
+    ghost is_infallible = { λ _. Unit {0} };
+
+    fn clone(&self) -> Result<Self, AllocError> {
+        Ok(*self)
+    }
+}
+
+impl<T: Copy, const N: usize> Copy for Row<T, N> {}
 
 impl<T: Drop, const N: usize> Row<T, N> {
     fn new() -> Self
@@ -290,5 +306,16 @@ impl<T: Drop, const N: usize> Store for Deque<T, N> {
 
     fn clear(&mut self) {
         Deque::clear(self)
+    }
+}
+
+impl<T: Copy, const N: usize> Kept for Deque<T, N> {
+    fn kept(&self) -> Result<Self, AllocError> {
+        Ok(Deque {
+            row: self.row,
+            start: self.start,
+            end: self.end,
+            full: self.full,
+        })
     }
 }

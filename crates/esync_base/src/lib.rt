@@ -3,6 +3,7 @@
 
 pub mod blocking_mutex;
 pub mod deque;
+pub mod kept;
 pub mod ring_buffer;
 pub mod shared;
 pub mod store;

@@ -6,6 +6,8 @@ ghost use Rattle.std.proofs.Math.ListN.{replicate};
 ghost use Rattle.esync_base.specs.Ring.{slot};
 ghost use Rattle.esync_base.specs.RingBuffer.{filled_run, free_run, begins, written};
 
+use crate::kept::Kept;
+use std::alloc::AllocError;
 use std::marker::Model;
 use std::ops::Range;
 
@@ -185,6 +187,20 @@ fn run(start: usize, count: usize) -> Range<usize>
 struct ByteRow<const N: usize> {
     bytes: [u8; N],
 }
+
+impl<const N: usize> Clone for ByteRow<N> {
+    ghost use Rattle.std.specs.Prelude.{◌≡◌};
+
+    ghost is_clone = { λ s r. r ≡ s };
+
+    ghost is_infallible = { λ _. Unit {0} };
+
+    fn clone(&self) -> Result<Self, AllocError> {
+        Ok(*self)
+    }
+}
+
+impl<const N: usize> Copy for ByteRow<N> {}
 
 impl<const N: usize> ByteRow<N> {
     // Writes the bytes from place `at` on.
@@ -370,5 +386,17 @@ impl<const N: usize> ByteRing<N> {
         ensures front { self.new.front ≡ 0 }
     {
         self.ring.clear();
+    }
+}
+
+impl<const N: usize> Kept for ByteRing<N> {
+    fn kept(&self) -> Result<Self, AllocError> {
+        Ok(ByteRing {
+            row: self.row,
+            ring: RingBuffer {
+                start: self.ring.start,
+                len: self.ring.len,
+            },
+        })
     }
 }

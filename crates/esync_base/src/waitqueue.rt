@@ -3,6 +3,7 @@ ghost use Rattle.std.specs.Prelude.{◌≡◌, ℕ, ◌+◌, ◌<◌, ◌≤◌,
 ghost use Rattle.esync_base.specs.Rows.{items_of};
 ghost use Rattle.esync_base.specs.Registration.{registered, displaced};
 
+use crate::kept::Kept;
 pub use multi_waker::MultiWakerRegistration;
 use std::alloc::AllocError;
 use std::fmt;
@@ -202,6 +203,12 @@ impl<W> Default for WakerRegistration<W> {
         ensures { result ≡ [] }
     {
         WakerRegistration { waker: None }
+    }
+}
+
+impl<W: Copy> Kept for WakerRegistration<W> {
+    fn kept(&self) -> Result<Self, AllocError> {
+        Ok(WakerRegistration { waker: self.waker })
     }
 }
 

@@ -3,8 +3,10 @@ ghost use Rattle.std.specs.Prelude.{◌≡◌, ℕ, ◌<◌, ◌++◌, [], None,
 ghost use Rattle.esync_base.specs.Registration.{registered_if, displaced_if};
 ghost use Rattle.esync_cells.specs.Signal.{waited, waiter_where_empty};
 
+use esync_base::kept::Kept;
 use esync_base::waitqueue::{Context, Poll, WakerRegistration, Wakes};
 pub use shared::{Signal, SignalWait};
+use std::alloc::AllocError;
 use std::marker::Model;
 
 pub mod machine;
@@ -25,6 +27,15 @@ impl<T, W> Model for SignalState<T, W> {
     ghost coded = { signaling_code T.code W.code };
 
     ghost view = { λ a. record { value = a.value; waiter = a.waiter } };
+}
+
+impl<T: Copy, W: Copy> Kept for SignalState<T, W> {
+    fn kept(&self) -> Result<Self, AllocError> {
+        Ok(SignalState {
+            value: self.value,
+            waiter: self.waiter.kept()?,
+        })
+    }
 }
 
 impl<T: Drop, W: Copy + Eq> Default for SignalState<T, W> {

@@ -9,6 +9,7 @@ ghost use Rattle.esync_channel.specs.Channel.{Sends, Receives, slots_after_send,
 ghost use Rattle.esync_channel.specs.Polls.{ReceivesPoll, SendsPoll, is_ready};
 
 use esync_base::deque::Deque;
+use esync_base::kept::Kept;
 use esync_base::store::Store;
 use esync_base::waitqueue::{Context, Poll, WakerRegistration, Wakes};
 pub use handles::{
@@ -18,6 +19,7 @@ pub use handles::{
 pub use shared::{
     Channel, DynamicChannel, ReceiveFuture, ReceiveReadyFuture, SendFuture, SharedMailbox,
 };
+use std::alloc::AllocError;
 use std::fmt::Debug;
 use std::marker::Model;
 use thiserror::Error;
@@ -63,6 +65,16 @@ pub struct Mailbox<S, W> {
     queue: S,
     receiver_waker: WakerRegistration<W>,
     senders_waker: WakerRegistration<W>,
+}
+
+impl<S: Kept, W: Copy> Kept for Mailbox<S, W> {
+    fn kept(&self) -> Result<Self, AllocError> {
+        Ok(Mailbox {
+            queue: self.queue.kept()?,
+            receiver_waker: self.receiver_waker.kept()?,
+            senders_waker: self.senders_waker.kept()?,
+        })
+    }
 }
 
 impl<S, W> Model for Mailbox<S, W> {

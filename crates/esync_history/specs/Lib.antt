@@ -3,3 +3,5 @@ pub mod Todo
 pub mod Suited
 pub mod Turns
 pub mod Standing
+pub mod Journal
+pub mod JournalLaws

@@ -3,6 +3,7 @@
 
 pub mod executor;
 mod queue;
+pub mod recorded;
 mod suited;
 mod task;
 mod turn;

@@ -17,6 +17,10 @@ module _ {S C A W : Type 0} (X : Semantics S C A W) where
     -- what is owed stays owed, or is handed out
     pub kept : (r : ℕ) (w : W) → X.Owes old r w → (Polls X.meaning c r → ⊥) → (X.meaning.Ends (X.object old) c r → ⊥) → HandsOut X.meaning a w ⊎ X.Owes new r w
 
+  -- the same object, with the same wakers registered
+  abbrev pub IsLike : S → S → Type 0
+  IsLike s t = (X.object s ≡ X.object t) × (X.registrations s ≡ X.registrations t)
+
   -- a turn as the objects see it
   abbrev pub step_of : S → C → A → S → Step X.meaning.Object C A
   step_of old c a new = record { before = X.object old; command = c; reply = a; after = X.object new }

@@ -3,12 +3,13 @@ ghost use Rattle.std.specs.Prelude.{◌≡◌, ℕ, Some, IfOk, OnErr, ◌↔◌
 ghost use Rattle.esync_base.specs.Rows.{items_of};
 ghost use Rattle.esync_machine.specs.Runs.{Semantics, GoodRunOf, OwedAreIdle, IdleIsPending, OnlyLiveArePolled};
 ghost use Rattle.esync_machine.specs.Keeps.{KeepsRequests};
-ghost use Rattle.esync_machine.specs.Histories.{Turn};
+ghost use Rattle.esync_machine.specs.Histories.{Turn, IsLike};
 
 use esync_base::waitqueue::Wakes;
 use std::alloc::{AllocError, Global};
 
 /// An answer, and the wakers that were handed out with it.
+#[derive_where(Clone, Copy; A: Copy, W: Copy)]
 #[derive(Drop)]
 pub struct Reply<A, W, const K: usize> {
     pub answer: A,
@@ -91,6 +92,13 @@ pub trait Awaits: Machine {
 
     /// Wakers are told apart as their type does.
     ghost same: { (v w : Self.Waker) → Self.semantics.meaning.same v w ≡ Self.Waker.eq v w };
+}
+
+/// A machine of which a copy can be kept.
+pub trait Keep: Awaits {
+    /// A machine with the same object, and with the same wakers registered.
+    fn keep(&self) -> Result<Self, AllocError>
+        ensures { IfOk result (λ kept. IsLike Self.semantics kept self.now) };
 }
 
 /// Gives the commands to the machine, one after another.

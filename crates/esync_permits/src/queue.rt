@@ -4,10 +4,13 @@ ghost use Rattle.esync_base.specs.Listed.{is_in};
 ghost use Rattle.esync_permits.specs.Queue.{is_front, is_next, numbers, front_wakers, entered, with_waker, left_by, IsLeastFree, StandsAt};
 
 use esync_base::deque::Deque;
+use esync_base::kept::Kept;
 use esync_base::waitqueue::Wakes;
+use std::alloc::AllocError;
 use std::marker::Model;
 
 /// A place in the queue: its number, and the waker of the request that waits there.
+#[derive_where(Clone, Copy; W: Copy)]
 #[derive(Drop)]
 pub struct Entry<W> {
     pub number: usize,
@@ -56,6 +59,14 @@ impl<W, const N: usize> Model for Queue<W, N> {
     ghost coded = { coded_list (entry_code W.code) };
 
     ghost view = { λ a. a.entries.items };
+}
+
+impl<W: Copy, const N: usize> Kept for Queue<W, N> {
+    fn kept(&self) -> Result<Self, AllocError> {
+        Ok(Queue {
+            entries: self.entries.kept()?,
+        })
+    }
 }
 
 impl<W: Copy, const N: usize> Queue<W, N> {

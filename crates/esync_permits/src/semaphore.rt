@@ -10,11 +10,13 @@ ghost use Rattle.esync_permits.specs.Queue.{is_front, is_next, numbers, front_wa
 ghost use Rattle.esync_permits.specs.Fair.{heard, ticket_after, request_heard, granted_by, OnRefusal, NamesWaiting, HasNoPlace, Queues, wakes_of_grant, entries_after_request, wakes_of_request};
 
 use crate::queue::Queue;
+use esync_base::kept::Kept;
 use esync_base::waitqueue::{Context, Poll, WakerRegistration, Wakes};
 pub use shared::{
     Acquire, FairAcquire, FairAcquireAll, FairSemaphore, GreedyAcquire, GreedyAcquireAll,
     GreedySemaphore, PermitState, Semaphore, SemaphoreReleaser, SharedSemaphore,
 };
+use std::alloc::AllocError;
 use std::marker::Model;
 use std::mem;
 use thiserror::Error;
@@ -89,6 +91,15 @@ impl<W> Model for GreedyState<W> {
     ghost coded = { greedy_code W.code };
 
     ghost view = { λ a. record { permits = a.available; waiter = a.waker } };
+}
+
+impl<W: Copy> Kept for GreedyState<W> {
+    fn kept(&self) -> Result<Self, AllocError> {
+        Ok(GreedyState {
+            available: self.available,
+            waker: self.waker.kept()?,
+        })
+    }
 }
 
 impl<W: Copy + Eq> Default for GreedyState<W> {
@@ -334,6 +345,15 @@ impl<W, const N: usize> Model for FairState<W, N> {
     ghost coded = { fair_code W.code };
 
     ghost view = { λ a. record { permits = a.permits; entries = a.queue } };
+}
+
+impl<W: Copy, const N: usize> Kept for FairState<W, N> {
+    fn kept(&self) -> Result<Self, AllocError> {
+        Ok(FairState {
+            permits: self.permits,
+            queue: self.queue.kept()?,
+        })
+    }
 }
 
 impl<W: Copy + Eq, const N: usize> Default for FairState<W, N> {

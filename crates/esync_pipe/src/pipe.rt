@@ -11,12 +11,14 @@ pub use dynamic::{
     DynamicFillBufFuture, DynamicPipe, DynamicReadFuture, DynamicReader, DynamicWriteFuture,
     DynamicWriter,
 };
+use esync_base::kept::Kept;
 use esync_base::ring_buffer::ByteRing;
 use esync_base::waitqueue::{Context, Poll, WakerRegistration, Wakes};
 pub use shared::{
     ByteState, Copied, FillBufFuture, Pipe, PipeReader, PipeWriter, ReadFuture, Reader, SharedPipe,
     WriteAllFuture, WriteFuture, Writer,
 };
+use std::alloc::AllocError;
 use std::marker::Model;
 use thiserror::Error;
 
@@ -57,6 +59,16 @@ impl<W, const N: usize> Model for PipeState<W, N> {
     ghost coded = { piped_code W.code };
 
     ghost view = { λ a. record { ring = a.buffer; slots = record { readers = a.read_waker; writers = a.write_waker } } };
+}
+
+impl<W: Copy, const N: usize> Kept for PipeState<W, N> {
+    fn kept(&self) -> Result<Self, AllocError> {
+        Ok(PipeState {
+            buffer: self.buffer.kept()?,
+            read_waker: self.read_waker.kept()?,
+            write_waker: self.write_waker.kept()?,
+        })
+    }
 }
 
 // Hands a slot out where this is so.
