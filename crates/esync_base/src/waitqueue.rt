@@ -4,12 +4,14 @@ ghost use Rattle.esync_base.specs.Rows.{items_of};
 ghost use Rattle.esync_base.specs.Registration.{registered, displaced};
 
 use crate::kept::Kept;
+pub use atomic_waker::{AtomicWaker, AtomicWakerState, GenericAtomicWaker};
 pub use multi_waker::MultiWakerRegistration;
 use std::alloc::AllocError;
 use std::fmt;
 use std::marker::Model;
 use std::sync::Wait;
 
+mod atomic_waker;
 mod multi_waker;
 
 /// What a poll answers.
