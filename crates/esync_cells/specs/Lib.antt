@@ -6,3 +6,4 @@ pub mod OnceRules
 pub mod OnceLaws
 pub mod LazyLock
 pub mod LazyRules
+pub mod Watch

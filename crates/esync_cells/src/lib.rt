@@ -4,3 +4,4 @@
 pub mod lazy_lock;
 pub mod once_lock;
 pub mod signal;
+pub mod watch;

@@ -1,0 +1,461 @@
+//! The latest value, for several receivers: a new value overwrites the one before, and each receiver knows which version it has seen.
+ghost use Rattle.std.specs.Prelude.{◌≡◌, ℕ, Bool, Option, ◌+◌, ◌-◌, ◌<◌, ◌≤◌, ◌++◌, ◌&&◌, [], None, Some, true, false, length, is_some, nat_lt, OnOk, OnErr, IfErr};
+ghost use Rattle.esync_base.specs.Registration.{registered_if, displaced_if};
+ghost use Rattle.esync_cells.specs.Watch.{fresh, judged, found, Answers, seen_after, polled, waiter_where_pending, last_version, sent, woken_by, sent_if, woken_if, counted};
+
+use esync_base::waitqueue::{Context, MultiWakerRegistration, Poll, Wakes};
+use std::alloc::AllocError;
+use std::marker::Model;
+
+/// Versions have run out: nothing was sent, and what was to be sent comes back. Of a change that is `()`.
+#[derive(Clone, Copy, Debug, PartialEq, Eq, Drop)]
+pub struct Exhausted<T>(pub T);
+
+/// A change of a watch's value, with a stated meaning.
+pub trait Change<T> {
+    /// What it makes of a value.
+    ghost changed: { Self → Option T → Option T };
+
+    /// Whether it answers true of a value.
+    ghost tells: { Self → Option T → Bool };
+
+    /// Changes the value, and answers true where it is another one then.
+    fn apply(&self, value: &mut Option<T>) -> bool
+        ensures value { value.new ≡ changed self.now value.old }
+        ensures answer { result ≡ tells self.now value.old };
+
+    /// A change tells: where it answers false, the value is as it was.
+    ghost a_change_tells: { (c : Self) (v : Option T) → tells c v ≡ false → changed c v ≡ v };
+}
+
+/// A test of values, which judges by the value alone.
+pub trait Judge<T> {
+    /// Whether a value passes.
+    ghost passes: { Self → T → Bool };
+
+    /// The value passes the test.
+    fn holds(&self, value: &T) -> bool
+        ensures { result ≡ passes self.now value.now };
+}
+
+/// The state of a watch: the latest value, if there is one, its version, how many receivers are counted (at most `N`), and the
+/// wakers of up to `N` tasks that wait for news.
+///
+/// The version that a receiver has seen stands with the receiver, and is lent to each read.
+#[derive(Drop)]
+pub struct WatchState<T, W, const N: usize> {
+    value: Option<T>,
+    version: u64,
+    waiters: MultiWakerRegistration<W, N>,
+    receivers: usize,
+}
+
+impl<T, W, const N: usize> Model for WatchState<T, W, N> {
+    ghost use Rattle.std.specs.Prelude.{◌≤◌};
+    ghost use Rattle.esync_cells.specs.Watch.{Watching, watching_code};
+
+    ghost Value = { Watching T W };
+
+    ghost coded = { watching_code T.code W.code };
+
+    ghost view = { λ a. record { value = a.value; version = a.version; receivers = a.receivers; waiters = a.waiters } };
+
+    ghost invariant = { λ a. a.receivers ≤ N };
+}
+
+impl<T: Drop, W: Copy + Eq, const N: usize> WatchState<T, W, N> {
+    /// No value, at version 0.
+    pub fn new() -> Self
+        ensures { result ≡ fresh None 0 }
+    {
+        WatchState::new_at(0)
+    }
+
+    /// This value, at version 0: nobody has news of it.
+    pub fn new_with(value: T) -> Self
+        ensures { result ≡ fresh (Some value) 0 }
+    {
+        WatchState {
+            value: Some(value),
+            version: 0,
+            waiters: MultiWakerRegistration::new(),
+            receivers: 0,
+        }
+    }
+
+    /// No value, at this version.
+    pub fn new_at(version: u64) -> Self
+        ensures { result ≡ fresh None version }
+    {
+        WatchState {
+            value: None,
+            version,
+            waiters: MultiWakerRegistration::new(),
+            receivers: 0,
+        }
+    }
+
+    /// Drops the value. The version stays, and who waits goes on waiting.
+    pub fn clear(&mut self)
+        ensures { self.new ≡ record self.old { value = None } }
+    {
+        self.value = None;
+    }
+
+    /// Puts a value, whatever is there, under the next version, and wakes who waits.
+    ///
+    /// # Errors
+    ///
+    /// The value comes back where the version is `u64::MAX`, and nothing is changed.
+    pub fn send<const K: usize>(
+        &mut self,
+        value: T,
+        wakes: &mut Wakes<W, K>,
+    ) -> Result<(), Exhausted<T>>
+        requires { length wakes.old + N ≤ K }
+        ensures room { OnOk result (self.old.version < last_version) }
+        ensures exhausted { OnErr result (self.old.version ≡ last_version) }
+        ensures returned { IfErr result (λ back. back.0 ≡ value) }
+        ensures state { self.new ≡ sent self.old (Some value) result }
+        ensures wakes { wakes.new ≡ wakes.old ++ woken_by result self.old.waiters }
+        ensures at_most { length wakes.new ≤ length wakes.old + N }
+    {
+        if self.version == u64::MAX {
+            return Err(Exhausted(value));
+        }
+        self.value = Some(value);
+        self.tell(wakes);
+        Ok(())
+    }
+
+    /// Changes the value, under the next version, and wakes who waits, whether or not the change answers that there is another
+    /// value.
+    ///
+    /// # Errors
+    ///
+    /// Where the version is `u64::MAX` the change isn't called, and nothing is changed.
+    pub fn send_modify<C: Change<T>, const K: usize>(
+        &mut self,
+        change: &C,
+        wakes: &mut Wakes<W, K>,
+    ) -> Result<(), Exhausted<()>>
+        requires { length wakes.old + N ≤ K }
+        ensures room { OnOk result (self.old.version < last_version) }
+        ensures exhausted { OnErr result (self.old.version ≡ last_version) }
+        ensures state { self.new ≡ sent self.old (C.changed change.now self.old.value) result }
+        ensures wakes { wakes.new ≡ wakes.old ++ woken_by result self.old.waiters }
+        ensures at_most { length wakes.new ≤ length wakes.old + N }
+    {
+        if self.version == u64::MAX {
+            return Err(Exhausted(()));
+        }
+        change.apply(&mut self.value);
+        self.tell(wakes);
+        Ok(())
+    }
+
+    /// Changes the value. Where the change answers that there is another value, it stands under the next version, and who waits is
+    /// woken.
+    ///
+    /// # Errors
+    ///
+    /// Where the version is `u64::MAX` the change isn't called, and nothing is changed.
+    pub fn send_if_modified<C: Change<T>, const K: usize>(
+        &mut self,
+        change: &C,
+        wakes: &mut Wakes<W, K>,
+    ) -> Result<(), Exhausted<()>>
+        requires { length wakes.old + N ≤ K }
+        ensures room { OnOk result (self.old.version < last_version) }
+        ensures exhausted { OnErr result (self.old.version ≡ last_version) }
+        ensures state { self.new ≡ sent_if self.old (C.changed change.now self.old.value) (C.tells change.now self.old.value) result }
+        ensures wakes { wakes.new ≡ wakes.old ++ woken_if (C.tells change.now self.old.value) result self.old.waiters }
+        ensures at_most { length wakes.new ≤ length wakes.old + N }
+    {
+        if self.version == u64::MAX {
+            return Err(Exhausted(()));
+        }
+        if change.apply(&mut self.value) {
+            self.tell(wakes);
+        }
+        Ok(())
+    }
+
+    // Wakes who waits for news, which stand under the next version.
+    fn tell<const K: usize>(&mut self, wakes: &mut Wakes<W, K>)
+        requires more { self.old.version < last_version }
+        requires room { length wakes.old + N ≤ K }
+        ensures state { self.new ≡ record self.old { version = self.old.version + 1; waiters = [] } }
+        ensures wakes { wakes.new ≡ wakes.old ++ self.old.waiters }
+        ensures at_most { length wakes.new ≤ length wakes.old + N }
+    {
+        self.version += 1;
+        self.waiters.wake(wakes);
+    }
+
+    /// There is a value.
+    pub fn contains_value(&self) -> bool
+        ensures { result ≡ is_some self.now.value }
+    {
+        self.value.is_some()
+    }
+
+    /// The version of the latest value: how often one was sent.
+    pub fn get_msg_id(&self) -> u64
+        ensures { result ≡ self.now.version }
+    {
+        self.version
+    }
+
+    /// How many receivers are counted.
+    pub fn receivers(&self) -> usize
+        ensures value { result ≡ self.now.receivers }
+        ensures within { result ≤ N }
+    {
+        self.receivers
+    }
+
+    /// Counts one more receiver, which has seen version 0, and answers true, or answers false where `N` are counted.
+    pub fn add_receiver(&mut self) -> bool
+        ensures answer { result ≡ nat_lt self.old.receivers N }
+        ensures state { self.new ≡ record self.old { receivers = counted result self.old.receivers } }
+    {
+        let has_room = self.receivers < N;
+        if has_room {
+            self.receivers += 1;
+        }
+        has_room
+    }
+
+    /// Counts one receiver less. There has to be one, as `receivers` tells.
+    pub fn drop_receiver(&mut self)
+        requires { 1 ≤ self.old.receivers }
+        ensures { self.new ≡ record self.old { receivers = self.old.receivers - 1 } }
+    {
+        self.receivers -= 1;
+    }
+}
+
+impl<T: Clone, W: Copy + Eq, const N: usize> WatchState<T, W, N> {
+    /// A clone of the value, if there is one. The version is marked as seen, also where there is none. Who keeps no version lends one
+    /// that it drops.
+    ///
+    /// # Errors
+    ///
+    /// Where a clone has no memory the seen version stays.
+    pub fn try_get(&self, seen: &mut u64) -> Result<Option<T>, AllocError>
+        ensures answer { Answers T.is_clone T.is_infallible self.now.value result }
+        ensures seen { seen.new ≡ seen_after true self.now.version seen.old result }
+    {
+        self.read(true, true, seen)
+    }
+
+    /// A clone of the value, if there is one that passes the test. Its version is marked as seen.
+    ///
+    /// # Errors
+    ///
+    /// Where a clone has no memory the seen version stays.
+    pub fn try_get_and<J: Judge<T>>(
+        &self,
+        judge: &J,
+        seen: &mut u64,
+    ) -> Result<Option<T>, AllocError>
+        ensures answer { Answers T.is_clone T.is_infallible (found (judged (J.passes judge.now) self.now.value) self.now.value) result }
+        ensures seen { seen.new ≡ seen_after false self.now.version seen.old result }
+    {
+        self.read(self.judged(judge), false, seen)
+    }
+
+    /// A clone of the value, if there is one and its version is newer than the one that was seen. A newer version is marked as seen,
+    /// also where there is no value.
+    ///
+    /// # Errors
+    ///
+    /// Where a clone has no memory the seen version stays.
+    pub fn try_changed(&self, seen: &mut u64) -> Result<Option<T>, AllocError>
+        ensures answer { Answers T.is_clone T.is_infallible (found (nat_lt seen.old self.now.version) self.now.value) result }
+        ensures seen { seen.new ≡ seen_after (nat_lt seen.old self.now.version) self.now.version seen.old result }
+    {
+        let is_newer = *seen < self.version;
+        self.read(is_newer, is_newer, seen)
+    }
+
+    /// A clone of the value, if there is one that passes the test and its version is newer than the one that was seen. Its version is
+    /// marked as seen.
+    ///
+    /// # Errors
+    ///
+    /// Where a clone has no memory the seen version stays.
+    pub fn try_changed_and<J: Judge<T>>(
+        &self,
+        judge: &J,
+        seen: &mut u64,
+    ) -> Result<Option<T>, AllocError>
+        ensures answer { Answers T.is_clone T.is_infallible (found (nat_lt seen.old self.now.version && judged (J.passes judge.now) self.now.value) self.now.value) result }
+        ensures seen { seen.new ≡ seen_after false self.now.version seen.old result }
+    {
+        self.read(self.judged_newer(judge, *seen), false, seen)
+    }
+
+    /// A clone of the value, whose version is marked as seen. Where there is none, the context's waker waits for one.
+    ///
+    /// # Errors
+    ///
+    /// Where a clone has no memory the seen version stays, and nobody is registered.
+    pub fn poll_get<const K: usize>(
+        &mut self,
+        seen: &mut u64,
+        cx: &Context<W>,
+        wakes: &mut Wakes<W, K>,
+    ) -> Result<Poll<T>, AllocError>
+        requires place { 1 ≤ N }
+        requires room { length wakes.old + N ≤ K }
+        ensures answer { Answers T.is_clone T.is_infallible self.old.value (polled result) }
+        ensures seen { seen.new ≡ seen_after false self.old.version seen.old (polled result) }
+        ensures state { self.new ≡ record self.old { waiters = registered_if W.eq N self.old.waiters (waiter_where_pending result cx.now) } }
+        ensures wakes { wakes.new ≡ wakes.old ++ displaced_if W.eq N self.old.waiters (waiter_where_pending result cx.now) }
+        ensures at_most { length wakes.new ≤ length wakes.old + N }
+    {
+        self.poll(true, seen, cx, wakes)
+    }
+
+    /// A clone of the value that passes the test, whose version is marked as seen. Where there is none, the context's waker waits for
+    /// one.
+    ///
+    /// # Errors
+    ///
+    /// Where a clone has no memory the seen version stays, and nobody is registered.
+    pub fn poll_get_and<J: Judge<T>, const K: usize>(
+        &mut self,
+        judge: &J,
+        seen: &mut u64,
+        cx: &Context<W>,
+        wakes: &mut Wakes<W, K>,
+    ) -> Result<Poll<T>, AllocError>
+        requires place { 1 ≤ N }
+        requires room { length wakes.old + N ≤ K }
+        ensures answer { Answers T.is_clone T.is_infallible (found (judged (J.passes judge.now) self.old.value) self.old.value) (polled result) }
+        ensures seen { seen.new ≡ seen_after false self.old.version seen.old (polled result) }
+        ensures state { self.new ≡ record self.old { waiters = registered_if W.eq N self.old.waiters (waiter_where_pending result cx.now) } }
+        ensures wakes { wakes.new ≡ wakes.old ++ displaced_if W.eq N self.old.waiters (waiter_where_pending result cx.now) }
+        ensures at_most { length wakes.new ≤ length wakes.old + N }
+    {
+        self.poll(self.judged(judge), seen, cx, wakes)
+    }
+
+    /// A clone of the value, if its version is newer than the one that was seen, and marks it. Elsewhere the context's waker waits for
+    /// one.
+    ///
+    /// # Errors
+    ///
+    /// Where a clone has no memory the seen version stays, and nobody is registered.
+    pub fn poll_changed<const K: usize>(
+        &mut self,
+        seen: &mut u64,
+        cx: &Context<W>,
+        wakes: &mut Wakes<W, K>,
+    ) -> Result<Poll<T>, AllocError>
+        requires place { 1 ≤ N }
+        requires room { length wakes.old + N ≤ K }
+        ensures answer { Answers T.is_clone T.is_infallible (found (nat_lt seen.old self.old.version) self.old.value) (polled result) }
+        ensures seen { seen.new ≡ seen_after false self.old.version seen.old (polled result) }
+        ensures state { self.new ≡ record self.old { waiters = registered_if W.eq N self.old.waiters (waiter_where_pending result cx.now) } }
+        ensures wakes { wakes.new ≡ wakes.old ++ displaced_if W.eq N self.old.waiters (waiter_where_pending result cx.now) }
+        ensures at_most { length wakes.new ≤ length wakes.old + N }
+    {
+        self.poll(*seen < self.version, seen, cx, wakes)
+    }
+
+    /// A clone of the value, if it passes the test and its version is newer than the one that was seen, and marks it. Elsewhere the
+    /// context's waker waits for one.
+    ///
+    /// # Errors
+    ///
+    /// Where a clone has no memory the seen version stays, and nobody is registered.
+    pub fn poll_changed_and<J: Judge<T>, const K: usize>(
+        &mut self,
+        judge: &J,
+        seen: &mut u64,
+        cx: &Context<W>,
+        wakes: &mut Wakes<W, K>,
+    ) -> Result<Poll<T>, AllocError>
+        requires place { 1 ≤ N }
+        requires room { length wakes.old + N ≤ K }
+        ensures answer { Answers T.is_clone T.is_infallible (found (nat_lt seen.old self.old.version && judged (J.passes judge.now) self.old.value) self.old.value) (polled result) }
+        ensures seen { seen.new ≡ seen_after false self.old.version seen.old (polled result) }
+        ensures state { self.new ≡ record self.old { waiters = registered_if W.eq N self.old.waiters (waiter_where_pending result cx.now) } }
+        ensures wakes { wakes.new ≡ wakes.old ++ displaced_if W.eq N self.old.waiters (waiter_where_pending result cx.now) }
+        ensures at_most { length wakes.new ≤ length wakes.old + N }
+    {
+        self.poll(self.judged_newer(judge, *seen), seen, cx, wakes)
+    }
+
+    // A poll of the value, if it is to be shown.
+    fn poll<const K: usize>(
+        &mut self,
+        shows: bool,
+        seen: &mut u64,
+        cx: &Context<W>,
+        wakes: &mut Wakes<W, K>,
+    ) -> Result<Poll<T>, AllocError>
+        requires place { 1 ≤ N }
+        requires room { length wakes.old + N ≤ K }
+        ensures answer { Answers T.is_clone T.is_infallible (found shows self.old.value) (polled result) }
+        ensures seen { seen.new ≡ seen_after false self.old.version seen.old (polled result) }
+        ensures state { self.new ≡ record self.old { waiters = registered_if W.eq N self.old.waiters (waiter_where_pending result cx.now) } }
+        ensures wakes { wakes.new ≡ wakes.old ++ displaced_if W.eq N self.old.waiters (waiter_where_pending result cx.now) }
+        ensures at_most { length wakes.new ≤ length wakes.old + N }
+    {
+        match self.read(shows, false, seen)? {
+            Some(value) => Ok(Poll::Ready(value)),
+            None => {
+                self.waiters.register(cx.waker(), wakes);
+                Ok(Poll::Pending)
+            }
+        }
+    }
+
+    // A read of the value, if it is to be shown. It may mark the version as seen even where it finds nothing.
+    fn read(&self, shows: bool, marks: bool, seen: &mut u64) -> Result<Option<T>, AllocError>
+        ensures answer { Answers T.is_clone T.is_infallible (found shows self.now.value) result }
+        ensures seen { seen.new ≡ seen_after marks self.now.version seen.old result }
+    {
+        match self.show(shows)? {
+            Some(value) => {
+                *seen = self.version;
+                Ok(Some(value))
+            }
+            None if marks => {
+                *seen = self.version;
+                Ok(None)
+            }
+            None => Ok(None),
+        }
+    }
+
+    // A clone of the value, if it is to be shown.
+    fn show(&self, shows: bool) -> Result<Option<T>, AllocError>
+        ensures { Answers T.is_clone T.is_infallible (found shows self.now.value) result }
+    {
+        match &self.value {
+            Some(value) if shows => Ok(Some(value.clone()?)),
+            _ => Ok(None),
+        }
+    }
+
+    // There is a value that passes the test.
+    fn judged<J: Judge<T>>(&self, judge: &J) -> bool
+        ensures { result ≡ judged (J.passes judge.now) self.now.value }
+    {
+        match &self.value {
+            Some(value) => judge.holds(value),
+            None => false,
+        }
+    }
+    // There is a value that passes the test, and its version is newer than the one that was seen.
+    fn judged_newer<J: Judge<T>>(&self, judge: &J, seen: u64) -> bool
+        ensures { result ≡ (nat_lt seen self.now.version && judged (J.passes judge.now) self.now.value) }
+    {
+        seen < self.version && self.judged(judge)
+    }
+}
