@@ -27,3 +27,5 @@ mod runs;
 mod signal;
 #[cfg(test)]
 mod wakers;
+#[cfg(test)]
+mod watch;

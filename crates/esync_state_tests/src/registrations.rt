@@ -1,4 +1,6 @@
-use esync_base::waitqueue::{Context, TaskId, WakerRegistration, Wakes};
+use esync_base::waitqueue::{
+    AtomicWakerState, Context, MultiWakerRegistration, TaskId, WakerRegistration, Wakes,
+};
 use std::test::Fail;
 
 #[test]
@@ -33,4 +35,41 @@ fn an_empty_slot_hands_out_nothing(rt: HostRuntime) -> Result<(), Fail> {
 fn a_context_lends_its_waker(rt: HostRuntime) {
     let cx = Context::from_waker(TaskId(3));
     assert_eq!(rt; cx.waker(), TaskId(3));
+}
+
+#[test]
+fn a_full_list_is_handed_out_for_another(rt: HostRuntime) {
+    let mut list: MultiWakerRegistration<u32, 2> = MultiWakerRegistration::new();
+    let mut wakes: Wakes<u32, 8> = Wakes::new();
+    list.register(1, &mut wakes);
+    list.register(2, &mut wakes);
+    list.register(1, &mut wakes);
+    assert!(rt; wakes.is_empty());
+    list.register(3, &mut wakes);
+    assert_eq!(rt;
+        (wakes.get(0), wakes.get(1), wakes.len()),
+        (Some(1), Some(2), 2)
+    );
+    let mut wakes: Wakes<u32, 2> = Wakes::new();
+    list.wake(&mut wakes);
+    assert_eq!(rt; (wakes.get(0), wakes.len()), (Some(3), 1));
+    let mut wakes: Wakes<u32, 2> = Wakes::new();
+    list.wake(&mut wakes);
+    assert!(rt; wakes.is_empty());
+}
+
+#[test]
+fn an_atomic_waker_is_woken_again(rt: HostRuntime) {
+    let mut waker = AtomicWakerState::new();
+    let mut wakes: Wakes<u32, 3> = Wakes::new();
+    waker.wake(&mut wakes);
+    assert!(rt; wakes.is_empty());
+    waker.register(1);
+    waker.register(2);
+    waker.wake(&mut wakes);
+    waker.wake(&mut wakes);
+    assert_eq!(rt;
+        (wakes.get(0), wakes.get(1), wakes.len()),
+        (Some(2), Some(2), 2)
+    );
 }
