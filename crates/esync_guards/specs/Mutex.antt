@@ -1,0 +1,30 @@
+-- A lock: whether it is held, and who waits for it.
+use Rattle.std.specs.Prelude.{Bool, true, false, List, Option, Some, None, Result, Ok, Err, refl}
+use Rattle.std.specs.Coded.{Coded, code_by, coded×, coded_list, coded_bool}
+use Rattle.esync_base.specs.declared.waitqueue.Poll.{Poll}
+use Rattle.esync_base.specs.declared.waitqueue.Poll.TheVariants.{Pending, Ready}
+use Rattle.esync_guards.specs.declared.mutex.TryLockError.{TryLockError}
+
+pub record Locking (W : Type 0) : Type 0 where
+  pub held : Bool
+  -- at most one waker
+  pub waiter : List W
+
+abbrev pub locking_code : {W : Type 0} → Coded W → Coded (Locking W)
+locking_code {W} w =
+    code_by (Bool × List W) (coded× coded_bool (coded_list w)) (λ s. (s.held, s.waiter)) (λ p. record { held = p.0; waiter = p.1 }) (λ _. refl)
+
+-- what a try of a lock answers, by whether it is held
+abbrev pub tried : Bool → Result (Unit {0}) TryLockError
+tried true = Err (record {})
+tried false = Ok tt
+
+-- what a poll of a lock answers
+abbrev pub polled : Bool → Poll (Unit {0})
+polled true = Pending
+polled false = Ready tt
+
+-- the waker of a poll registers where the lock is held
+abbrev pub waiter_where_held : {W : Type 0} → Bool → W → Option W
+waiter_where_held true w = Some w
+waiter_where_held false w = None

@@ -1,0 +1,4 @@
+//! Values that one task at a time may use, through a guard.
+#![tactic(auto)]
+
+pub mod mutex;

@@ -1,0 +1,102 @@
+//! A value that one task at a time may use: whoever locks it gets a guard, whose end unlocks it.
+ghost use Rattle.std.specs.Prelude.{◌≡◌, ◌<◌, ◌++◌, [], length, true, false};
+ghost use Rattle.esync_base.specs.Registration.{registered_if, displaced_if};
+ghost use Rattle.esync_guards.specs.Mutex.{tried, polled, waiter_where_held};
+
+use esync_base::waitqueue::{Context, Poll, WakerRegistration, Wakes};
+use std::marker::Model;
+use thiserror::Error;
+
+/// The mutex is locked.
+#[derive(Clone, Copy, Debug, PartialEq, Eq, Error)]
+#[error("the mutex is locked")]
+pub struct TryLockError;
+
+/// The state of a mutex: whether it is locked, and the waker of who waits for it.
+#[derive(Drop)]
+pub struct MutexState<W> {
+    locked: bool,
+    waker: WakerRegistration<W>,
+}
+
+impl<W> Model for MutexState<W> {
+    ghost use Rattle.esync_guards.specs.Mutex.{Locking, locking_code};
+
+    ghost Value = { Locking W };
+
+    ghost coded = { locking_code W.code };
+
+    ghost view = { λ a. record { held = a.locked; waiter = a.waker } };
+}
+
+impl<W: Copy + Eq> Default for MutexState<W> {
+    fn default() -> Self
+        ensures held { result.held ≡ false }
+        ensures waiter { result.waiter ≡ [] }
+    {
+        MutexState::new()
+    }
+}
+
+impl<W: Copy + Eq> MutexState<W> {
+    /// Unlocked, and nobody who waits.
+    pub fn new() -> Self
+        ensures held { result.held ≡ false }
+        ensures waiter { result.waiter ≡ [] }
+    {
+        MutexState {
+            locked: false,
+            waker: WakerRegistration::new(),
+        }
+    }
+
+    /// Locks, if it is not locked. Otherwise nothing changes.
+    pub fn try_lock(&mut self) -> Result<(), TryLockError>
+        ensures answer { result ≡ tried self.old.held }
+        ensures state { self.new ≡ record self.old { held = true } }
+    {
+        if self.locked {
+            return Err(TryLockError);
+        }
+        self.locked = true;
+        Ok(())
+    }
+
+    /// Locks, if it is not locked. Otherwise the context's waker waits for that.
+    pub fn poll_lock<const K: usize>(
+        &mut self,
+        cx: &Context<W>,
+        wakes: &mut Wakes<W, K>,
+    ) -> Poll<()>
+        requires { length wakes.old < K }
+        ensures answer { result ≡ polled self.old.held }
+        ensures state { self.new ≡ record { held = true; waiter = registered_if W.eq 1 self.old.waiter (waiter_where_held self.old.held cx.now) } }
+        ensures wakes { wakes.new ≡ wakes.old ++ displaced_if W.eq 1 self.old.waiter (waiter_where_held self.old.held cx.now) }
+    {
+        match self.try_lock() {
+            Ok(()) => Poll::Ready(()),
+            Err(TryLockError) => {
+                self.waker.register(cx.waker(), wakes);
+                Poll::Pending
+            }
+        }
+    }
+
+    /// Unlocks, and wakes who waits.
+    pub fn unlock<const K: usize>(&mut self, wakes: &mut Wakes<W, K>)
+        requires { length wakes.old < K }
+        ensures state { self.new ≡ record { held = false; waiter = [] } }
+        ensures wakes { wakes.new ≡ wakes.old ++ self.old.waiter }
+    {
+        self.locked = false;
+        self.waker.wake(wakes);
+    }
+
+    /// It is locked.
+    pub fn is_locked(&self) -> bool
+        ensures { result ≡ self.now.held }
+    {
+        let MutexState { locked, waker: _ } = self;
+        *locked
+    }
+}
