@@ -1,1 +1,3 @@
 pub mod Mutex
+pub mod MutexRules
+pub mod MutexLaws

@@ -28,3 +28,12 @@ polled false = Ready tt
 abbrev pub waiter_where_held : {W : Type 0} → Bool → W → Option W
 waiter_where_held true w = Some w
 waiter_where_held false w = None
+
+-- a mutex with its value
+pub record Guarding (T W : Type 0) : Type 0 where
+  pub lock : Locking W
+  pub value : T
+
+abbrev pub guarding_code : {T W : Type 0} → Coded T → Coded W → Coded (Guarding T W)
+guarding_code {T} {W} t w =
+    code_by (Locking W × T) (coded× (locking_code w) t) (λ s. (s.lock, s.value)) (λ p. record { lock = p.0; value = p.1 }) (λ _. refl)
