@@ -33,7 +33,34 @@ pub trait Projection<T, U> {
 
 /// Puts another part into a value.
 pub fn put_part<T, U: Drop, P: Projection<T, U>>(value: &mut T, projection: &P, part: U)
-    ensures { value.new ≡ P.set value.old part }
+    ensures value { value.new ≡ P.set value.old part }
+    ensures part { P.get value.new ≡ part }
 {
     *P::write(value, projection) = part;
+}
+
+/// The second of two.
+#[derive(Clone, Copy, Debug, PartialEq, Eq)]
+pub struct Second {}
+
+impl<T> Projection<(T, T), T> for Second {
+    ghost use Rattle.std.specs.Prelude.{refl};
+
+    ghost get = { λ v. v.1 };
+
+    ghost set = { λ v u. (v.0, u) };
+
+    fn read<'a>(&self, value: &'a (T, T)) -> &'a T {
+        &value.1
+    }
+
+    fn write<'a>(value: &'a mut (T, T), _projection: &Self) -> &'a mut T {
+        &mut value.1
+    }
+
+    ghost get_set = { λ v u. refl };
+
+    ghost set_get = { λ v. refl };
+
+    ghost set_set = { λ v u w. refl };
 }
