@@ -1,3 +1,4 @@
 pub mod Mutex
 pub mod MutexRules
 pub mod MutexLaws
+pub mod ProjectionLaws

@@ -4,7 +4,7 @@ ghost use Rattle.esync_base.specs.Registration.{registered_if, displaced_if};
 ghost use Rattle.esync_guards.specs.Mutex.{tried, polled, waiter_where_held};
 
 use esync_base::waitqueue::{Context, Poll, WakerRegistration, Wakes};
-pub use projection::{Projection, Second, put_part};
+pub use projection::{Projection, Second, Then, put_part};
 use std::marker::Model;
 use thiserror::Error;
 

@@ -2,6 +2,8 @@
 ghost use Rattle.std.specs.Prelude.{◌≡◌};
 ghost use Rattle.std.specs.Borrow.{Lends, sem};
 
+use std::marker::PhantomData;
+
 /// A part of a value, which a guard can be narrowed to.
 ///
 /// What is lent for reading and for writing is the same part, and writing it leaves the rest of the value.
@@ -13,11 +15,11 @@ pub trait Projection<T, U> {
     ghost set: { T → U → T };
 
     /// Lends the part.
-    fn read<'a>(&self, value: &'a T) -> &'a U
+    fn read<'a>(&'a self, value: &'a T) -> &'a U
         ensures { result.now ≡ get value.now };
 
     /// Lends the part to be written. The value comes first, since it is what ends as the part is left.
-    fn write<'a>(value: &'a mut T, projection: &Self) -> &'a mut U
+    fn write<'a>(value: &'a mut T, projection: &'a Self) -> &'a mut U
         ensures* writes_back { sem 𝓛 (Lends T.row U.row value.entry result (set value.old)) }
         ensures part { result.now ≡ get value.old };
 
@@ -39,6 +41,52 @@ pub fn put_part<T, U: Drop, P: Projection<T, U>>(value: &mut T, projection: &P, 
     *P::write(value, projection) = part;
 }
 
+/// A part of a part: that of the second projection in that of the first.
+#[derive(Drop)]
+pub struct Then<P, Q, U> {
+    first: P,
+    second: Q,
+    between: PhantomData<U>,
+}
+
+impl<P, Q, U> Then<P, Q, U> {
+    /// The part of the second projection in that of the first.
+    pub fn new(first: P, second: Q) -> Self
+        ensures first { result.first ≡ first }
+        ensures second { result.second ≡ second }
+    {
+        Then {
+            first,
+            second,
+            between: PhantomData,
+        }
+    }
+}
+
+impl<T, U, V, P: Projection<T, U>, Q: Projection<U, V>> Projection<T, V> for Then<P, Q, U> {
+    ghost use Rattle.esync_guards.specs.ProjectionLaws.{then_get_set, then_set_get, then_set_set};
+
+    ghost get = { λ v. Q.get (P.get v) };
+
+    ghost set = { λ v u. P.set v (Q.set (P.get v) u) };
+
+    fn read<'a>(&'a self, value: &'a T) -> &'a V {
+        let between = self.first.read(value);
+        self.second.read(between)
+    }
+
+    fn write<'a>(value: &'a mut T, projection: &'a Self) -> &'a mut V {
+        let between = P::write(value, &projection.first);
+        Q::write(between, &projection.second)
+    }
+
+    ghost get_set = { then_get_set P.get P.set Q.get Q.set P.get_set Q.get_set };
+
+    ghost set_get = { then_set_get P.get P.set Q.get Q.set P.set_get Q.set_get };
+
+    ghost set_set = { then_set_set P.get P.set Q.get Q.set P.get_set P.set_set Q.set_set };
+}
+
 /// The second of two.
 #[derive(Clone, Copy, Debug, PartialEq, Eq)]
 pub struct Second {}
@@ -50,11 +98,11 @@ impl<T> Projection<(T, T), T> for Second {
 
     ghost set = { λ v u. (v.0, u) };
 
-    fn read<'a>(&self, value: &'a (T, T)) -> &'a T {
+    fn read<'a>(&'a self, value: &'a (T, T)) -> &'a T {
         &value.1
     }
 
-    fn write<'a>(value: &'a mut (T, T), _projection: &Self) -> &'a mut T {
+    fn write<'a>(value: &'a mut (T, T), _projection: &'a Self) -> &'a mut T {
         &mut value.1
     }
 
