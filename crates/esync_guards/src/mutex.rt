@@ -5,11 +5,13 @@ ghost use Rattle.esync_guards.specs.Mutex.{tried, polled, waiter_where_held};
 
 use esync_base::waitqueue::{Context, Poll, WakerRegistration, Wakes};
 pub use projection::{Projection, Second, Then, put_part};
+pub use shared::{LockFuture, MappedMutexGuard, Mutex, MutexGuard};
 use std::marker::Model;
 use thiserror::Error;
 
 pub mod machine;
 mod projection;
+mod shared;
 
 /// The mutex is locked.
 #[derive(Clone, Copy, Debug, PartialEq, Eq, Error)]

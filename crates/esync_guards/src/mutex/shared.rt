@@ -1,0 +1,221 @@
+//! A mutex that tasks on several threads share by reference, its guards and its future.
+ghost use Rattle.std.specs.Prelude.{◌≡◌, []};
+
+use super::{MutexState, Projection, Then, TryLockError};
+use esync_base::shared::Shared;
+use esync_base::step;
+use esync_base::waitqueue::{Context, Hand, Poll, Wakes};
+use std::marker::PhantomData;
+use std::ops::{Deref, DerefMut};
+use std::sync;
+
+// A value that one at a time takes, who never waits for it.
+#[derive(Drop)]
+struct Place<T> {
+    value: sync::Mutex<T>,
+}
+
+impl<T> Place<T> {
+    // Takes the value, unless another has it.
+    fn turn(&self) -> Option<sync::MutexGuard<'_, T>> {
+        self.value.try_lock()
+    }
+}
+
+/// A value that tasks on several threads share by reference, and one at a time uses through a guard.
+///
+/// Its lock is held for the length of a state call alone. A guard has the value to itself: it reads and writes it without
+/// a lock.
+#[derive(Drop)]
+pub struct Mutex<T, W, H> {
+    state: Shared<MutexState<W>, W, H>,
+    inner: Place<T>,
+}
+
+impl<T, W: Copy + Eq, H: Hand<W>> Mutex<T, W, H> {
+    /// The value under a lock that nobody has.
+    pub fn new(value: T, hand: H) -> Self {
+        Mutex {
+            state: Shared::new(MutexState::new(), hand),
+            inner: Place {
+                value: sync::Mutex::new(value),
+            },
+        }
+    }
+
+    /// Locks, when the mutex is not locked.
+    pub fn lock(&self) -> LockFuture<'_, T, W, H> {
+        LockFuture { mutex: self }
+    }
+
+    /// Locks, if the mutex is not locked now. The error leaves everything as it is.
+    pub fn try_lock(&self) -> Result<MutexGuard<'_, T, W, H>, TryLockError> {
+        let mut state = self.state.guard();
+        if state.is_locked() {
+            return Err(TryLockError);
+        }
+        let Some(value) = self.inner.turn() else {
+            return Err(TryLockError);
+        };
+        state.try_lock()?;
+        Ok(MutexGuard { mutex: self, value })
+    }
+
+    fn poll_lock(&self, cx: &Context<W>) -> Poll<MutexGuard<'_, T, W, H>> {
+        let turn = step!(
+            self.state,
+            |state, wakes| poll_turn(&self.inner, &mut state, cx, &mut wakes)
+        );
+        match turn {
+            Some(value) => Poll::Ready(MutexGuard { mutex: self, value }),
+            None => Poll::Pending,
+        }
+    }
+
+    /// The value. Nobody has a guard, since the mutex is moved.
+    pub fn into_inner(self) -> T
+    where
+        H: Drop,
+    {
+        let Mutex { state: _, inner } = self;
+        let Place { value } = inner;
+        value.into_inner()
+    }
+
+    /// The value, which nobody has a guard of while it is borrowed.
+    pub fn get_mut(&mut self) -> &mut T {
+        self.inner.value.get_mut()
+    }
+}
+
+// Takes the value where the state grants the lock. Where the value isn't there though the state would grant, the state is left
+// and the waker is handed out, so that the task polls again.
+fn poll_turn<'a, T, W: Copy + Eq>(
+    place: &'a Place<T>,
+    state: &mut MutexState<W>,
+    cx: &Context<W>,
+    wakes: &mut Wakes<W, 1>,
+) -> Option<sync::MutexGuard<'a, T>>
+    requires { wakes.old ≡ [] }
+{
+    if state.is_locked() {
+        let _ = state.poll_lock(cx, wakes);
+        return None;
+    }
+    let Some(value) = place.turn() else {
+        wakes.push(cx.waker());
+        return None;
+    };
+    let _ = state.poll_lock(cx, wakes);
+    Some(value)
+}
+
+impl<T, W: Copy + Eq, H: Hand<W> + Default> From<T> for Mutex<T, W, H> {
+    fn from(value: T) -> Self {
+        Mutex::new(value, H::default())
+    }
+}
+
+impl<T: Default, W: Copy + Eq, H: Hand<W> + Default> Default for Mutex<T, W, H> {
+    fn default() -> Self {
+        Mutex::new(T::default(), H::default())
+    }
+}
+
+/// A request for the lock: what `lock` gives. It acts anew after it was ready.
+#[derive(Drop)]
+pub struct LockFuture<'a, T, W, H> {
+    mutex: &'a Mutex<T, W, H>,
+}
+
+impl<'a, T, W: Copy + Eq, H: Hand<W>> LockFuture<'a, T, W, H> {
+    /// Locks, if the mutex is not locked now. Otherwise the context's waker waits for that.
+    pub fn poll(&mut self, cx: &Context<W>) -> Poll<MutexGuard<'a, T, W, H>> {
+        self.mutex.poll_lock(cx)
+    }
+}
+
+/// Whoever has it has the lock, and the value. Its end unlocks, and wakes who waits.
+pub struct MutexGuard<'a, T, W: Copy + Eq, H: Hand<W>> {
+    mutex: &'a Mutex<T, W, H>,
+    value: sync::MutexGuard<'a, T>,
+}
+
+impl<'a, T, W: Copy + Eq, H: Hand<W>> Drop for MutexGuard<'a, T, W, H> {
+    fn drop(self) {
+        let MutexGuard { mutex, value } = self;
+        drop(value);
+        step!(mutex.state, |state, wakes| state.unlock(&mut wakes))
+    }
+}
+
+impl<'a, T, W: Copy + Eq, H: Hand<W>> MutexGuard<'a, T, W, H> {
+    /// The value.
+    pub fn get(&self) -> &T {
+        self.value.deref()
+    }
+
+    /// The value, to be written.
+    pub fn get_mut(&mut self) -> &mut T {
+        self.value.deref_mut()
+    }
+
+    /// Narrows the guard to a part of the value. The mutex stays locked.
+    pub fn map<U, P: Projection<T, U>>(self, projection: P) -> MappedMutexGuard<'a, T, U, P, W, H> {
+        MappedMutexGuard {
+            guard: self,
+            projection,
+            part: PhantomData,
+        }
+    }
+
+    /// Unlocks, as a drop does.
+    pub fn end(self) {
+        drop(self);
+    }
+}
+
+/// A guard that is narrowed to a part of the value. Its end unlocks, and wakes who waits.
+#[derive(Drop)]
+pub struct MappedMutexGuard<'a, T, U, P, W: Copy + Eq, H: Hand<W>> {
+    guard: MutexGuard<'a, T, W, H>,
+    projection: P,
+    part: PhantomData<U>,
+}
+
+impl<'a, T, U, P: Projection<T, U>, W: Copy + Eq, H: Hand<W>> MappedMutexGuard<'a, T, U, P, W, H> {
+    /// The part.
+    pub fn get(&self) -> &U {
+        self.projection.read(self.guard.get())
+    }
+
+    /// The part, to be written.
+    pub fn get_mut(&mut self) -> &mut U {
+        P::write(self.guard.get_mut(), &self.projection)
+    }
+
+    /// Narrows the guard to a part of the part. The mutex stays locked.
+    pub fn map<V, Q: Projection<U, V>>(
+        self,
+        projection: Q,
+    ) -> MappedMutexGuard<'a, T, V, Then<P, Q, U>, W, H> {
+        let MappedMutexGuard {
+            guard,
+            projection: first,
+            part: _,
+        } = self;
+        MappedMutexGuard {
+            guard,
+            projection: Then::new(first, projection),
+            part: PhantomData,
+        }
+    }
+
+    /// Unlocks, as a drop does.
+    pub fn end(self)
+    where
+        P: Drop,
+    {
+        drop(self);
+    }
+}
