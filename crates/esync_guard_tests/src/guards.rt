@@ -1,0 +1,85 @@
+use esync_base::waitqueue::{Context, Hand, Poll};
+use esync_guards::mutex::{LockFuture, Mutex, MutexGuard, Second, TryLockError};
+use esync_notes::{Notes, woken};
+use std::process::Abort;
+
+// A guard of a mutex that is not locked.
+fn locks<'a, T, H: Hand<u64>>(
+    rt: &impl Abort,
+    mutex: &'a Mutex<T, u64, H>,
+) -> MutexGuard<'a, T, u64, H> {
+    match mutex.try_lock() {
+        Ok(guard) => guard,
+        Err(TryLockError) => rt.abort(),
+    }
+}
+
+// A poll that locks.
+fn polls<'a, T, H: Hand<u64>>(
+    rt: &impl Abort,
+    request: &mut LockFuture<'a, T, u64, H>,
+    waker: u64,
+) -> MutexGuard<'a, T, u64, H> {
+    match request.poll(&Context::from_waker(waker)) {
+        Poll::Ready(guard) => guard,
+        Poll::Pending => rt.abort(),
+    }
+}
+
+fn waits<T, H: Hand<u64>>(rt: &impl Abort, request: &mut LockFuture<'_, T, u64, H>, waker: u64) {
+    if let Poll::Ready(guard) = request.poll(&Context::from_waker(waker)) {
+        guard.end();
+        rt.abort()
+    }
+}
+
+#[test]
+fn a_part_is_written_through_a_mapped_guard(rt: HostRuntime) {
+    let notes = Notes::new(&rt);
+    let mutex = Mutex::new((0u32, 1u32), &notes);
+    let mut request = mutex.lock();
+    let mut part = polls(&rt, &mut request, 1).map(Second {});
+    assert_eq!(rt; *part.get(), 1);
+    *part.get_mut() = 2;
+    part.end();
+    let guard = polls(&rt, &mut request, 1);
+    assert_eq!(rt; *guard.get(), (0, 2));
+    drop(guard);
+    woken!(&rt, &notes, &[]);
+    assert_eq!(rt; mutex.into_inner(), (0, 2));
+}
+
+#[test]
+fn a_part_of_a_part_is_written(rt: HostRuntime) {
+    let notes = Notes::new(&rt);
+    let mutex = Mutex::new(((1u32, 2u32), (3u32, 4u32)), &notes);
+    let mut part = locks(&rt, &mutex).map(Second {}).map(Second {});
+    assert_eq!(rt; *part.get(), 4);
+    *part.get_mut() = 9;
+    part.end();
+    assert_eq!(rt; *locks(&rt, &mutex).get(), ((1, 2), (3, 9)));
+}
+
+#[test]
+fn the_end_of_a_guard_wakes_who_waits(rt: HostRuntime) {
+    let notes = Notes::new(&rt);
+    let mut mutex = Mutex::new(5u32, &notes);
+    *mutex.get_mut() = 6;
+    let mut guard = locks(&rt, &mutex);
+    assert!(rt; matches!(mutex.try_lock(), Err(TryLockError)));
+    let mut first = mutex.lock();
+    let mut second = mutex.lock();
+    waits(&rt, &mut first, 1);
+    woken!(&rt, &notes, &[]);
+    waits(&rt, &mut second, 2);
+    woken!(&rt, &notes, &[1]);
+    *guard.get_mut() = 7;
+    assert_eq!(rt; *guard.get(), 7);
+    guard.end();
+    woken!(&rt, &notes, &[2]);
+    let held = polls(&rt, &mut second, 2);
+    assert_eq!(rt; *held.get(), 7);
+    waits(&rt, &mut first, 1);
+    held.end();
+    woken!(&rt, &notes, &[1]);
+}

@@ -1,0 +1,7 @@
+//! What no clause says of the mutex: its worked rows, and what each shared call answers, shows and hands out.
+#![tactic(auto)]
+
+#[cfg(test)]
+mod guards;
+#[cfg(test)]
+mod machine;

@@ -1,0 +1,106 @@
+use esync_guards::mutex::machine::{Guarded, Lock, MutexCall, MutexCommand, MutexHeard, MutexRun};
+use esync_guards::mutex::{Second, TryLockError};
+use esync_machine::primitive::{Answer, Command};
+use esync_machine::requests::Requests;
+use esync_machine::run::Machine;
+use std::process::Abort;
+
+type Pairs = MutexRun<(u32, u32), u32, Second, u64, 4, 1>;
+
+type Heard = MutexHeard<(u32, u32), u32>;
+
+// A command, its answer, and the waker that it hands out.
+fn gives(
+    rt: &impl Abort,
+    mutex: &mut Pairs,
+    command: MutexCommand<(u32, u32), u32, u64>,
+    answer: Answer<Heard>,
+    handed_out: Option<u64>,
+) {
+    let reply = mutex.step(command);
+    assert!(rt; reply.answer == answer);
+    assert!(rt; reply.wakes.get(0) == handed_out);
+}
+
+fn call(
+    rt: &impl Abort,
+    mutex: &mut Pairs,
+    call: MutexCall<(u32, u32), u32>,
+    answer: Answer<Heard>,
+) {
+    gives(rt, mutex, Command::Call(call), answer, None);
+}
+
+#[test]
+fn the_end_of_a_mapped_guard_wakes_who_waits(rt: HostRuntime) {
+    let mut mutex: Pairs = Requests::new(Guarded::new((4, 6), Second {}));
+    let locked = Answer::Gives(MutexHeard::Tried(Ok(())));
+    call(&rt, &mut mutex, MutexCall::TryLock(0), locked);
+    gives(
+        &rt,
+        &mut mutex,
+        Command::Start(1, Lock {}),
+        Answer::Done,
+        None,
+    );
+    gives(&rt, &mut mutex, Command::Poll(1, 8), Answer::Pending, None);
+    call(&rt, &mut mutex, MutexCall::Map(0), Answer::Done);
+    call(&rt, &mut mutex, MutexCall::WritePart(0, 9), Answer::Done);
+    call(
+        &rt,
+        &mut mutex,
+        MutexCall::Read(0),
+        Answer::Gives(MutexHeard::Part(9)),
+    );
+    gives(&rt, &mut mutex, Command::End(0), Answer::Done, Some(8));
+    gives(
+        &rt,
+        &mut mutex,
+        Command::Poll(1, 8),
+        Answer::Gives(MutexHeard::Locked),
+        None,
+    );
+    call(
+        &rt,
+        &mut mutex,
+        MutexCall::Read(1),
+        Answer::Gives(MutexHeard::Value((4, 9))),
+    );
+}
+
+#[test]
+fn what_is_of_another_kind_is_not_there(rt: HostRuntime) {
+    let mut mutex: Pairs = Requests::new(Guarded::new((4, 6), Second {}));
+    gives(
+        &rt,
+        &mut mutex,
+        Command::Start(0, Lock {}),
+        Answer::Done,
+        None,
+    );
+    call(&rt, &mut mutex, MutexCall::Read(0), Answer::NoSuch);
+    gives(
+        &rt,
+        &mut mutex,
+        Command::Poll(0, 1),
+        Answer::Gives(MutexHeard::Locked),
+        None,
+    );
+    gives(&rt, &mut mutex, Command::Poll(0, 1), Answer::NoSuch, None);
+    call(&rt, &mut mutex, MutexCall::WritePart(0, 9), Answer::NoSuch);
+    call(&rt, &mut mutex, MutexCall::TryLock(0), Answer::NoSuch);
+    let refused = Answer::Gives(MutexHeard::Tried(Err(TryLockError)));
+    call(&rt, &mut mutex, MutexCall::TryLock(1), refused);
+    call(&rt, &mut mutex, MutexCall::Map(1), Answer::NoSuch);
+    call(&rt, &mut mutex, MutexCall::Write(0, (1, 2)), Answer::Done);
+    call(&rt, &mut mutex, MutexCall::Map(0), Answer::Done);
+    call(&rt, &mut mutex, MutexCall::Map(0), Answer::NoSuch);
+    call(&rt, &mut mutex, MutexCall::Write(0, (3, 3)), Answer::NoSuch);
+    call(
+        &rt,
+        &mut mutex,
+        MutexCall::Read(0),
+        Answer::Gives(MutexHeard::Part(2)),
+    );
+    call(&rt, &mut mutex, MutexCall::Read(4), Answer::NoSuch);
+}
