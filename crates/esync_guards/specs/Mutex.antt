@@ -1,6 +1,7 @@
 -- A lock: whether it is held, and who waits for it.
-use Rattle.std.specs.Prelude.{Bool, true, false, List, Option, Some, None, Result, Ok, Err, refl}
+use Rattle.std.specs.Prelude.{◌≡◌, Bool, true, false, List, [], ◌∷◌, Option, Some, None, Result, Ok, Err, refl}
 use Rattle.std.specs.Coded.{Coded, code_by, coded×, coded_list, coded_bool}
+use Rattle.esync_base.specs.Registration.{displaced}
 use Rattle.esync_base.specs.declared.waitqueue.Poll.{Poll}
 use Rattle.esync_base.specs.declared.waitqueue.Poll.TheVariants.{Pending, Ready}
 use Rattle.esync_guards.specs.declared.mutex.TryLockError.{TryLockError}
@@ -37,3 +38,14 @@ pub record Guarding (T W : Type 0) : Type 0 where
 abbrev pub guarding_code : {T W : Type 0} → Coded T → Coded W → Coded (Guarding T W)
 guarding_code {T} {W} t w =
     code_by (Locking W × T) (coded× (locking_code w) t) (λ s. (s.lock, s.value)) (λ p. record { lock = p.0; value = p.1 }) (λ _. refl)
+
+-- who takes the value locks, and else the lock stays
+abbrev pub Wins : {W : Type 0} → Bool → Locking W → Locking W → Type 0
+Wins true old new = (old.held ≡ false) × (new ≡ record old { held = true })
+Wins false old new = new ≡ old
+
+-- what a poll hands out, by whether the lock was held and whether it took the value: its own waker where neither was so
+abbrev pub wakes_of_turn : {W : Type 0} → (W → W → Bool) → W → Bool → Bool → List W → List W
+wakes_of_turn eq w true won waiter = displaced eq 1 waiter w
+wakes_of_turn eq w false true waiter = []
+wakes_of_turn eq w false false waiter = w ∷ []

@@ -1,5 +1,7 @@
 //! A mutex that tasks on several threads share by reference, its guards and its future.
-ghost use Rattle.std.specs.Prelude.{◌≡◌, []};
+ghost use Rattle.std.specs.Prelude.{◌≡◌, [], is_some};
+ghost use Rattle.esync_base.specs.Registration.{registered_if};
+ghost use Rattle.esync_guards.specs.Mutex.{Wins, waiter_where_held, wakes_of_turn};
 
 use super::{MutexState, Projection, Then, TryLockError};
 use esync_base::shared::Shared;
@@ -50,15 +52,11 @@ impl<T, W: Copy + Eq, H: Hand<W>> Mutex<T, W, H> {
 
     /// Locks, if the mutex is not locked now. The error leaves everything as it is.
     pub fn try_lock(&self) -> Result<MutexGuard<'_, T, W, H>, TryLockError> {
-        let mut state = self.state.guard();
-        if state.is_locked() {
-            return Err(TryLockError);
+        let turn = try_turn(&self.inner, &mut self.state.guard());
+        match turn {
+            Some(value) => Ok(MutexGuard { mutex: self, value }),
+            None => Err(TryLockError),
         }
-        let Some(value) = self.inner.turn() else {
-            return Err(TryLockError);
-        };
-        state.try_lock()?;
-        Ok(MutexGuard { mutex: self, value })
     }
 
     fn poll_lock(&self, cx: &Context<W>) -> Poll<MutexGuard<'_, T, W, H>> {
@@ -88,8 +86,23 @@ impl<T, W: Copy + Eq, H: Hand<W>> Mutex<T, W, H> {
     }
 }
 
-// Takes the value where the state grants the lock. Where the value isn't there though the state would grant, the state is left
-// and the waker is handed out, so that the task polls again.
+// Locks where the state is free and the value is there, and takes the value.
+fn try_turn<'a, T, W: Copy + Eq>(
+    place: &'a Place<T>,
+    state: &mut MutexState<W>,
+) -> Option<sync::MutexGuard<'a, T>>
+    ensures { Wins (is_some result) state.old state.new }
+{
+    if state.is_locked() {
+        return None;
+    }
+    let value = place.turn()?;
+    let _ = state.try_lock();
+    Some(value)
+}
+
+// The same, or else waits for the lock. Where the state is free and the value isn't there, it hands out the waker, so that the
+// task polls again.
 fn poll_turn<'a, T, W: Copy + Eq>(
     place: &'a Place<T>,
     state: &mut MutexState<W>,
@@ -97,17 +110,19 @@ fn poll_turn<'a, T, W: Copy + Eq>(
     wakes: &mut Wakes<W, 1>,
 ) -> Option<sync::MutexGuard<'a, T>>
     requires { wakes.old ≡ [] }
+    ensures won { Wins (is_some result) (record state.old { waiter = [] }) (record state.new { waiter = [] }) }
+    ensures waiter { state.new.waiter ≡ registered_if W.eq 1 state.old.waiter (waiter_where_held state.old.held cx.now) }
+    ensures wakes { wakes.new ≡ wakes_of_turn W.eq cx.now state.old.held (is_some result) state.old.waiter }
 {
+    if let Some(value) = try_turn(place, state) {
+        return Some(value);
+    }
     if state.is_locked() {
         let _ = state.poll_lock(cx, wakes);
-        return None;
-    }
-    let Some(value) = place.turn() else {
+    } else {
         wakes.push(cx.waker());
-        return None;
-    };
-    let _ = state.poll_lock(cx, wakes);
-    Some(value)
+    }
+    None
 }
 
 impl<T, W: Copy + Eq, H: Hand<W> + Default> From<T> for Mutex<T, W, H> {
