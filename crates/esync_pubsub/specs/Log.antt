@@ -1,0 +1,144 @@
+-- A log: messages with consecutive numbers, and how far each subscriber has read.
+use Rattle.std.specs.Prelude.{◌≡◌, ℕ, suc, ◌+◌, ◌-◌, ◌<◌, ◌≤◌, Bool, true, false, List, [], ◌∷◌, ◌++◌, length, drop, Option, Some, None, Result, Ok, Err, if◌then◌else◌, is_some, nat_lt, slice_get, slice_set, slice_index_or, refl}
+use Rattle.std.specs.List.{list_all, list_any}
+use Rattle.std.specs.Coded.{Coded, code_by, coded×, coded_ℕ, coded_list, coded_option}
+use Rattle.esync_pubsub.specs.declared.pubsub.TryPublishError.{TryPublishError}
+use Rattle.esync_pubsub.specs.declared.pubsub.TryPublishError.TheVariants.{Full, Exhausted}
+use Rattle.esync_pubsub.specs.declared.pubsub.Exhausted.{Exhausted as NoNumber}
+use Rattle.esync_pubsub.specs.declared.pubsub.WaitResult.{WaitResult}
+use Rattle.esync_pubsub.specs.declared.pubsub.WaitResult.TheVariants.{Lagged, Message}
+
+pub record Log (T : Type 0) : Type 0 where
+  -- the messages that are held, oldest first
+  pub held : List T
+  -- the number of the next message: one above the last held one's
+  pub next : ℕ
+  -- the number that each subscriber reads next, at its place
+  pub positions : List (Option ℕ)
+
+abbrev pub log_code : {T : Type 0} → Coded T → Coded (Log T)
+log_code {T} t =
+    code_by (List T × (ℕ × List (Option ℕ))) (coded× (coded_list t) (coded× coded_ℕ (coded_list (coded_option coded_ℕ)))) (λ s. (s.held, (s.next, s.positions))) (λ p. record { held = p.0; next = p.1.0; positions = p.1.1 }) (λ _. refl)
+
+-- nobody is at the place, or the position is above the number
+abbrev pub is_above : ℕ → Option ℕ → Bool
+is_above n None = true
+is_above n (Some p) = nat_lt n p
+
+-- every live position is above the number
+abbrev pub is_read : ℕ → List (Option ℕ) → Bool
+is_read n positions = list_all (is_above n) positions
+
+-- what is held from the number n on, without the messages in front that every live position is above
+abbrev pub trimmed : {T : Type 0} → ℕ → List (Option ℕ) → List T → List T
+trimmed n positions [] = []
+trimmed n positions (m ∷ ms) = if is_read n positions then trimmed (suc n) positions ms else m ∷ ms
+
+-- the number that is never given
+abbrev pub last_number : ℕ
+last_number = 18446744073709551615
+
+-- a position, or 0 where nobody is at the place
+abbrev pub number_of : Option ℕ → ℕ
+number_of None = 0
+number_of (Some p) = p
+
+-- the last live reader is given the message itself, and others a clone
+abbrev pub Gives : {T : Type 0} → (T → T → Type 0) → Bool → T → T → Type 0
+Gives IsClone true message given = given ≡ message
+Gives IsClone false message given = IsClone message given
+
+-- the least place where nobody is
+pub record IsLeastFree (place : ℕ) (positions : List (Option ℕ)) : Type 0 where
+  pub free : slice_get positions place ≡ Some None
+  pub least : (k : ℕ) → k < place → is_some (slice_index_or positions k None) ≡ true
+
+module _ {T : Type 0} where
+  -- the number of the oldest held message, or the next number where none is held
+  abbrev pub oldest : Log T → ℕ
+  oldest log = log.next - length log.held
+
+  abbrev pub has_subscribers : Log T → Bool
+  has_subscribers log = list_any is_some log.positions
+
+  -- a subscriber is at the place
+  abbrev pub is_live : ℕ → Log T → Bool
+  is_live place log = is_some (slice_index_or log.positions place None)
+
+  -- the number that the subscriber at the place reads next
+  abbrev pub position : ℕ → Log T → ℕ
+  position place log = number_of (slice_index_or log.positions place None)
+
+  -- with the message under the next number
+  abbrev pub published : T → Log T → Log T
+  published message log = record { held = log.held ++ message ∷ []; next = log.next + 1; positions = log.positions }
+
+  -- without the oldest message, where cap are held
+  abbrev pub with_room : ℕ → Log T → Log T
+  with_room cap log = record log { held = (if nat_lt (length log.held) cap then log.held else drop 1 log.held) }
+
+  -- with the position of the subscriber at the place
+  abbrev pub moved : ℕ → ℕ → Log T → Log T
+  moved place p log = record log { positions = slice_set log.positions place (Some p) }
+
+  -- without the subscriber at the place
+  abbrev pub without : ℕ → Log T → Log T
+  without place log = record log { positions = slice_set log.positions place None }
+
+  -- without the messages that every live position is above
+  abbrev pub settled : Log T → Log T
+  settled log = record log { held = trimmed (oldest log) log.positions log.held }
+
+  abbrev pub left : ℕ → Log T → Log T
+  left place log = settled (without place log)
+
+  abbrev pub cleared : Log T → Log T
+  cleared log = record log { held = [] }
+
+  -- a subscriber comes to the least free place and reads on from the next number, or all places are taken
+  abbrev pub Joins : Log T → Option ℕ → Log T → Type 0
+  Joins log (Some place) log2 = IsLeastFree place log.positions × (log2 ≡ moved place log.next log)
+  Joins log None log2 = (list_all is_some log.positions ≡ true) × (log2 ≡ log)
+
+  -- without subscribers a message is let go, and else it is held
+  abbrev pub Accepts : Bool → Log T → Log T → Log T → Type 0
+  Accepts true log log2 after = (log.next < last_number) × (log2 ≡ after)
+  Accepts false log log2 after = log2 ≡ log
+
+  -- publishing: Full where cap are held, else Exhausted where the numbers have run out
+  abbrev pub Publishes : ℕ → T → Log T → Result (Unit {0}) (TryPublishError T) → Log T → Type 0
+  Publishes cap message log (Ok done) log2 = (has_subscribers log ≡ true → length log.held < cap) × Accepts (has_subscribers log) log log2 (published message log)
+  Publishes cap message log (Err (Full back)) log2 = (has_subscribers log ≡ true) × (length log.held ≡ cap) × (back ≡ message) × (log2 ≡ log)
+  Publishes cap message log (Err (Exhausted back)) log2 = (has_subscribers log ≡ true) × (length log.held < cap) × (log.next ≡ last_number) × (back ≡ message) × (log2 ≡ log)
+
+  -- publishing at once: the oldest message makes room
+  abbrev pub PublishesAtOnce : ℕ → T → Log T → Result (Unit {0}) (NoNumber T) → Log T → Type 0
+  PublishesAtOnce cap message log (Ok done) log2 = Accepts (has_subscribers log) log log2 (published message (with_room cap log))
+  PublishesAtOnce cap message log (Err refused) log2 = (has_subscribers log ≡ true) × (log.next ≡ last_number) × (refused ≡ record { 0 = message }) × (log2 ≡ log)
+
+  -- no other live position than that at the place is at or below the number
+  abbrev pub is_last : ℕ → ℕ → Log T → Bool
+  is_last place n log = is_read n (slice_set log.positions place None)
+
+  module _ (IsClone : T → T → Type 0) (place : ℕ) where
+    -- a message is read: itself by its last reader, and else a clone
+    pub record Takes (log : Log T) (given : T) (log2 : Log T) : Type 0 where
+      pub from : oldest log ≤ position place log
+      pub message : T
+      pub here : slice_get log.held (position place log - oldest log) ≡ Some message
+      pub gives : Gives IsClone (is_last place (position place log) log) message given
+      pub after : log2 ≡ settled (moved place (position place log + 1) log)
+
+    -- a read: nothing at the end, how many messages are gone for a position that lags, and else the message there
+    abbrev pub Reads : Log T → Option (WaitResult T) → Log T → Type 0
+    Reads log None log2 = (position place log ≡ log.next) × (log2 ≡ log)
+    Reads log (Some (Lagged k)) log2 = (position place log < oldest log) × (k ≡ oldest log - position place log) × (log2 ≡ moved place (oldest log) log)
+    Reads log (Some (Message given)) log2 = Takes log given log2
+
+  -- a clone is refused: of a message that another live position is at or below too, and whose clone may fail
+  pub record IsRefused (IsInfallible : T → Type 0) (place : ℕ) (log : Log T) : Type 0 where
+    pub from : oldest log ≤ position place log
+    pub message : T
+    pub here : slice_get log.held (position place log - oldest log) ≡ Some message
+    pub shared : is_last place (position place log) log ≡ false
+    pub fallible : ¬ (IsInfallible message)

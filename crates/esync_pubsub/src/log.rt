@@ -1,0 +1,296 @@
+//! Messages with consecutive numbers, and how far each subscriber has read.
+ghost use Rattle.std.specs.Prelude.{◌≡◌, ℕ, true, suc, not, nat_lt, ◌+◌, ◌-◌, ◌<◌, ◌≤◌, ◌↔◌, [], Some, None, length, drop, is_some, IsTrue, replicate, slice_get, slice_set, slice_index, slice_index_or, IfOk, OnErr, IfSome, IfNone};
+ghost use Rattle.std.specs.List.{list_all};
+ghost use Rattle.esync_pubsub.specs.Counts.{unread};
+ghost use Rattle.esync_pubsub.specs.Log.{IsLeastFree, oldest, has_subscribers, last_number, published, with_room, is_live, position, left, cleared, Joins, Publishes, PublishesAtOnce};
+
+use crate::pubsub::{Exhausted, TryPublishError};
+use esync_base::deque::Deque;
+use std::marker::Model;
+
+// The number that each subscriber reads next, at its place.
+#[derive(Debug, Drop)]
+struct Positions<const SUBS: usize> {
+    row: [Option<u64>; SUBS],
+}
+
+impl<const SUBS: usize> Positions<SUBS> {
+    fn new() -> Self
+        ensures { result.row ≡ replicate SUBS None }
+    {
+        Positions { row: [None; SUBS] }
+    }
+
+    fn get(&self, place: usize) -> Option<u64>
+        requires { length self.now.row ≡ SUBS }
+        ensures { result ≡ slice_index_or self.now.row place None }
+    {
+        if place < SUBS { self.row[place] } else { None }
+    }
+
+    fn put(&mut self, place: usize, position: Option<u64>)
+        requires { place < SUBS }
+        ensures { self.new.row ≡ slice_set self.old.row place position }
+    {
+        self.row[place] = position;
+    }
+
+    // The least place where nobody is.
+    fn free_place(&self) -> Option<usize>
+        requires { length self.now.row ≡ SUBS }
+        ensures found { IfSome result (λ place. IsLeastFree place self.now.row) }
+        ensures none { IfNone result (list_all is_some self.now.row ≡ true) }
+    {
+        for place in 0..SUBS {
+            if self.row[place].is_none() {
+                return Some(place);
+            }
+        }
+        None
+    }
+}
+
+// One reader fewer for each message from place `from` on.
+fn lower_from<const N: usize>(counts: &mut Deque<usize, N>, from: usize)
+    requires { (k : ℕ) → from ≤ k → k < length counts.old.items → 0 < slice_index counts.old.items k }
+    ensures length { length counts.new.items ≡ length counts.old.items }
+    ensures before { (k : ℕ) → k < from → slice_index counts.new.items k ≡ slice_index counts.old.items k }
+    ensures behind { (k : ℕ) → from ≤ k → k < length counts.old.items → suc (slice_index counts.new.items k) ≡ slice_index counts.old.items k }
+{
+    for i in from..counts.len() {
+        let readers = *counts.get(i);
+        counts.replace(i, readers - 1);
+    }
+}
+
+// The oldest message leaves, with its count.
+fn take_front<T: Drop, const N: usize>(
+    messages: &mut Deque<T, N>,
+    counts: &mut Deque<usize, N>,
+) -> Option<T>
+    ensures item { slice_get messages.old.items 0 ≡ result }
+    ensures messages { messages.new.items ≡ drop 1 messages.old.items }
+    ensures counts { counts.new.items ≡ drop 1 counts.old.items }
+{
+    counts.pop_front();
+    messages.pop_front()
+}
+
+// The oldest message is dropped.
+fn pop<T: Drop, const N: usize>(messages: &mut Deque<T, N>, counts: &mut Deque<usize, N>)
+    ensures messages { messages.new.items ≡ drop 1 messages.old.items }
+    ensures counts { counts.new.items ≡ drop 1 counts.old.items }
+{
+    take_front(messages, counts);
+}
+
+// Nobody still reads the oldest message.
+fn is_unread<const N: usize>(counts: &Deque<usize, N>) -> bool
+    ensures { IsTrue result ↔ (0 < unread counts.now.items) }
+{
+    match counts.front() {
+        Some(readers) => *readers == 0,
+        None => false,
+    }
+}
+
+// The messages in front that nobody still reads leave.
+fn free<T: Drop, const N: usize>(messages: &mut Deque<T, N>, counts: &mut Deque<usize, N>)
+    ensures messages { messages.new.items ≡ drop (unread counts.old.items) messages.old.items }
+    ensures counts { counts.new.items ≡ drop (unread counts.old.items) counts.old.items }
+{
+    for _message in 0..counts.len() {
+        if !is_unread(counts) {
+            return;
+        }
+        pop(messages, counts);
+    }
+}
+
+/// At most `CAP` messages, and at most `SUBS` subscribers, known by their places.
+#[derive(Drop)]
+pub struct Log<T, const CAP: usize, const SUBS: usize> {
+    messages: Deque<T, CAP>,
+    // Beside each message, how many subscribers still read it.
+    counts: Deque<usize, CAP>,
+    next: u64,
+    positions: Positions<SUBS>,
+    subscribers: usize,
+}
+
+impl<T, const CAP: usize, const SUBS: usize> Model for Log<T, CAP, SUBS> {
+    ghost use Rattle.esync_pubsub.specs.Log.{Log as Logged, log_code};
+    ghost use Rattle.esync_pubsub.specs.Counts.{IsLog};
+
+    ghost Value = { Logged T };
+
+    ghost coded = { log_code T.code };
+
+    ghost view = { λ a. record { held = a.messages.items; next = a.next; positions = a.positions.row } };
+
+    ghost invariant = { λ a. IsLog CAP SUBS a.messages.items a.counts.items a.next a.positions.row a.subscribers };
+}
+
+impl<T: Drop, const CAP: usize, const SUBS: usize> Log<T, CAP, SUBS> {
+    /// No messages and no subscribers; the first message has the number `next`.
+    pub fn new_at(next: u64) -> Self
+        requires { 1 ≤ CAP }
+        ensures { result ≡ record { held = []; next = next; positions = replicate SUBS None } }
+    {
+        Log {
+            messages: Deque::new(),
+            counts: Deque::new(),
+            next,
+            positions: Positions::new(),
+            subscribers: 0,
+        }
+    }
+
+    /// How many messages are held.
+    pub fn len(&self) -> usize
+        ensures value { result ≡ length self.now.held }
+        ensures within { result ≤ CAP }
+    {
+        self.messages.len()
+    }
+
+    /// No message is held.
+    pub fn is_empty(&self) -> bool
+        ensures { IsTrue result ↔ (self.now.held ≡ []) }
+    {
+        self.messages.is_empty()
+    }
+
+    /// As many messages are held as there is room for.
+    pub fn is_full(&self) -> bool
+        ensures answer { result ≡ not (nat_lt (length self.now.held) CAP) }
+        ensures within { length self.now.held ≤ CAP }
+    {
+        self.messages.len() >= CAP
+    }
+
+    /// A subscriber is at this place.
+    pub fn is_live(&self, place: usize) -> bool
+        ensures { result ≡ is_live place self.now }
+    {
+        self.positions.get(place).is_some()
+    }
+
+    /// How many messages were published that the subscriber at this place has not read, held or not.
+    pub fn available(&self, place: usize) -> u64
+        requires { IsTrue (is_live place self.now) }
+        ensures { result ≡ self.now.next - position place self.now }
+    {
+        match self.positions.get(place) {
+            Some(position) => self.next - position,
+            None => 0,
+        }
+    }
+
+    // The number of the oldest held message, or the next number where none is held.
+    fn oldest(&self) -> u64
+        ensures { result ≡ oldest self.now }
+    {
+        self.next - self.messages.len() as u64
+    }
+
+    // There are subscribers.
+    fn has_subscribers(&self) -> bool
+        ensures { result ≡ has_subscribers self.now }
+    {
+        self.subscribers > 0
+    }
+
+    /// A subscriber comes to the least free place, and reads what is published from now on. `None`: all places are taken.
+    pub fn join(&mut self) -> Option<usize>
+        ensures { Joins self.old result self.new }
+    {
+        let Some(place) = self.positions.free_place() else {
+            return None;
+        };
+        self.positions.put(place, Some(self.next));
+        self.subscribers += 1;
+        Some(place)
+    }
+
+    /// The subscriber at this place leaves. What nobody reads any more leaves with it.
+    pub fn leave(&mut self, place: usize)
+        requires { IsTrue (is_live place self.old) }
+        ensures { self.new ≡ left place self.old }
+    {
+        let Some(position) = self.positions.get(place) else {
+            unreachable!()
+        };
+        let from = position.saturating_sub(self.oldest());
+        self.positions.put(place, None);
+        self.subscribers -= 1;
+        lower_from(&mut self.counts, from as usize);
+        free(&mut self.messages, &mut self.counts);
+    }
+
+    // Puts a message behind the others, for all who are live.
+    fn hold(&mut self, message: T)
+        requires room { length self.old.held < CAP }
+        requires number { self.old.next < last_number }
+        requires live { has_subscribers self.old ≡ true }
+        ensures { self.new ≡ published message self.old }
+    {
+        let Ok(()) = self.messages.push_back(message) else {
+            unreachable!()
+        };
+        let Ok(()) = self.counts.push_back(self.subscribers) else {
+            unreachable!()
+        };
+        self.next += 1;
+    }
+
+    /// Publishes a message for all who are live. Refused, it comes back, and nothing has changed. Without subscribers it is let go.
+    pub fn publish(&mut self, message: T) -> Result<(), TryPublishError<T>>
+        ensures { Publishes CAP message self.old result self.new }
+    {
+        if !self.has_subscribers() {
+            return Ok(());
+        }
+        if self.is_full() {
+            return Err(TryPublishError::Full(message));
+        }
+        if self.next == u64::MAX {
+            return Err(TryPublishError::Exhausted(message));
+        }
+        self.hold(message);
+        Ok(())
+    }
+
+    // The oldest message leaves where there is no room.
+    fn make_room(&mut self)
+        ensures state { self.new ≡ with_room CAP self.old }
+        ensures room { length self.new.held < CAP }
+    {
+        if self.is_full() {
+            pop(&mut self.messages, &mut self.counts);
+        }
+    }
+
+    /// Publishes a message at once: a full log drops its oldest message. Refused, the message comes back, and nothing has changed.
+    pub fn publish_immediate(&mut self, message: T) -> Result<(), Exhausted<T>>
+        ensures { PublishesAtOnce CAP message self.old result self.new }
+    {
+        if !self.has_subscribers() {
+            return Ok(());
+        }
+        if self.next == u64::MAX {
+            return Err(Exhausted(message));
+        }
+        self.make_room();
+        self.hold(message);
+        Ok(())
+    }
+
+    /// Drops all messages. Who had not read them lags.
+    pub fn clear(&mut self)
+        ensures { self.new ≡ cleared self.old }
+    {
+        self.messages.clear();
+        self.counts.clear();
+    }
+}
