@@ -1,12 +1,13 @@
 -- What holds of every log, as messages and subscribers come and go.
 use Rattle.std.proofs.Common.{◌≡◌, ℕ, zero, suc, ◌+◌, ◌-◌, ◌<◌, ◌≤◌, Bool, true, false, List, [], ◌∷◌, ◌++◌, ◌⊎◌, inl, inr, length, get_or, drop, set, replicate, refl, sym, ◌∙◌, ap, subst, arith, cond, not}
-use Rattle.std.specs.Prelude.{Option, Some, None, is_some, nat_lt, slice_get, slice_set, slice_index, slice_index_or, if◌then◌else◌}
+use Rattle.std.specs.Prelude.{Option, Some, None, is_some, nat_lt, slice_get, slice_set, slice_index, slice_index_or, if◌then◌else◌, ◌==◌, Result, Ok, Err, IfOk, OnOk, OnErr}
 use Rattle.std.specs.List.{count_by, list_all, list_any}
 use Rattle.std.proofs.lemmas.Bool.Decides.{nat_tests}
 use Rattle.std.proofs.lemmas.List.Sums.{sum_by-set, sum_by-cons, count_by-le-length}
 use Rattle.std.proofs.lemmas.List.{length_push, length-drop, length-set, length-replicate, get_or-set_same, get_or-set_other}
+use Rattle.std.proofs.lemmas.Option.{get_or_from_slice_get}
 use Rattle.esync_base.specs.ListedLaws.{true_or_false, same_or_not}
-use Rattle.esync_pubsub.specs.Log.{Log, is_above, is_read, trimmed, number_of, settled, moved, left, position, is_last, Gives, Takes, IsRefused, Reads}
+use Rattle.esync_pubsub.specs.Log.{Log, is_above, is_read, trimmed, number_of, oldest, settled, moved, left, is_last, Takes, IsRefused, ClonesAt, MayFailAt}
 use Rattle.esync_pubsub.specs.Counts.{readers_of, unread, AreCounted, IsLog}
 use Rattle.esync_pubsub.proofs.Counted.{reads, reads-below, reads-above, readers_set, readers_all, readers_has, readers_more, read_where_none, unread_where_some, trimmed_none, unread-le, unread_wanted, counted_push, counted_pop, counted_front, trimmed_unread, counted_drop, counted_same}
 
@@ -44,6 +45,10 @@ live_test ps (suc s) e = (let t : nat_lt 0 (suc s) ≡ true = grind (arith, nat_
 
 pub live_number : (ps : List (Option ℕ)) (s : ℕ) → s ≡ count_by is_some ps → list_any is_some ps ≡ true → 0 < s
 live_number ps s e h = omega (arith, e, live_counted ps h)
+
+-- the count that was looked up
+pub got_count : (cs : List ℕ) (k k2 n : ℕ) → Some n ≡ slice_get cs k → k ≡ k2 → slice_index cs k2 ≡ n
+got_count cs k k2 n e q = ap (λ j. slice_index cs j) (sym q) ∙ get_or_from_slice_get cs k n 0 (sym e)
 
 -- what the test for room tells
 pub full_tells : (n cap : ℕ) → true ≡ not (nat_lt n cap) → cap ≤ n
@@ -124,6 +129,15 @@ drop_set (x ∷ cs) (suc j) c e = absurd (omega (arith, e))
 trimmed_front : {T : Type 0} (n : ℕ) (ps : List (Option ℕ)) (ms : List T) → is_read n ps ≡ true → trimmed n ps ms ≡ trimmed (suc n) ps (drop 1 ms)
 trimmed_front n ps [] e = refl
 trimmed_front n ps (m ∷ ms) e = rw e refl
+
+-- a read by a clone
+pub takes_clone : {T E : Type 0} (C : T → T → Type 0) (place n : ℕ) (log log2 : Log T) (r : Result T E) → oldest log ≤ n → is_last place n log ≡ false → IfOk r (λ given. ClonesAt C (n - oldest log) log.held given) → OnOk r (log2 ≡ settled (moved place (n + 1) log)) → IfOk r (λ given. Takes C place n log given log2)
+takes_clone C place n log log2 (Ok x) f l c s = record { from = f; gives = rw l c; after = s }
+takes_clone C place n log log2 (Err e) f l c s = tt
+
+pub refused_clone : {T E : Type 0} (I : T → Type 0) (place n : ℕ) (log : Log T) (r : Result T E) → oldest log ≤ n → is_last place n log ≡ false → OnErr r (MayFailAt I (n - oldest log) log.held) → OnErr r (IsRefused I place n log)
+refused_clone I place n log (Ok x) f l c = tt
+refused_clone I place n log (Err e) f l c = record { from = f; shared = l; fails = c }
 
 module _ {T : Type 0} (cap subs : ℕ) where
   pub log_new : (next : ℕ) → 1 ≤ cap → IsLog {T = T} cap subs [] [] next (replicate subs None) 0
@@ -358,3 +372,19 @@ module _ {T : Type 0} (cap subs : ℕ) where
           log_took_last = (let f : List T → Log T = λ h. record { held = h; next = next; positions = slice_set ps i (Some (p + 1)) } in
               let n : suc (next - length ms) ≡ next - length (drop 1 ms) = omega (arith, length-drop 1 ms, L.numbered, log_index) in
               ap f (sym (trimmed_front (next - length ms) (slice_set ps i (Some (p + 1))) ms gone ∙ ap (λ j. trimmed j (slice_set ps i (Some (p + 1))) (drop 1 ms)) n ∙ log_settled (drop 1 ms) (drop 1 cs) next (slice_set ps i (Some (p + 1))) s log_take_last)))
+
+        -- which of the two it is
+        read_some : 0 < slice_index cs (p - (next - length ms))
+        read_some = log_lowers (p - (next - length ms)) (omega arith) log_index
+
+        pub last_test : (slice_index cs (p - (next - length ms)) == 1) ≡ is_read p (slice_set ps i None)
+        last_test = elim (true_or_false (slice_index cs (p - (next - length ms)) == 1)) [
+          | inl t ↦ t ∙ sym (log_last (grind (arith, nat_tests)))
+          | inr t ↦ t ∙ sym (log_shared (grind (arith, nat_tests, read_some)))
+        ]
+
+        pub last_one : is_read p (slice_set ps i None) ≡ true → slice_index cs (p - (next - length ms)) ≡ 1
+        last_one t = (let e : (slice_index cs (p - (next - length ms)) == 1) ≡ true = last_test ∙ t in grind (arith, nat_tests))
+
+        pub shared_more : is_read p (slice_set ps i None) ≡ false → 1 < slice_index cs (p - (next - length ms))
+        shared_more t = (let e : (slice_index cs (p - (next - length ms)) == 1) ≡ false = last_test ∙ t in let z : 0 < slice_index cs (p - (next - length ms)) = read_some in grind (arith, nat_tests))

@@ -43,11 +43,6 @@ abbrev pub number_of : Option ℕ → ℕ
 number_of None = 0
 number_of (Some p) = p
 
--- the last live reader is given the message itself, and others a clone
-abbrev pub Gives : {T : Type 0} → (T → T → Type 0) → Bool → T → T → Type 0
-Gives IsClone true message given = given ≡ message
-Gives IsClone false message given = IsClone message given
-
 -- the least place where nobody is
 pub record IsLeastFree (place : ℕ) (positions : List (Option ℕ)) : Type 0 where
   pub free : slice_get positions place ≡ Some None
@@ -120,25 +115,37 @@ module _ {T : Type 0} where
   abbrev pub is_last : ℕ → ℕ → Log T → Bool
   is_last place n log = is_read n (slice_set log.positions place None)
 
-  module _ (IsClone : T → T → Type 0) (place : ℕ) where
-    -- a message is read: itself by its last reader, and else a clone
-    pub record Takes (log : Log T) (given : T) (log2 : Log T) : Type 0 where
-      pub from : oldest log ≤ position place log
-      pub message : T
-      pub here : slice_get log.held (position place log - oldest log) ≡ Some message
-      pub gives : Gives IsClone (is_last place (position place log) log) message given
-      pub after : log2 ≡ settled (moved place (position place log + 1) log)
-
-    -- a read: nothing at the end, how many messages are gone for a position that lags, and else the message there
-    abbrev pub Reads : Log T → Option (WaitResult T) → Log T → Type 0
-    Reads log None log2 = (position place log ≡ log.next) × (log2 ≡ log)
-    Reads log (Some (Lagged k)) log2 = (position place log < oldest log) × (k ≡ oldest log - position place log) × (log2 ≡ moved place (oldest log) log)
-    Reads log (Some (Message given)) log2 = Takes log given log2
-
-  -- a clone is refused: of a message that another live position is at or below too, and whose clone may fail
-  pub record IsRefused (IsInfallible : T → Type 0) (place : ℕ) (log : Log T) : Type 0 where
-    pub from : oldest log ≤ position place log
+  -- the message at this place in the list is cloned
+  pub record ClonesAt (IsClone : T → T → Type 0) (k : ℕ) (held : List T) (given : T) : Type 0 where
     pub message : T
-    pub here : slice_get log.held (position place log - oldest log) ≡ Some message
-    pub shared : is_last place (position place log) log ≡ false
+    pub here : slice_get held k ≡ Some message
+    pub clone : IsClone message given
+
+  -- the clone of the message at this place in the list may be refused
+  pub record MayFailAt (IsInfallible : T → Type 0) (k : ℕ) (held : List T) : Type 0 where
+    pub message : T
+    pub here : slice_get held k ≡ Some message
     pub fallible : ¬ (IsInfallible message)
+
+  -- the last live reader is given the message itself, and others a clone
+  abbrev pub Gives : (T → T → Type 0) → Bool → ℕ → List T → T → Type 0
+  Gives IsClone true k held given = slice_get held k ≡ Some given
+  Gives IsClone false k held given = ClonesAt IsClone k held given
+
+  -- the message with the number is read: itself by its last reader, and else a clone
+  pub record Takes (IsClone : T → T → Type 0) (place n : ℕ) (log : Log T) (given : T) (log2 : Log T) : Type 0 where
+    pub from : oldest log ≤ n
+    pub gives : Gives IsClone (is_last place n log) (n - oldest log) log.held given
+    pub after : log2 ≡ settled (moved place (n + 1) log)
+
+  -- a read: nothing at the end, how many messages are gone for a position that lags, and else the message there
+  abbrev pub Reads : (T → T → Type 0) → ℕ → Log T → Option (WaitResult T) → Log T → Type 0
+  Reads IsClone place log None log2 = (position place log ≡ log.next) × (log2 ≡ log)
+  Reads IsClone place log (Some (Lagged k)) log2 = (position place log < oldest log) × (k ≡ oldest log - position place log) × (log2 ≡ moved place (oldest log) log)
+  Reads IsClone place log (Some (Message given)) log2 = Takes IsClone place (position place log) log given log2
+
+  -- a clone is refused, of a message that others still read too
+  pub record IsRefused (IsInfallible : T → Type 0) (place n : ℕ) (log : Log T) : Type 0 where
+    pub from : oldest log ≤ n
+    pub shared : is_last place n log ≡ false
+    pub fails : MayFailAt IsInfallible (n - oldest log) log.held

@@ -1,11 +1,12 @@
 //! Messages with consecutive numbers, and how far each subscriber has read.
-ghost use Rattle.std.specs.Prelude.{◌≡◌, ℕ, true, suc, not, nat_lt, ◌+◌, ◌-◌, ◌<◌, ◌≤◌, ◌↔◌, [], Some, None, length, drop, is_some, IsTrue, replicate, slice_get, slice_set, slice_index, slice_index_or, IfOk, OnErr, IfSome, IfNone};
+ghost use Rattle.std.specs.Prelude.{◌≡◌, ℕ, true, false, suc, not, nat_lt, ◌+◌, ◌-◌, ◌<◌, ◌≤◌, ◌↔◌, [], Some, None, length, drop, is_some, IsTrue, replicate, slice_get, slice_set, slice_index, slice_index_or, IfOk, OnOk, OnErr, IfSome, IfNone};
 ghost use Rattle.std.specs.List.{list_all};
 ghost use Rattle.esync_pubsub.specs.Counts.{unread};
-ghost use Rattle.esync_pubsub.specs.Log.{IsLeastFree, oldest, has_subscribers, last_number, published, with_room, is_live, position, left, cleared, Joins, Publishes, PublishesAtOnce};
+ghost use Rattle.esync_pubsub.specs.Log.{IsLeastFree, oldest, has_subscribers, last_number, published, with_room, is_last, settled, moved, is_live, position, left, cleared, Joins, Publishes, PublishesAtOnce, ClonesAt, MayFailAt, Takes, IsRefused, Reads};
 
-use crate::pubsub::{Exhausted, TryPublishError};
+use crate::pubsub::{Exhausted, TryPublishError, WaitResult};
 use esync_base::deque::Deque;
+use std::alloc::AllocError;
 use std::marker::Model;
 
 // The number that each subscriber reads next, at its place.
@@ -194,6 +195,36 @@ impl<T: Drop, const CAP: usize, const SUBS: usize> Log<T, CAP, SUBS> {
         self.next - self.messages.len() as u64
     }
 
+    // The number of the next message.
+    fn next(&self) -> u64
+        ensures { result ≡ self.now.next }
+    {
+        self.next
+    }
+
+    // The number that the subscriber at this place reads next.
+    fn position(&self, place: usize) -> u64
+        requires { IsTrue (is_live place self.now) }
+        ensures value { result ≡ position place self.now }
+        ensures live { slice_index_or self.now.positions place None ≡ Some result }
+        ensures within { result ≤ self.now.next }
+    {
+        let Some(position) = self.positions.get(place) else {
+            unreachable!()
+        };
+        position
+    }
+
+    // A subscriber that lags goes on from the oldest message.
+    fn catch_up(&mut self, place: usize)
+        requires live { IsTrue (is_live place self.old) }
+        requires lags { position place self.old ≤ oldest self.old }
+        ensures { self.new ≡ moved place (oldest self.old) self.old }
+    {
+        let oldest = self.oldest();
+        self.positions.put(place, Some(oldest));
+    }
+
     // There are subscribers.
     fn has_subscribers(&self) -> bool
         ensures { result ≡ has_subscribers self.now }
@@ -292,5 +323,88 @@ impl<T: Drop, const CAP: usize, const SUBS: usize> Log<T, CAP, SUBS> {
     {
         self.messages.clear();
         self.counts.clear();
+    }
+}
+
+impl<T: Clone, const CAP: usize, const SUBS: usize> Log<T, CAP, SUBS> {
+    // Nobody but the subscriber at this place still reads the message at its position.
+    fn is_last(&self, place: usize, position: u64) -> bool
+        requires live { slice_index_or self.now.positions place None ≡ Some position }
+        requires from { oldest self.now ≤ position }
+        requires held { position < self.now.next }
+        ensures { result ≡ is_last place position self.now }
+    {
+        *self.counts.get((position - self.oldest()) as usize) == 1
+    }
+
+    // Reads the message itself, which is the oldest, and leaves.
+    fn take_last(&mut self, place: usize, position: u64) -> T
+        requires live { slice_index_or self.old.positions place None ≡ Some position }
+        requires from { oldest self.old ≤ position }
+        requires held { position < self.old.next }
+        requires last { IsTrue (is_last place position self.old) }
+        ensures message { slice_get self.old.held (position - oldest self.old) ≡ Some result }
+        ensures state { self.new ≡ settled (moved place (position + 1) self.old) }
+    {
+        let Some(message) = take_front(&mut self.messages, &mut self.counts) else {
+            unreachable!()
+        };
+        self.positions.put(place, Some(position + 1));
+        message
+    }
+
+    // Reads a clone of the message, which stays for others.
+    fn take_clone(&mut self, place: usize, position: u64) -> Result<T, AllocError>
+        requires live { slice_index_or self.old.positions place None ≡ Some position }
+        requires from { oldest self.old ≤ position }
+        requires held { position < self.old.next }
+        requires shared { is_last place position self.old ≡ false }
+        ensures ok { IfOk result (λ given. ClonesAt T.is_clone (position - oldest self.old) self.old.held given) }
+        ensures state { OnOk result (self.new ≡ settled (moved place (position + 1) self.old)) }
+        ensures refused { OnErr result (MayFailAt T.is_infallible (position - oldest self.old) self.old.held) }
+        ensures err { OnErr result (self.new ≡ self.old) }
+    {
+        let index = (position - self.oldest()) as usize;
+        let message = self.messages.get(index).clone()?;
+        let readers = *self.counts.get(index);
+        self.counts.replace(index, readers - 1);
+        self.positions.put(place, Some(position + 1));
+        Ok(message)
+    }
+
+    // Reads the message at the position of the subscriber at this place.
+    fn take(&mut self, place: usize, position: u64) -> Result<T, AllocError>
+        requires live { slice_index_or self.old.positions place None ≡ Some position }
+        requires from { oldest self.old ≤ position }
+        requires held { position < self.old.next }
+        ensures ok { IfOk result (λ given. Takes T.is_clone place position self.old given self.new) }
+        ensures refused { OnErr result (IsRefused T.is_infallible place position self.old) }
+        ensures err { OnErr result (self.new ≡ self.old) }
+    {
+        if self.is_last(place, position) {
+            Ok(self.take_last(place, position))
+        } else {
+            self.take_clone(place, position)
+        }
+    }
+
+    /// What the subscriber at this place reads next; `None` where it has read all. A refused clone changes nothing.
+    pub fn read(&mut self, place: usize) -> Result<Option<WaitResult<T>>, AllocError>
+        requires { IsTrue (is_live place self.old) }
+        ensures ok { IfOk result (λ answer. Reads T.is_clone place self.old answer self.new) }
+        ensures refused { OnErr result (IsRefused T.is_infallible place (position place self.old) self.old) }
+        ensures err { OnErr result (self.new ≡ self.old) }
+    {
+        let position = self.position(place);
+        let oldest = self.oldest();
+        if position < oldest {
+            self.catch_up(place);
+            return Ok(Some(WaitResult::Lagged(oldest - position)));
+        }
+        if position == self.next() {
+            return Ok(None);
+        }
+        let message = self.take(place, position)?;
+        Ok(Some(WaitResult::Message(message)))
     }
 }
