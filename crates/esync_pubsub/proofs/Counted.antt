@@ -1,15 +1,15 @@
 -- Reader counts, as subscribers come, read and leave.
-use Rattle.std.proofs.Common.{◌≡◌, ℕ, zero, suc, ◌+◌, ◌-◌, ◌<◌, ◌≤◌, Bool, true, false, List, [], ◌∷◌, ◌++◌, ◌⊎◌, inl, inr, length, get_or, drop, set, refl, sym, ◌∙◌, ap, subst, arith, cond, not}
+use Rattle.std.proofs.Common.{◌≡◌, ℕ, zero, suc, ◌+◌, ◌-◌, ◌<◌, ◌≤◌, true, false, List, [], ◌∷◌, ◌++◌, inl, inr, length, drop, refl, sym, ◌∙◌, ap, arith, cond, not}
 use Rattle.std.specs.Prelude.{Option, Some, None, is_some, nat_lt, nat_eq, IsTrue, ◌↔◌, slice_get, slice_set, slice_index, slice_index_or}
-use Rattle.std.specs.List.{count_by, list_all}
+use Rattle.std.specs.List.{count_by}
 use Rattle.std.proofs.lemmas.Bool.Decides.{nat_tests}
 use Rattle.std.proofs.lemmas.List.Sums.{sum_by-set, sum_by-cons}
-use Rattle.std.proofs.lemmas.List.{length_push, length-append, length-drop, length-set, get_or-drop, get_or-set_same, get_or-set_other}
+use Rattle.std.proofs.lemmas.List.{length_push, length-drop, get_or-drop}
 use Rattle.std.proofs.Math.ListN.{get_or-append}
 use Rattle.std.proofs.Math.Seq.{drop-nil, get_or-append_seam}
 use Rattle.esync_base.specs.ListedLaws.{true_or_false}
 use Rattle.esync_pubsub.specs.Log.{is_above, is_read, trimmed, number_of}
-use Rattle.esync_pubsub.specs.Counts.{readers_of, unread, AreCounted, IsLog}
+use Rattle.esync_pubsub.specs.Counts.{readers_of, unread, AreCounted}
 
 -- one, if the position is at or below the number
 abbrev pub reads : ℕ → Option ℕ → ℕ

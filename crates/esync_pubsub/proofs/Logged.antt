@@ -1,5 +1,5 @@
 -- What holds of every log, as messages and subscribers come and go.
-use Rattle.std.proofs.Common.{◌≡◌, ℕ, zero, suc, ◌+◌, ◌-◌, ◌<◌, ◌≤◌, Bool, true, false, List, [], ◌∷◌, ◌++◌, ◌⊎◌, inl, inr, length, get_or, drop, set, replicate, refl, sym, ◌∙◌, ap, subst, arith, cond, not}
+use Rattle.std.proofs.Common.{◌≡◌, ℕ, zero, suc, ◌+◌, ◌-◌, ◌<◌, ◌≤◌, true, false, List, [], ◌∷◌, ◌++◌, inl, inr, length, drop, replicate, refl, sym, ◌∙◌, ap, subst, arith, cond, not}
 use Rattle.std.specs.Prelude.{Option, Some, None, is_some, nat_lt, slice_get, slice_set, slice_index, slice_index_or, if◌then◌else◌, ◌==◌, Result, Ok, Err, IfOk, OnOk, OnErr}
 use Rattle.std.specs.List.{count_by, list_all, list_any}
 use Rattle.std.proofs.lemmas.Bool.Decides.{nat_tests}
@@ -7,9 +7,9 @@ use Rattle.std.proofs.lemmas.List.Sums.{sum_by-set, sum_by-cons, count_by-le-len
 use Rattle.std.proofs.lemmas.List.{length_push, length-drop, length-set, length-replicate, get_or-set_same, get_or-set_other}
 use Rattle.std.proofs.lemmas.Option.{get_or_from_slice_get}
 use Rattle.esync_base.specs.ListedLaws.{true_or_false, same_or_not}
-use Rattle.esync_pubsub.specs.Log.{Log, is_above, is_read, trimmed, number_of, oldest, settled, moved, left, is_last, Takes, IsRefused, ClonesAt, MayFailAt}
+use Rattle.esync_pubsub.specs.Log.{Log, is_read, trimmed, number_of, oldest, settled, moved, left, is_last, Takes, IsRefused, ClonesAt, MayFailAt}
 use Rattle.esync_pubsub.specs.Counts.{readers_of, unread, AreCounted, IsLog}
-use Rattle.esync_pubsub.proofs.Counted.{reads, reads-below, reads-above, readers_set, readers_all, readers_has, readers_more, read_where_none, unread_where_some, trimmed_none, unread-le, unread_wanted, counted_push, counted_pop, counted_front, trimmed_unread, counted_drop, counted_same}
+use Rattle.esync_pubsub.proofs.Counted.{reads, reads-below, reads-above, readers_set, readers_all, readers_has, readers_more, read_where_none, unread_where_some, trimmed_none, unread-le, unread_wanted, counted_push, trimmed_unread, counted_drop, counted_same}
 
 abbrev nobody : Option ℕ
 nobody = None

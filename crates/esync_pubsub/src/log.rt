@@ -167,7 +167,7 @@ impl<T: Drop, const CAP: usize, const SUBS: usize> Log<T, CAP, SUBS> {
         ensures answer { result ≡ not (nat_lt (length self.now.held) CAP) }
         ensures within { length self.now.held ≤ CAP }
     {
-        self.messages.len() >= CAP
+        self.len() >= CAP
     }
 
     /// A subscriber is at this place.

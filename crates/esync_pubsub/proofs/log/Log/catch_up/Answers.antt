@@ -1,4 +1,3 @@
-use Rattle.std.proofs.Common.{◌≡◌, ◌-◌, length, ap}
 use Rattle.std.specs.Prelude.{None, slice_index_or}
 use Rattle.esync_pubsub.specs.Log.{number_of}
 use Rattle.esync_pubsub.proofs.Logged.{log_position, log_lag}

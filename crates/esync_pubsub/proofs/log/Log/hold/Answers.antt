@@ -1,4 +1,3 @@
-use Rattle.std.proofs.Common.{arith}
 use Rattle.esync_pubsub.proofs.Logged.{log_hold, live_number}
 use Rattle.esync_pubsub.proofs.log.Log.hold.Goals as goal
 

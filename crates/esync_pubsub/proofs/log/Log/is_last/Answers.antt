@@ -1,4 +1,4 @@
-use Rattle.std.proofs.Common.{◌≡◌, ◌-◌, ◌∙◌, sym, ap, length}
+use Rattle.std.proofs.Common.{◌-◌, ◌∙◌, sym, ap, length}
 use Rattle.std.specs.Prelude.{◌==◌}
 use Rattle.esync_pubsub.proofs.Logged.{last_test, got_count}
 use Rattle.esync_pubsub.proofs.log.Log.is_last.Goals as goal

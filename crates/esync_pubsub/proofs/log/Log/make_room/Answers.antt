@@ -1,7 +1,7 @@
-use Rattle.std.proofs.Common.{◌≡◌, ◌<◌, ◌≤◌, length, drop, arith, sym, ap, List}
+use Rattle.std.proofs.Common.{◌≤◌, length, arith, sym, ap, List}
 use Rattle.std.proofs.lemmas.List.{length-drop}
 use Rattle.esync_pubsub.specs.Log.{Log}
-use Rattle.esync_pubsub.proofs.Logged.{log_pop, full_tells, room_none, room_some}
+use Rattle.esync_pubsub.proofs.Logged.{log_pop, full_tells, room_none}
 use Rattle.esync_pubsub.proofs.log.Log.make_room.Goals as goal
 
 pub invariant_of-self : goal.invariant_of-self

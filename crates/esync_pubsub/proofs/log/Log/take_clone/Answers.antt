@@ -1,5 +1,4 @@
-use Rattle.std.proofs.Common.{◌≡◌, ◌<◌, ◌-◌, ap, length, arith}
-use Rattle.std.specs.Prelude.{slice_index}
+use Rattle.std.proofs.Common.{◌-◌, ap, length, arith}
 use Rattle.esync_pubsub.proofs.Logged.{got_count, shared_more, log_take, log_took}
 use Rattle.esync_pubsub.proofs.log.Log.take_clone.Goals as goal
 

@@ -1,4 +1,4 @@
-use Rattle.std.proofs.Common.{◌≡◌, ◌-◌, ◌∙◌, sym, ap, length, arith}
+use Rattle.std.proofs.Common.{◌≡◌, ◌-◌, ◌∙◌, ap, length, arith}
 use Rattle.std.specs.Prelude.{slice_get}
 use Rattle.esync_pubsub.proofs.Logged.{last_one, log_front, log_take_last, log_took_last}
 use Rattle.esync_pubsub.proofs.log.Log.take_last.Goals as goal
