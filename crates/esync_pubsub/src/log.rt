@@ -232,6 +232,13 @@ impl<T: Drop, const CAP: usize, const SUBS: usize> Log<T, CAP, SUBS> {
         self.subscribers > 0
     }
 
+    // The first held message that is not below the number: all are not, where the number lags.
+    fn first_unread(&self, number: u64) -> usize
+        ensures { result ≡ number - oldest self.now }
+    {
+        number.saturating_sub(self.oldest()) as usize
+    }
+
     /// A subscriber comes to the least free place, and reads what is published from now on. `None`: all places are taken.
     pub fn join(&mut self) -> Option<usize>
         ensures { Joins self.old result self.new }
@@ -252,10 +259,10 @@ impl<T: Drop, const CAP: usize, const SUBS: usize> Log<T, CAP, SUBS> {
         let Some(position) = self.positions.get(place) else {
             unreachable!()
         };
-        let from = position.saturating_sub(self.oldest());
+        let from = self.first_unread(position);
         self.positions.put(place, None);
         self.subscribers -= 1;
-        lower_from(&mut self.counts, from as usize);
+        lower_from(&mut self.counts, from);
         free(&mut self.messages, &mut self.counts);
     }
 
