@@ -76,13 +76,6 @@ pub trimmed_none : {T : Type 0} (n : ℕ) (ps : List (Option ℕ)) (ms : List T)
 trimmed_none n ps [] h = refl
 trimmed_none n ps (m ∷ ms) h = (let l : 0 < suc (length ms) = omega arith in rw (unread_where_some n ps (h l)) refl)
 
--- what nobody reads in front
-pub unread_more : {A : Type 0} (cs : List ℕ) (ms : List A) → 0 < unread cs → drop (unread (drop 1 cs)) (drop 1 ms) ≡ drop (unread cs) ms
-unread_more [] ms l = absurd (omega (arith, l))
-unread_more (zero ∷ cs) [] l = drop-nil (unread cs)
-unread_more (zero ∷ cs) (m ∷ ms) l = refl
-unread_more (suc c ∷ cs) ms l = absurd (omega (arith, l))
-
 pub unread-le : (cs : List ℕ) → unread cs ≤ length cs
 unread-le [] = omega arith
 unread-le (zero ∷ cs) = omega (arith, unread-le cs)

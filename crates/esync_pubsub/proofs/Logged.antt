@@ -3,7 +3,7 @@ use Rattle.std.proofs.Common.{◌≡◌, ℕ, zero, suc, ◌+◌, ◌-◌, ◌<�
 use Rattle.std.specs.Prelude.{Option, Some, None, is_some, nat_lt, slice_get, slice_set, slice_index, slice_index_or, if◌then◌else◌, ◌==◌, Result, Ok, Err, IfOk, OnOk, OnErr}
 use Rattle.std.specs.List.{count_by, list_all, list_any}
 use Rattle.std.proofs.lemmas.Bool.Decides.{nat_tests}
-use Rattle.std.proofs.lemmas.List.Sums.{sum_by-set, sum_by-cons, count_by-le-length}
+use Rattle.std.proofs.lemmas.List.Sums.{sum_by-set, sum_by-cons}
 use Rattle.std.proofs.lemmas.List.{length_push, length-drop, length-set, length-replicate, get_or-set_same, get_or-set_other}
 use Rattle.std.proofs.lemmas.Option.{get_or_from_slice_get}
 use Rattle.esync_base.specs.ListedLaws.{true_or_false, same_or_not}
@@ -58,9 +58,6 @@ full_tells n cap e = elim (true_or_false (nat_lt n cap)) [
 ]
 
 -- room is made where there is none
-pub room_some : {T : Type 0} (cap : ℕ) (ms : List T) → length ms < cap → (if nat_lt (length ms) cap then ms else drop 1 ms) ≡ ms
-room_some cap ms l = (let t : nat_lt (length ms) cap ≡ true = grind (arith, nat_tests) in rw t refl)
-
 pub room_none : {T : Type 0} (cap : ℕ) (ms : List T) → cap ≤ length ms → (if nat_lt (length ms) cap then ms else drop 1 ms) ≡ drop 1 ms
 room_none cap ms e = (let t : nat_lt (length ms) cap ≡ false = grind (arith, nat_tests) in rw t refl)
 
@@ -184,12 +181,6 @@ module _ {T : Type 0} (cap subs : ℕ) where
       live = (let a : live_at (slice_index_or ps i None) ≡ 0 = ap live_at there in let b : count_by is_some (slice_set ps i (Some next)) + live_at (slice_index_or ps i None) ≡ count_by is_some ps + 1 = live_set ps i (Some next) l in omega (arith, L.live, a, b));
       wanted = L.wanted;
     })
-
-    -- there is room for one more subscriber
-    pub log_places : (i : ℕ) → slice_get ps i ≡ Some None → s < subs
-    log_places i e = (let l : i < length ps = free_below ps i e in let there : slice_index_or ps i None ≡ None = free_there ps i e in
-        let a : live_at (slice_index_or ps i None) ≡ 0 = ap live_at there in let b : count_by is_some (slice_set ps i (Some 0)) + live_at (slice_index_or ps i None) ≡ count_by is_some ps + 1 = live_set ps i (Some 0) l in
-        omega (arith, L.live, L.places, a, b, length-set ps i (Some 0), count_by-le-length is_some (slice_set ps i (Some 0))))
 
     -- whoever is live has a position
     pub log_position : (i : ℕ) → is_some (slice_index_or ps i None) ≡ true → slice_index_or ps i None ≡ Some (number_of (slice_index_or ps i None))
