@@ -5,9 +5,10 @@
 #![tactic(auto)]
 
 pub use esync_base::{blocking_mutex, deque, shared, store, waitqueue};
-pub use esync_cells::{lazy_lock, once_lock, signal};
+pub use esync_cells::{lazy_lock, once_lock, signal, watch};
 pub use esync_channel::channel;
-pub use esync_history::executor;
+pub use esync_guards::mutex;
+pub use esync_history::{executor, recorded};
 pub use esync_permits::semaphore;
 pub use esync_pipe::pipe;
 pub use esync_priority::{prio, priority_channel};

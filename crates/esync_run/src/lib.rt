@@ -7,6 +7,7 @@ pub use esync_cells::lazy_lock::machine as lazy_lock;
 pub use esync_cells::once_lock::machine as once_lock;
 pub use esync_cells::signal::machine as signal;
 pub use esync_channel::channel::machine as channel;
+pub use esync_guards::mutex::machine as mutex;
 pub use esync_machine::{primitive, requests, run};
 pub use esync_permits::semaphore::machine as semaphore;
 pub use esync_pipe::bytes;

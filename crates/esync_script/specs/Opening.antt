@@ -1,5 +1,5 @@
 -- Line 1 of a script, and what is played behind it.
-use Rattle.std.specs.Prelude.{◌≡◌, ℕ, ◌==◌, Bool, List, [], Option, Some, None, ◌⊎◌, Result, Ok, Err, if◌then◌else◌, codes}
+use Rattle.std.specs.Prelude.{◌≡◌, ℕ, ◌==◌, Bool, List, [], Option, Some, None, ◌⊎◌, Result, Ok, Err, if◌then◌else◌, codes, false}
 use Rattle.std.proofs.Math.ListN.{replicate}
 use Rattle.std.specs.Option.{option_map}
 use Rattle.esync_base.specs.Keeping.{Keeping, BoundedList}
@@ -11,6 +11,11 @@ use Rattle.esync_channel.specs.Mailbox.{Slots}
 use Rattle.esync_priority.specs.Prio.{Bag}
 use Rattle.esync_channel.specs.ChannelRules.{channel_rules, channel_wakings}
 use Rattle.esync_cells.specs.SignalRules.{signal_rules, signal_wakings}
+use Rattle.esync_cells.specs.OnceRules.{once_rules, once_wakings}
+use Rattle.esync_cells.specs.declared.lazy_lock.Given.{Given}
+use Rattle.esync_cells.specs.LazyLock.{Lazy as LazyValue}
+use Rattle.esync_cells.specs.LazyRules.{lazy_rules, lazy_wakings}
+use Rattle.esync_guards.specs.MutexRules.{Lock, mutex_rules, mutex_wakings}
 use Rattle.esync_permits.specs.GreedyRules.{greedy_rules, greedy_wakings}
 use Rattle.esync_permits.specs.FairRules.{fair_rules, fair_wakings}
 use Rattle.esync_base.specs.Ring.{Ringed}
@@ -19,16 +24,19 @@ use Rattle.esync_pipe.specs.Piped.{Slots as PipeSlots}
 use Rattle.esync_words.specs.declared.fault.Fault.{Fault}
 use Rattle.esync_words.specs.declared.play.Giver.{Giver}
 use Rattle.esync_words.specs.Fault.{status_of}
-use Rattle.esync_words.specs.Words.{is_text, and_then, one, two}
+use Rattle.esync_words.specs.Words.{is_text, and_then, one, two, number_and_values}
 use Rattle.esync_words.specs.Commands.{says, command}
 use Rattle.esync_words.specs.Played.{Played, Opened, NotOpened, IsJudged}
 use Rattle.esync_words.specs.Tells.{tells_of}
 use Rattle.esync_script.specs.declared.opening.Capacity.{Capacity}
 use Rattle.esync_script.specs.declared.opening.Capacity.TheVariants.{One, Two, Three, Four, Eight}
 use Rattle.esync_script.specs.declared.opening.Opening.{Opening}
-use Rattle.esync_script.specs.declared.opening.Opening.TheVariants.{Channel, Max, Min, Signal, Greedy, Fair, Pipe}
+use Rattle.esync_script.specs.declared.opening.Opening.TheVariants.{Channel, Max, Min, Signal, Greedy, Fair, Pipe, Once, Lazy, Mutex}
 use Rattle.esync_script.specs.Channel.{channel_asks, channel_calls, channel_text}
 use Rattle.esync_script.specs.Signal.{signal_asks, signal_calls, signal_text}
+use Rattle.esync_script.specs.Once.{once_asks, once_calls, once_text}
+use Rattle.esync_script.specs.Lazy.{lazy_asks, lazy_calls}
+use Rattle.esync_script.specs.Mutex.{mutex_asks, mutex_calls, mutex_text}
 use Rattle.esync_script.specs.Pipe.{pipe_asks, pipe_calls, pipe_text}
 use Rattle.esync_script.specs.Semaphore.{permit_asks, permit_calls, permit_text, fair_text}
 use Rattle.std.specs.Prelude.{decimal}
@@ -63,6 +71,9 @@ opening name words =
     else if is_text name (codes "greedy") then and_then (two 64 64 words) (λ p. only_one (Greedy p.1) p.0)
     else if is_text name (codes "fair") then and_then (two 64 64 words) (λ p. option_map (λ c. Fair c p.1) (capacity p.0))
     else if is_text name (codes "pipe") then option_map (λ c. Pipe c) (and_then (one 64 words) capacity)
+    else if is_text name (codes "once") then and_then (one 64 words) (only_one Once)
+    else if is_text name (codes "lazy") then and_then (two 64 32 words) (λ p. only_one (Lazy p.1) p.0)
+    else if is_text name (codes "mutex") then and_then (number_and_values words) (λ p. only_one (Mutex p.1 p.2) p.0)
     else None
 
 -- without requests
@@ -79,6 +90,25 @@ an_empty_pipe = record { items = []; front = 0 }
 
 abbrev pub no_slot : PipeSlots ℕ
 no_slot = record { readers = []; writers = [] }
+
+-- the value that was given is the only one that is made
+abbrev pub IsGiven : Given ℕ → ℕ → Type 0
+IsGiven given v = v ≡ given.value
+
+-- a value that will be this one once it is made
+abbrev pub not_made : ℕ → Option (LazyValue ℕ (Given ℕ))
+not_made v = Some (record { value = None; maker = record { value = v } })
+
+-- a value of two, which nobody has locked
+abbrev pub a_free_lock : ℕ → ℕ → Lock (ℕ × ℕ)
+a_free_lock v x = record { held = false; value = (v, x) }
+
+-- the second of two, and the two with another second
+abbrev pub second : ℕ × ℕ → ℕ
+second v = v.1
+
+abbrev pub with_second : ℕ × ℕ → ℕ → ℕ × ℕ
+with_second v x = (v.0, x)
 
 -- What is played behind line n: a run of the named primitive, which begins as that line says, without requests and with no waker
 -- registered. A step hands out so many wakers at most.
@@ -111,6 +141,12 @@ module _ (eq : ℕ → ℕ → Bool) (tells : (A : Type 0) → (A → List ℕ) 
       PlaysAs 1 greedy_rules (greedy_wakings eq) permit_asks permit_calls (permit_text decimal) permits [] n left before after outcome
   Plays max_above min_above (Fair c permits) n left before after outcome = PlaysFair (places c) permits n left before after outcome
   Plays max_above min_above (Pipe c) n left before after outcome = PlaysPipe (places c) n left before after outcome
+  Plays max_above min_above Once n left before after outcome =
+      PlaysAs 1 (once_rules ℕ) (once_wakings ℕ ℕ) once_asks once_calls once_text None tt n left before after outcome
+  Plays max_above min_above (Lazy v) n left before after outcome =
+      PlaysAs 1 (lazy_rules IsGiven) (lazy_wakings (Option (LazyValue ℕ (Given ℕ))) ℕ ℕ) lazy_asks lazy_calls decimal (not_made v) tt n left before after outcome
+  Plays max_above min_above (Mutex v x) n left before after outcome =
+      PlaysAs 1 (mutex_rules second with_second) (mutex_wakings eq) mutex_asks mutex_calls mutex_text (a_free_lock v x) [] n left before after outcome
 
   -- A whole script: line 1 names a primitive, and the lines behind it are played; or it names none; or a read, a write or memory
   -- failed before.

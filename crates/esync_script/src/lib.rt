@@ -13,6 +13,9 @@ use std::alloc::Global;
 use std::io::{self, BufWriter, Read, Write};
 
 pub mod channel;
+pub mod lazy;
+pub mod mutex;
+pub mod once;
 pub mod opening;
 pub mod pipe;
 pub mod semaphore;

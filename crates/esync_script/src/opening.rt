@@ -2,21 +2,30 @@
 ghost use Rattle.std.specs.Prelude.{◌≡◌, ℕ, []};
 ghost use Rattle.esync_base.specs.Keeping.{BoundedList};
 ghost use Rattle.esync_priority.specs.Prio.{Bag};
-ghost use Rattle.esync_script.specs.Opening.{places, capacity, opening, new_object, nobody_waits, no_slot, an_empty_pipe, Plays, PlaysMessages, PlaysFair, PlaysPipe, PlaysScript};
+ghost use Rattle.esync_script.specs.Opening.{places, capacity, opening, new_object, nobody_waits, no_slot, an_empty_pipe, not_made, a_free_lock, Plays, PlaysMessages, PlaysFair, PlaysPipe, PlaysScript};
 ghost use Rattle.esync_words.specs.Commands.{says, command};
 ghost use Rattle.esync_words.specs.Played.{Played};
 ghost use Rattle.esync_words.specs.Tells.{tells_of};
 ghost use Rattle.esync_words.specs.Words.{one, and_then};
 
 use crate::channel::ChannelWords;
+use crate::lazy::LazyWords;
+use crate::mutex::MutexWords;
+use crate::once::OnceWords;
 use crate::pipe::PipeWords;
 use crate::semaphore::{FairWords, GreedyWords};
 use crate::signal::SignalWords;
 use esync_base::deque::Deque;
 use esync_base::store::Store;
+use esync_cells::lazy_lock::Given;
+use esync_cells::lazy_lock::machine::{LazyHolder, LazyRun};
+use esync_cells::once_lock::OnceState;
+use esync_cells::once_lock::machine::OnceRun;
 use esync_cells::signal::SignalState;
 use esync_cells::signal::machine::SignalRun;
 use esync_channel::channel::Mailbox;
+use esync_guards::mutex::Second;
+use esync_guards::mutex::machine::{Guarded, MutexRun};
 use esync_machine::primitive::{Answer, Command};
 use esync_machine::requests::Requests;
 use esync_machine::run::Machine;
@@ -73,6 +82,9 @@ pub enum Opening {
     Greedy(usize),
     Fair(Capacity, usize),
     Pipe(Capacity),
+    Once,
+    Lazy(u32),
+    Mutex(u32, u32),
 }
 
 impl Opens for Opening {
@@ -95,6 +107,15 @@ impl Opens for Opening {
                 Some(Opening::Fair(capacity_of(places)?, permits as usize))
             }
             "pipe" => Some(Opening::Pipe(read_capacity(words)?)),
+            "once" => (words.number()? == 1).then_some(Opening::Once),
+            "lazy" => {
+                let (places, value) = words.number_and_value()?;
+                (places == 1).then_some(Opening::Lazy(value))
+            }
+            "mutex" => {
+                let (places, value, part) = words.number_and_two_values()?;
+                (places == 1).then_some(Opening::Mutex(value, part))
+            }
             _ => None,
         }
     }
@@ -158,6 +179,28 @@ fn pipe<const N: usize>() -> PipeRun<u64, N, REQS, 2>
     ensures registrations { ⟦<PipeRun<u64, N, REQS, 2> as Machine>⟧.semantics.registrations result ≡ no_slot }
 {
     Requests::new(PipeState::new())
+}
+
+// A value that is not set yet, with no request.
+fn once() -> OnceRun<u32, u64, REQS, 1>
+    ensures { ⟦<OnceRun<u32, u64, REQS, 1> as Machine>⟧.semantics.object result ≡ new_object None }
+{
+    Requests::new(OnceState::new())
+}
+
+// A value that is not made yet and will be this one, with no request.
+fn lazy(value: u32) -> LazyRun<u32, Given<u32>, u64, REQS, 1>
+    ensures { ⟦<LazyRun<u32, Given<u32>, u64, REQS, 1> as Machine>⟧.semantics.object result ≡ new_object (not_made value) }
+{
+    Requests::new(LazyHolder::new(Given { value }))
+}
+
+// A mutex of these two, which nobody has locked, with no request.
+fn mutex(value: u32, part: u32) -> MutexRun<(u32, u32), u32, Second, u64, REQS, 1>
+    ensures object { ⟦<MutexRun<(u32, u32), u32, Second, u64, REQS, 1> as Machine>⟧.semantics.object result ≡ new_object (a_free_lock value part) }
+    ensures registrations { ⟦<MutexRun<(u32, u32), u32, Second, u64, REQS, 1> as Machine>⟧.semantics.registrations result ≡ [] }
+{
+    Requests::new(Guarded::new((value, part), Second {}))
 }
 
 // An expression of a capacity, which has to be written for each: a number of places is part of a machine's type.
@@ -270,6 +313,11 @@ fn serve_opening<T: Telling, R: Read + Drop, W: Write>(
         }
         Opening::Fair(capacity, permits) => serve_fair(telling, capacity, permits, lines, output),
         Opening::Pipe(capacity) => serve_pipe(telling, capacity, lines, output),
+        Opening::Once => serve::<OnceWords, _, T, R, W>(telling, once(), lines, output),
+        Opening::Lazy(value) => serve::<LazyWords, _, T, R, W>(telling, lazy(value), lines, output),
+        Opening::Mutex(value, part) => {
+            serve::<MutexWords, _, T, R, W>(telling, mutex(value, part), lines, output)
+        }
     }
 }
 

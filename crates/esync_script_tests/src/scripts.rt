@@ -160,6 +160,32 @@ fn a_reset_signal_keeps_its_waiter(rt: HostRuntime) -> Result<(), Fail> {
 }
 
 #[test]
+fn the_first_value_stays_until_it_is_taken(rt: HostRuntime) -> Result<(), Fail> {
+    let input =
+        "once 1\ntry-get\nstart 1 get\npoll 1 5\ninit 42\ninit 43\npoll 1 5\ntake\nis-set\nget-or-init 7\nget-or-init 8\nis-set\ntry-get\npoll 1 5\n";
+    let output =
+        "None | -\nOk | -\nPending | 5\nOk | -\nErr(Set(43)) | -\nReady(42) | -\nSome(42) | -\nfalse | -\n7 | -\n7 | -\ntrue | -\nSome(7) | -\nErr(NoSuch) | -\n";
+    assert_answers(&rt, input, output)
+}
+
+#[test]
+fn nothing_is_there_once_a_lazy_value_was_taken_out(rt: HostRuntime) -> Result<(), Fail> {
+    let input = "lazy 1 7\nget\npoll 0 1\nget\ninto\nget\ninto\nend 0\n";
+    let output =
+        "7 | -\nErr(NoSuch) | -\n7 | -\n7 | -\nErr(NoSuch) | -\nErr(NoSuch) | -\nErr(NoSuch) | -\n";
+    assert_answers(&rt, input, output)
+}
+
+#[test]
+fn a_guard_of_a_part_writes_the_part(rt: HostRuntime) -> Result<(), Fail> {
+    let input =
+        "mutex 1 4 6\ntry-lock 0\nstart 1 lock\npoll 1 8\nmap 0\nwrite-part 0 9\nread 0\nend 0\npoll 1 8\nread 1\nwrite 1 1 2\ntry-lock 2\nread 1\nmap 2\n";
+    let output =
+        "Ok | -\nOk | -\nPending | -\nOk | -\nOk | -\n(9) | -\nOk | 8\nReady | -\n(4,9) | -\nOk | -\nErr(TryLockError) | -\n(1,2) | -\nErr(NoSuch) | -\n";
+    assert_answers(&rt, input, output)
+}
+
+#[test]
 fn a_fair_request_is_granted_all_its_permits(rt: HostRuntime) -> Result<(), Fail> {
     assert_answers(
         &rt,
@@ -362,6 +388,16 @@ fn line_1_names_a_primitive(rt: HostRuntime) -> Result<(), Fail> {
         "pipe 0\n",
         "pipe 5\n",
         "pipe 3 1\n",
+        "once\n",
+        "once 2\n",
+        "once 1 1\n",
+        "lazy 1\n",
+        "lazy 2 1\n",
+        "lazy 1 4294967296\n",
+        "lazy 1 1 1\n",
+        "mutex 1 4\n",
+        "mutex 2 4 6\n",
+        "mutex 1 4 6 8\n",
         "len\n",
     ] {
         let played = play(rt.alloc(), input.as_bytes());

@@ -1,7 +1,7 @@
 //! The words of a line, and numbers.
 ghost use Rattle.std.specs.Prelude.{◌≡◌, ℕ, ◌∷◌, [], MatchOption, IsTrue, ◌↔◌};
 ghost use Rattle.std.specs.Option.{option_map};
-ghost use Rattle.esync_words.specs.Words.{words_of, parts_of, number, numbers, at_most, bytes_of, first_number, behind, nothing, one, two, row, and_then};
+ghost use Rattle.esync_words.specs.Words.{words_of, parts_of, number, numbers, at_most, bytes_of, first_number, behind, nothing, one, two, row, and_then, number_and_values};
 
 use arrayvec::ArrayVec;
 use std::marker::Model;
@@ -105,6 +105,25 @@ impl<'a> Words<'a> {
         let first = self.next_number()?;
         let second = self.number()?;
         Some((first, second))
+    }
+
+    /// A number and a value, which the last two words write.
+    pub fn number_and_value(mut self) -> Option<(u64, u32)>
+        ensures { result ≡ two 64 32 self.entry }
+    {
+        let number = self.next_number()?;
+        let value = self.value()?;
+        Some((number, value))
+    }
+
+    /// A number and two values, which the last three words write.
+    pub fn number_and_two_values(mut self) -> Option<(u64, u32, u32)>
+        ensures { result ≡ number_and_values self.entry }
+    {
+        let number = self.next_number()?;
+        let first = self.next_value()?;
+        let second = self.value()?;
+        Some((number, first, second))
     }
 
     /// The bytes that the last word writes: numbers below 256 with commas between them, or a dash where there are none.

@@ -1,0 +1,59 @@
+//! The words of a mutex.
+use esync_guards::mutex::TryLockError;
+use esync_guards::mutex::machine::{Lock, MutexCall, MutexHeard};
+use esync_words::vocabulary::Vocabulary;
+use esync_words::words::Words;
+use std::io::{self, Write};
+
+/// The words of a mutex of two values, of which the second is the part of a mapped guard.
+pub struct MutexWords {}
+
+impl Vocabulary for MutexWords {
+    type Ask = Lock;
+
+    type Call = MutexCall<(u32, u32), u32>;
+
+    type Heard = MutexHeard<(u32, u32), u32>;
+
+    ghost use Rattle.esync_script.specs.Mutex.{mutex_asks, mutex_calls, mutex_text};
+
+    ghost asks = { mutex_asks };
+
+    ghost calls = { mutex_calls };
+
+    ghost text = { mutex_text };
+
+    fn ask(name: &str, words: Words<'_>) -> Option<Lock> {
+        match name {
+            "lock" => words.nothing().map(|_| Lock {}),
+            _ => None,
+        }
+    }
+
+    fn call(name: &str, words: Words<'_>) -> Option<MutexCall<(u32, u32), u32>> {
+        match name {
+            "try-lock" => Some(MutexCall::TryLock(words.number()? as usize)),
+            "read" => Some(MutexCall::Read(words.number()? as usize)),
+            "write" => {
+                let (r, value, part) = words.number_and_two_values()?;
+                Some(MutexCall::Write(r as usize, (value, part)))
+            }
+            "map" => Some(MutexCall::Map(words.number()? as usize)),
+            "write-part" => {
+                let (r, part) = words.number_and_value()?;
+                Some(MutexCall::WritePart(r as usize, part))
+            }
+            _ => None,
+        }
+    }
+
+    fn print<W: Write>(heard: &MutexHeard<(u32, u32), u32>, output: &mut W) -> io::Result<()> {
+        match heard {
+            MutexHeard::Locked => write!(output, "Ready"),
+            MutexHeard::Tried(Ok(())) => write!(output, "Ok"),
+            MutexHeard::Tried(Err(TryLockError)) => write!(output, "Err(TryLockError)"),
+            MutexHeard::Value((value, part)) => write!(output, "({value},{part})"),
+            MutexHeard::Part(part) => write!(output, "({part})"),
+        }
+    }
+}
