@@ -208,6 +208,7 @@ impl<T: Drop, const CAP: usize, const SUBS: usize> Log<T, CAP, SUBS> {
         ensures value { result ≡ position place self.now }
         ensures live { slice_index_or self.now.positions place None ≡ Some result }
         ensures within { result ≤ self.now.next }
+        ensures place { place < SUBS }
     {
         let Some(position) = self.positions.get(place) else {
             unreachable!()
@@ -225,8 +226,8 @@ impl<T: Drop, const CAP: usize, const SUBS: usize> Log<T, CAP, SUBS> {
         self.positions.put(place, Some(oldest));
     }
 
-    // There are subscribers.
-    fn has_subscribers(&self) -> bool
+    /// There are subscribers.
+    pub fn has_subscribers(&self) -> bool
         ensures { result ≡ has_subscribers self.now }
     {
         self.subscribers > 0
@@ -401,6 +402,7 @@ impl<T: Clone, const CAP: usize, const SUBS: usize> Log<T, CAP, SUBS> {
         ensures ok { IfOk result (λ answer. Reads T.is_clone place self.old answer self.new) }
         ensures refused { OnErr result (IsRefused T.is_infallible place (position place self.old) self.old) }
         ensures err { OnErr result (self.new ≡ self.old) }
+        ensures place { place < SUBS }
     {
         let position = self.position(place);
         let oldest = self.oldest();

@@ -1,7 +1,24 @@
 //! A channel for many: whoever publishes reaches all who subscribed before.
+ghost use Rattle.std.specs.Prelude.{◌≡◌, ◌+◌, ◌-◌, ◌≤◌, ◌++◌, ◌↔◌, IsTrue, [], length, not, nat_lt};
+ghost use Rattle.esync_pubsub.specs.Log.{has_subscribers, is_live, position, left, cleared, PublishesAtOnce};
+ghost use Rattle.esync_pubsub.specs.PubSub.{fresh, Subscribes, Adds, frees, lists_after_news, wakes_of_news, lists_after_room, wakes_of_room, lists_after_immediate, wakes_of_immediate};
 
+use crate::log::Log;
+use esync_base::waitqueue::{MultiWakerRegistration, Wakes};
 use std::fmt::Debug;
+use std::marker::Model;
 use thiserror::Error;
+
+/// Why nobody came.
+#[derive(Clone, Copy, Debug, PartialEq, Eq, Error)]
+pub enum Error {
+    /// As many subscribers are here as there are places for.
+    #[error("the maximum of subscribers is reached")]
+    MaximumSubscribersReached,
+    /// As many publishers are counted as may be.
+    #[error("the maximum of publishers is reached")]
+    MaximumPublishersReached,
+}
 
 /// Why a message was not published. It comes back.
 #[derive(Clone, Copy, Debug, PartialEq, Eq, Error)]
@@ -28,4 +45,250 @@ pub enum WaitResult<T> {
     Lagged(u64),
     /// The next message.
     Message(T),
+}
+
+/// Names a subscriber: its place.
+#[derive(Debug, Drop)]
+pub struct SubId {
+    place: usize,
+}
+
+impl Model for SubId {
+    ghost use Rattle.std.specs.Prelude.{ℕ};
+
+    ghost Value = { ℕ };
+
+    ghost view = { λ a. a.place };
+
+    ghost inverse = { λ n. record { place = n } };
+}
+
+/// The state of a channel for many: at most `CAP` messages, at most `SUBS` subscribers and at most `PUBS` publishers, and the wakers of
+/// who waits for a message and of who waits for room.
+///
+/// It holds no lock and waits for nobody. What a call hands out, it appends to the list of wakes that it is given.
+#[derive(Drop)]
+pub struct PubSubState<T, W, const CAP: usize, const SUBS: usize, const PUBS: usize> {
+    log: Log<T, CAP, SUBS>,
+    publishers: usize,
+    subscriber_wakers: MultiWakerRegistration<W, SUBS>,
+    publisher_wakers: MultiWakerRegistration<W, PUBS>,
+}
+
+impl<T, W, const CAP: usize, const SUBS: usize, const PUBS: usize> Model
+    for PubSubState<T, W, CAP, SUBS, PUBS> {
+    ghost use Rattle.std.specs.Prelude.{◌≤◌};
+    ghost use Rattle.esync_pubsub.specs.PubSub.{PubSub, pubsub_code};
+
+    ghost Value = { PubSub T W };
+
+    ghost coded = { pubsub_code T.code W.code };
+
+    ghost view = { λ a. record { log = a.log; publishers = a.publishers; lists = record { subscribers = a.subscriber_wakers; publishers = a.publisher_wakers } } };
+
+    ghost invariant = { λ a. a.publishers ≤ PUBS };
+}
+
+impl<T: Drop, W: Copy + Eq, const CAP: usize, const SUBS: usize, const PUBS: usize> PubSubState<
+    T,
+    W,
+    CAP,
+    SUBS,
+    PUBS,
+> {
+    /// No message, no subscriber, no publisher, and nobody who waits. The first message has the number 0.
+    pub fn new() -> Self
+        requires { 1 ≤ CAP }
+        ensures { result ≡ fresh SUBS 0 }
+    {
+        PubSubState::new_at(0)
+    }
+
+    /// The same, where the first message has the number `next`.
+    pub fn new_at(next: u64) -> Self
+        requires { 1 ≤ CAP }
+        ensures { result ≡ fresh SUBS next }
+    {
+        PubSubState {
+            log: Log::new_at(next),
+            publishers: 0,
+            subscriber_wakers: MultiWakerRegistration::new(),
+            publisher_wakers: MultiWakerRegistration::new(),
+        }
+    }
+
+    /// A subscriber comes to the least free place, and reads what is published from now on.
+    ///
+    /// # Errors
+    ///
+    /// `MaximumSubscribersReached` where all places are taken. Nothing is changed.
+    pub fn subscribe(&mut self) -> Result<SubId, Error>
+        ensures log { Subscribes self.old.log result self.new.log }
+        ensures rest { self.new ≡ record self.old { log = self.new.log } }
+    {
+        let Some(place) = self.log.join() else {
+            return Err(Error::MaximumSubscribersReached);
+        };
+        Ok(SubId { place })
+    }
+
+    /// This subscriber is here.
+    pub fn is_subscriber(&self, id: &SubId) -> bool
+        ensures { result ≡ is_live id.now self.now.log }
+    {
+        self.log.is_live(id.place)
+    }
+
+    /// The subscriber leaves. What nobody reads any more leaves with it, and where a message does, who waits for room is woken.
+    pub fn leave<const K: usize>(&mut self, id: SubId, wakes: &mut Wakes<W, K>)
+        requires live { IsTrue (is_live id self.old.log) }
+        requires room { length wakes.old + PUBS ≤ K }
+        ensures state { self.new ≡ record self.old { log = left id self.old.log; lists = lists_after_room (frees self.old.log (left id self.old.log)) self.old.lists } }
+        ensures wakes { wakes.new ≡ wakes.old ++ wakes_of_room (frees self.old.log (left id self.old.log)) self.old.lists }
+    {
+        let held = self.log.len();
+        self.log.leave(id.place);
+        self.tell_room(held, wakes);
+    }
+
+    /// Counts one more publisher.
+    ///
+    /// # Errors
+    ///
+    /// `MaximumPublishersReached` where `PUBS` are counted. Nothing is changed.
+    pub fn add_publisher(&mut self) -> Result<(), Error>
+        ensures count { Adds PUBS self.old.publishers result self.new.publishers }
+        ensures rest { self.new ≡ record self.old { publishers = self.new.publishers } }
+    {
+        if self.publishers >= PUBS {
+            return Err(Error::MaximumPublishersReached);
+        }
+        self.publishers += 1;
+        Ok(())
+    }
+
+    /// Counts one publisher less. There has to be one, as `publishers` tells.
+    pub fn remove_publisher(&mut self)
+        requires { 1 ≤ self.old.publishers }
+        ensures { self.new ≡ record self.old { publishers = self.old.publishers - 1 } }
+    {
+        self.publishers -= 1;
+    }
+
+    /// How many publishers are counted.
+    pub fn publishers(&self) -> usize
+        ensures value { result ≡ self.now.publishers }
+        ensures within { result ≤ PUBS }
+    {
+        self.publishers
+    }
+
+    // Wakes who waits for a message, where a subscriber was there when it was accepted.
+    fn tell_news<const K: usize>(&mut self, has_subscribers: bool, wakes: &mut Wakes<W, K>)
+        requires { length wakes.old + SUBS ≤ K }
+        ensures state { self.new ≡ record self.old { lists = lists_after_news has_subscribers self.old.lists } }
+        ensures wakes { wakes.new ≡ wakes.old ++ wakes_of_news has_subscribers self.old.lists }
+    {
+        if has_subscribers {
+            self.subscriber_wakers.wake(wakes);
+        }
+    }
+
+    // Wakes who waits for room, where fewer messages are held than were.
+    fn tell_room<const K: usize>(&mut self, held: usize, wakes: &mut Wakes<W, K>)
+        requires { length wakes.old + PUBS ≤ K }
+        ensures state { self.new ≡ record self.old { lists = lists_after_room (nat_lt (length self.old.log.held) held) self.old.lists } }
+        ensures wakes { wakes.new ≡ wakes.old ++ wakes_of_room (nat_lt (length self.old.log.held) held) self.old.lists }
+    {
+        if self.has_freed(held) {
+            self.publisher_wakers.wake(wakes);
+        }
+    }
+
+    // Fewer messages are held than were.
+    fn has_freed(&self, held: usize) -> bool
+        ensures { result ≡ nat_lt (length self.now.log.held) held }
+    {
+        self.log.len() < held
+    }
+
+    /// Publishes a message at once. Where `CAP` are held, the oldest one is dropped, and who had not read it lags.
+    ///
+    /// # Errors
+    ///
+    /// `Exhausted` with the message where the numbers of messages have run out. Nothing is changed.
+    pub fn publish_immediate<const K: usize>(
+        &mut self,
+        message: T,
+        wakes: &mut Wakes<W, K>,
+    ) -> Result<(), Exhausted<T>>
+        requires { length wakes.old + SUBS ≤ K }
+        ensures log { PublishesAtOnce CAP message self.old.log result self.new.log }
+        ensures rest { self.new ≡ record self.old { log = self.new.log; lists = lists_after_immediate (has_subscribers self.old.log) result self.old.lists } }
+        ensures wakes { wakes.new ≡ wakes.old ++ wakes_of_immediate (has_subscribers self.old.log) result self.old.lists }
+    {
+        let has_subscribers = self.log.has_subscribers();
+        match self.log.publish_immediate(message) {
+            Ok(()) => {
+                self.tell_news(has_subscribers, wakes);
+                Ok(())
+            }
+            Err(refused) => Err(refused),
+        }
+    }
+
+    /// How many messages were published that this subscriber has not read, held or not.
+    pub fn available(&self, id: &SubId) -> u64
+        requires { IsTrue (is_live id.now self.now.log) }
+        ensures { result ≡ self.now.log.next - position id.now self.now.log }
+    {
+        self.log.available(id.place)
+    }
+
+    /// Drops all messages, and wakes who waits for room. Who had not read them lags.
+    pub fn clear<const K: usize>(&mut self, wakes: &mut Wakes<W, K>)
+        requires { length wakes.old + PUBS ≤ K }
+        ensures state { self.new ≡ record self.old { log = cleared self.old.log; lists = record self.old.lists { publishers = [] } } }
+        ensures wakes { wakes.new ≡ wakes.old ++ self.old.lists.publishers }
+        ensures at_most { length wakes.new ≤ length wakes.old + PUBS }
+    {
+        self.log.clear();
+        self.publisher_wakers.wake(wakes);
+    }
+
+    /// How many messages are held.
+    pub fn len(&self) -> usize
+        ensures value { result ≡ length self.now.log.held }
+        ensures within { result ≤ CAP }
+    {
+        self.log.len()
+    }
+
+    /// No message is held.
+    pub fn is_empty(&self) -> bool
+        ensures { IsTrue result ↔ (self.now.log.held ≡ []) }
+    {
+        self.log.is_empty()
+    }
+
+    /// As many messages are held as there is room for.
+    pub fn is_full(&self) -> bool
+        ensures { result ≡ not (nat_lt (length self.now.log.held) CAP) }
+    {
+        self.log.is_full()
+    }
+
+    /// How many messages can be held.
+    pub fn capacity(&self) -> usize
+        ensures { result ≡ CAP }
+    {
+        CAP
+    }
+
+    /// How many messages there is room for.
+    pub fn free_capacity(&self) -> usize
+        ensures { result + length self.now.log.held ≡ CAP }
+    {
+        CAP - self.len()
+    }
 }

@@ -1,0 +1,106 @@
+-- A channel for many: its log, how many publishers are counted, and who waits.
+use Rattle.std.specs.Prelude.{◌≡◌, ℕ, ◌+◌, ◌<◌, Bool, true, false, List, [], length, Option, Some, None, Result, Ok, Err, nat_lt, replicate, refl}
+use Rattle.std.specs.Coded.{Coded, code_by, coded×, coded_ℕ, coded_list}
+use Rattle.esync_base.specs.Registration.{registered_if, displaced_if}
+use Rattle.esync_pubsub.specs.Log.{Log, log_code, Joins}
+use Rattle.esync_base.specs.declared.waitqueue.Poll.{Poll}
+use Rattle.esync_base.specs.declared.waitqueue.Poll.TheVariants.{Pending, Ready}
+use Rattle.esync_pubsub.specs.declared.pubsub.TryPublishError.{TryPublishError}
+use Rattle.esync_pubsub.specs.declared.pubsub.TryPublishError.TheVariants.{Full, Exhausted}
+use Rattle.esync_pubsub.specs.declared.pubsub.Error.{Error}
+use Rattle.esync_pubsub.specs.declared.pubsub.Error.TheVariants.{MaximumSubscribersReached, MaximumPublishersReached}
+
+-- who waits for a message, and who waits for room
+pub record Lists (W : Type 0) : Type 0 where
+  pub subscribers : List W
+  pub publishers : List W
+
+pub record PubSub (T W : Type 0) : Type 0 where
+  pub log : Log T
+  -- how many publishers are counted
+  pub publishers : ℕ
+  pub lists : Lists W
+
+abbrev pub lists_code : {W : Type 0} → Coded W → Coded (Lists W)
+lists_code {W} w =
+    code_by (List W × List W) (coded× (coded_list w) (coded_list w)) (λ s. (s.subscribers, s.publishers)) (λ p. record { subscribers = p.0; publishers = p.1 }) (λ _. refl)
+
+abbrev pub pubsub_code : {T W : Type 0} → Coded T → Coded W → Coded (PubSub T W)
+pubsub_code {T} {W} t w =
+    code_by (Log T × (ℕ × Lists W)) (coded× (log_code t) (coded× coded_ℕ (lists_code w))) (λ s. (s.log, (s.publishers, s.lists))) (λ p. record { log = p.0; publishers = p.1.0; lists = p.1.1 }) (λ _. refl)
+
+-- a channel in which nobody was, with this many places for subscribers
+abbrev pub fresh : {T W : Type 0} → ℕ → ℕ → PubSub T W
+fresh places next = record { log = record { held = []; next = next; positions = replicate places None }; publishers = 0; lists = record { subscribers = []; publishers = [] } }
+
+-- a subscriber comes, or all places are taken
+abbrev pub Subscribes : {T : Type 0} → Log T → Result ℕ Error → Log T → Type 0
+Subscribes log (Ok place) log2 = Joins log (Some place) log2
+Subscribes log (Err MaximumSubscribersReached) log2 = Joins log None log2
+Subscribes log (Err MaximumPublishersReached) log2 = ⊥
+
+-- one more publisher is counted, or as many are as may be
+abbrev pub Adds : ℕ → ℕ → Result (Unit {0}) Error → ℕ → Type 0
+Adds most n (Ok done) n2 = (n < most) × (n2 ≡ n + 1)
+Adds most n (Err MaximumSubscribersReached) n2 = ⊥
+Adds most n (Err MaximumPublishersReached) n2 = (n ≡ most) × (n2 ≡ n)
+
+-- fewer messages are held in the second log
+abbrev pub frees : {T : Type 0} → Log T → Log T → Bool
+frees log log2 = nat_lt (length log2.held) (length log.held)
+
+-- what a poll answered: nothing where it is Pending
+abbrev pub answered : {A : Type 0} → Poll A → Option A
+answered (Ready a) = Some a
+answered Pending = None
+
+module _ {W : Type 0} where
+  -- an accepted message hands out the subscribers' list, where there is a subscriber
+  abbrev pub lists_after_news : Bool → Lists W → Lists W
+  lists_after_news true l = record l { subscribers = [] }
+  lists_after_news false l = l
+
+  abbrev pub wakes_of_news : Bool → Lists W → List W
+  wakes_of_news true l = l.subscribers
+  wakes_of_news false l = []
+
+  -- a message that leaves hands out the publishers' list
+  abbrev pub lists_after_room : Bool → Lists W → Lists W
+  lists_after_room true l = record l { publishers = [] }
+  lists_after_room false l = l
+
+  abbrev pub wakes_of_room : Bool → Lists W → List W
+  wakes_of_room true l = l.publishers
+  wakes_of_room false l = []
+
+  -- a message that is published at once is accepted, or refused
+  abbrev pub lists_after_immediate : {A E : Type 0} → Bool → Result A E → Lists W → Lists W
+  lists_after_immediate live (Ok done) l = lists_after_news live l
+  lists_after_immediate live (Err e) l = l
+
+  abbrev pub wakes_of_immediate : {A E : Type 0} → Bool → Result A E → Lists W → List W
+  wakes_of_immediate live (Ok done) l = wakes_of_news live l
+  wakes_of_immediate live (Err e) l = []
+
+  module _ (eq : W → W → Bool) where
+    -- a message that finds no room registers the waker, if one is given, in the publishers' list of n places
+    abbrev pub lists_after_publish : {A T : Type 0} → ℕ → Option W → Bool → Result A (TryPublishError T) → Lists W → Lists W
+    lists_after_publish n w live (Ok done) l = lists_after_news live l
+    lists_after_publish n w live (Err (Full back)) l = record l { publishers = registered_if eq n l.publishers w }
+    lists_after_publish n w live (Err (Exhausted back)) l = l
+
+    abbrev pub wakes_of_publish : {A T : Type 0} → ℕ → Option W → Bool → Result A (TryPublishError T) → Lists W → List W
+    wakes_of_publish n w live (Ok done) l = wakes_of_news live l
+    wakes_of_publish n w live (Err (Full back)) l = displaced_if eq n l.publishers w
+    wakes_of_publish n w live (Err (Exhausted back)) l = []
+
+    -- a read at the end registers the waker, if one is given, in the subscribers' list of n places, and another may free a message
+    abbrev pub lists_after_read : {A E : Type 0} → ℕ → Option W → Bool → Result (Poll A) E → Lists W → Lists W
+    lists_after_read n w freed (Ok (Ready a)) l = lists_after_room freed l
+    lists_after_read n w freed (Ok Pending) l = record l { subscribers = registered_if eq n l.subscribers w }
+    lists_after_read n w freed (Err e) l = l
+
+    abbrev pub wakes_of_read : {A E : Type 0} → ℕ → Option W → Bool → Result (Poll A) E → Lists W → List W
+    wakes_of_read n w freed (Ok (Ready a)) l = wakes_of_room freed l
+    wakes_of_read n w freed (Ok Pending) l = displaced_if eq n l.subscribers w
+    wakes_of_read n w freed (Err e) l = []
