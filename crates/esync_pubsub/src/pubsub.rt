@@ -1,7 +1,7 @@
 //! A channel for many: whoever publishes reaches all who subscribed before.
-ghost use Rattle.std.specs.Prelude.{◌≡◌, ◌+◌, ◌-◌, ◌≤◌, ◌++◌, ◌↔◌, IsTrue, [], length, not, nat_lt};
-ghost use Rattle.esync_pubsub.specs.Log.{has_subscribers, is_live, position, left, cleared, PublishesAtOnce};
-ghost use Rattle.esync_pubsub.specs.PubSub.{fresh, Subscribes, Adds, frees, lists_after_news, wakes_of_news, lists_after_room, wakes_of_room, lists_after_immediate, wakes_of_immediate};
+ghost use Rattle.std.specs.Prelude.{◌≡◌, ◌+◌, ◌-◌, ◌≤◌, ◌++◌, ◌↔◌, IsTrue, [], None, length, not, nat_lt};
+ghost use Rattle.esync_pubsub.specs.Log.{has_subscribers, is_live, position, left, cleared, Publishes, PublishesAtOnce};
+ghost use Rattle.esync_pubsub.specs.PubSub.{fresh, Subscribes, Adds, frees, lists_after_news, wakes_of_news, lists_after_room, wakes_of_room, lists_after_publish, wakes_of_publish, lists_after_immediate, wakes_of_immediate};
 
 use crate::log::Log;
 use esync_base::waitqueue::{MultiWakerRegistration, Wakes};
@@ -210,6 +210,33 @@ impl<T: Drop, W: Copy + Eq, const CAP: usize, const SUBS: usize, const PUBS: usi
         ensures { result ≡ nat_lt (length self.now.log.held) held }
     {
         self.log.len() < held
+    }
+
+    /// Publishes a message for all who are subscribers. Without subscribers it is let go.
+    ///
+    /// # Errors
+    ///
+    /// The message comes back and nothing is changed: `Full` where `CAP` messages are held, and else `Exhausted` where the numbers of
+    /// messages have run out.
+    pub fn try_publish<const K: usize>(
+        &mut self,
+        message: T,
+        wakes: &mut Wakes<W, K>,
+    ) -> Result<(), TryPublishError<T>>
+        requires { length wakes.old + SUBS ≤ K }
+        ensures log { Publishes CAP message self.old.log result self.new.log }
+        ensures rest { self.new ≡ record self.old { log = self.new.log; lists = lists_after_publish W.eq PUBS None (has_subscribers self.old.log) result self.old.lists } }
+        ensures wakes { wakes.new ≡ wakes.old ++ wakes_of_publish W.eq PUBS None (has_subscribers self.old.log) result self.old.lists }
+    {
+        let has_subscribers = self.log.has_subscribers();
+        match self.log.publish(message) {
+            Ok(()) => {
+                self.tell_news(has_subscribers, wakes);
+                Ok(())
+            }
+            Err(TryPublishError::Full(message)) => Err(TryPublishError::Full(message)),
+            Err(TryPublishError::Exhausted(message)) => Err(TryPublishError::Exhausted(message)),
+        }
     }
 
     /// Publishes a message at once. Where `CAP` are held, the oldest one is dropped, and who had not read it lags.
