@@ -7,6 +7,7 @@ use Rattle.esync_base.specs.declared.waitqueue.Poll.{Poll}
 use Rattle.esync_base.specs.declared.waitqueue.Poll.TheVariants.{Pending, Ready}
 use Rattle.esync_pubsub.specs.declared.pubsub.TryPublishError.{TryPublishError}
 use Rattle.esync_pubsub.specs.declared.pubsub.TryPublishError.TheVariants.{Full, Exhausted}
+use Rattle.esync_pubsub.specs.declared.pubsub.Exhausted.{Exhausted as NoNumber}
 use Rattle.esync_pubsub.specs.declared.pubsub.Error.{Error}
 use Rattle.esync_pubsub.specs.declared.pubsub.Error.TheVariants.{MaximumSubscribersReached, MaximumPublishersReached}
 
@@ -49,10 +50,16 @@ Adds most n (Err MaximumPublishersReached) n2 = (n ≡ most) × (n2 ≡ n)
 abbrev pub frees : {T : Type 0} → Log T → Log T → Bool
 frees log log2 = nat_lt (length log2.held) (length log.held)
 
--- what a poll answered: nothing where it is Pending
-abbrev pub answered : {A : Type 0} → Poll A → Option A
-answered (Ready a) = Some a
-answered Pending = None
+-- what a poll of a request answers, as its publish: Pending where there is no room
+abbrev pub tried : {T : Type 0} → T → Poll (Result (Unit {0}) (NoNumber T)) → Result (Unit {0}) (TryPublishError T)
+tried message (Ready (Ok done)) = Ok done
+tried message (Ready (Err refused)) = Err (Exhausted refused.0)
+tried message Pending = Err (Full message)
+
+-- what is still to be published
+abbrev pub still : {T A : Type 0} → T → Poll A → Option T
+still message (Ready a) = None
+still message Pending = Some message
 
 module _ {W : Type 0} where
   -- an accepted message hands out the subscribers' list, where there is a subscriber
@@ -93,14 +100,3 @@ module _ {W : Type 0} where
     wakes_of_publish n w live (Ok done) l = wakes_of_news live l
     wakes_of_publish n w live (Err (Full back)) l = displaced_if eq n l.publishers w
     wakes_of_publish n w live (Err (Exhausted back)) l = []
-
-    -- a read at the end registers the waker, if one is given, in the subscribers' list of n places, and another may free a message
-    abbrev pub lists_after_read : {A E : Type 0} → ℕ → Option W → Bool → Result (Poll A) E → Lists W → Lists W
-    lists_after_read n w freed (Ok (Ready a)) l = lists_after_room freed l
-    lists_after_read n w freed (Ok Pending) l = record l { subscribers = registered_if eq n l.subscribers w }
-    lists_after_read n w freed (Err e) l = l
-
-    abbrev pub wakes_of_read : {A E : Type 0} → ℕ → Option W → Bool → Result (Poll A) E → Lists W → List W
-    wakes_of_read n w freed (Ok (Ready a)) l = wakes_of_room freed l
-    wakes_of_read n w freed (Ok Pending) l = displaced_if eq n l.subscribers w
-    wakes_of_read n w freed (Err e) l = []

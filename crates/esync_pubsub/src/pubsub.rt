@@ -1,10 +1,10 @@
 //! A channel for many: whoever publishes reaches all who subscribed before.
-ghost use Rattle.std.specs.Prelude.{◌≡◌, ◌+◌, ◌-◌, ◌≤◌, ◌++◌, ◌↔◌, IsTrue, [], None, length, not, nat_lt};
+ghost use Rattle.std.specs.Prelude.{◌≡◌, ◌+◌, ◌-◌, ◌≤◌, ◌++◌, ◌↔◌, IsTrue, [], None, Some, IsSome, IfSome, is_none, length, not, nat_lt};
 ghost use Rattle.esync_pubsub.specs.Log.{has_subscribers, is_live, position, left, cleared, Publishes, PublishesAtOnce};
-ghost use Rattle.esync_pubsub.specs.PubSub.{fresh, Subscribes, Adds, frees, lists_after_news, wakes_of_news, lists_after_room, wakes_of_room, lists_after_publish, wakes_of_publish, lists_after_immediate, wakes_of_immediate};
+ghost use Rattle.esync_pubsub.specs.PubSub.{fresh, Subscribes, Adds, frees, lists_after_news, wakes_of_news, lists_after_room, wakes_of_room, lists_after_publish, wakes_of_publish, tried, still, lists_after_immediate, wakes_of_immediate};
 
 use crate::log::Log;
-use esync_base::waitqueue::{MultiWakerRegistration, Wakes};
+use esync_base::waitqueue::{Context, MultiWakerRegistration, Poll, Wakes};
 use std::fmt::Debug;
 use std::marker::Model;
 use thiserror::Error;
@@ -239,6 +239,34 @@ impl<T: Drop, W: Copy + Eq, const CAP: usize, const SUBS: usize, const PUBS: usi
         }
     }
 
+    // Publishes a message. Where the log is full, the waker waits for room.
+    fn publish_or_wait<const K: usize>(
+        &mut self,
+        message: T,
+        waker: W,
+        wakes: &mut Wakes<W, K>,
+    ) -> Result<(), TryPublishError<T>>
+        requires subscribers { length wakes.old + SUBS ≤ K }
+        requires place { 1 ≤ PUBS }
+        requires publishers { length wakes.old + PUBS ≤ K }
+        ensures log { Publishes CAP message self.old.log result self.new.log }
+        ensures rest { self.new ≡ record self.old { log = self.new.log; lists = lists_after_publish W.eq PUBS (Some waker) (has_subscribers self.old.log) result self.old.lists } }
+        ensures wakes { wakes.new ≡ wakes.old ++ wakes_of_publish W.eq PUBS (Some waker) (has_subscribers self.old.log) result self.old.lists }
+    {
+        let has_subscribers = self.log.has_subscribers();
+        match self.log.publish(message) {
+            Ok(()) => {
+                self.tell_news(has_subscribers, wakes);
+                Ok(())
+            }
+            Err(TryPublishError::Full(message)) => {
+                self.publisher_wakers.register(waker, wakes);
+                Err(TryPublishError::Full(message))
+            }
+            Err(TryPublishError::Exhausted(message)) => Err(TryPublishError::Exhausted(message)),
+        }
+    }
+
     /// Publishes a message at once. Where `CAP` are held, the oldest one is dropped, and who had not read it lags.
     ///
     /// # Errors
@@ -317,5 +345,81 @@ impl<T: Drop, W: Copy + Eq, const CAP: usize, const SUBS: usize, const PUBS: usi
         ensures { result + length self.now.log.held ≡ CAP }
     {
         CAP - self.len()
+    }
+}
+
+/// A message that waits to be published.
+#[derive(Drop)]
+pub struct PublishRequest<T> {
+    message: Option<T>,
+}
+
+impl<T> Model for PublishRequest<T> {
+    ghost use Rattle.std.specs.Prelude.{Option};
+    ghost use Rattle.std.specs.Coded.{coded_option};
+
+    ghost Value = { Option T };
+
+    ghost coded = { coded_option T.code };
+
+    ghost view = { λ a. a.message };
+}
+
+impl<T: Drop> PublishRequest<T> {
+    /// This message, which is still to be published.
+    pub fn new(message: T) -> Self
+        ensures { result ≡ Some message }
+    {
+        PublishRequest {
+            message: Some(message),
+        }
+    }
+
+    /// The message was published, or refused for good.
+    pub fn is_finished(&self) -> bool
+        ensures { result ≡ is_none self.now }
+    {
+        self.message.is_none()
+    }
+
+    /// Publishes the message where there is room. Where there is none, the context's waker waits for it.
+    ///
+    /// A request that is finished is not polled.
+    ///
+    /// # Errors
+    ///
+    /// `Exhausted` with the message where the numbers of messages have run out. Nothing is changed, and the request is finished.
+    pub fn poll_state<
+        W: Copy + Eq,
+        const CAP: usize,
+        const SUBS: usize,
+        const PUBS: usize,
+        const K: usize,
+    >(
+        &mut self,
+        state: &mut PubSubState<T, W, CAP, SUBS, PUBS>,
+        cx: &Context<W>,
+        wakes: &mut Wakes<W, K>,
+    ) -> Poll<Result<(), Exhausted<T>>>
+        requires subscribers { length wakes.old + SUBS ≤ K }
+        requires place { 1 ≤ PUBS }
+        requires publishers { length wakes.old + PUBS ≤ K }
+        requires unfinished { IsSome self.old }
+        ensures log { IfSome self.old (λ message. Publishes CAP message state.old.log (tried message result) state.new.log) }
+        ensures request { IfSome self.old (λ message. self.new ≡ still message result) }
+        ensures rest { IfSome self.old (λ message. state.new ≡ record state.old { log = state.new.log; lists = lists_after_publish W.eq PUBS (Some cx.now) (has_subscribers state.old.log) (tried message result) state.old.lists }) }
+        ensures wakes { IfSome self.old (λ message. wakes.new ≡ wakes.old ++ wakes_of_publish W.eq PUBS (Some cx.now) (has_subscribers state.old.log) (tried message result) state.old.lists) }
+    {
+        let Some(message) = self.message.take() else {
+            unreachable!()
+        };
+        match state.publish_or_wait(message, cx.waker(), wakes) {
+            Ok(()) => Poll::Ready(Ok(())),
+            Err(TryPublishError::Full(message)) => {
+                self.message = Some(message);
+                Poll::Pending
+            }
+            Err(TryPublishError::Exhausted(message)) => Poll::Ready(Err(Exhausted(message))),
+        }
     }
 }
