@@ -34,7 +34,7 @@ const fn shared(name: &'static str, case: &'static str, upstream: Pass) -> Case 
     }
 }
 
-pub const CASES: [Case; 30] = [
+pub const CASES: [Case; 31] = [
     state(
         "channel_ping_pong_4",
         ours::ping_pong_4,
@@ -114,6 +114,11 @@ pub const CASES: [Case; 30] = [
         "signal_take",
         ours::signal_take,
         upstream::signal_take::<NoopRawMutex>,
+    ),
+    state(
+        "mutex_lock",
+        ours::mutex_lock,
+        upstream::mutex_lock::<NoopRawMutex>,
     ),
     state(
         "greedy_acquire",

@@ -42,6 +42,7 @@ exports! {
     priority_steady_64 = esync_bench_priority_steady_64;
     priority_steady_1024 = esync_bench_priority_steady_1024;
     signal_take = esync_bench_signal_take;
+    mutex_lock = esync_bench_mutex_lock;
     greedy_acquire = esync_bench_greedy_acquire;
     greedy_try_acquire = esync_bench_greedy_try_acquire;
     greedy_wait_and_wake = esync_bench_greedy_wait_and_wake;

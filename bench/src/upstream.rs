@@ -7,6 +7,7 @@ use std::task::{Context, Poll, RawWaker, RawWakerVTable, Waker};
 
 use embassy_sync::blocking_mutex::raw::RawMutex;
 use embassy_sync::channel::Channel;
+use embassy_sync::mutex::Mutex;
 use embassy_sync::pipe::Pipe;
 use embassy_sync::priority_channel::{Max, PriorityChannel};
 use embassy_sync::semaphore::{FairSemaphore, GreedySemaphore, Semaphore, SemaphoreReleaser};
@@ -219,6 +220,29 @@ fn signal_take_through<M: RawMutex>(signal: &Signal<M, u32>, messages: &[u32], t
 pub fn signal_take<M: RawMutex>(messages: &[u32]) -> Answer {
     answer(
         signal_take_through(&Signal::<M, u32>::new(), messages, &Turn::new()),
+        0,
+    )
+}
+
+#[inline(never)]
+fn mutex_lock_through<M: RawMutex>(mutex: &Mutex<M, ()>, messages: &[u32], turn: &Turn) -> u64 {
+    let mut total = 0u64;
+    for message in messages {
+        let locked = mutex.try_lock();
+        turn.next();
+        if locked.is_ok() {
+            total = total.wrapping_add((*message).into());
+        }
+        drop(locked);
+        turn.next();
+    }
+    total
+}
+
+/// The value has no bytes, since our state has none.
+pub fn mutex_lock<M: RawMutex>(messages: &[u32]) -> Answer {
+    answer(
+        mutex_lock_through(&Mutex::<M, ()>::new(()), messages, &Turn::new()),
         0,
     )
 }

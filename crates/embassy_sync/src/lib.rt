@@ -12,4 +12,6 @@ pub use esync_history::{executor, recorded};
 pub use esync_permits::semaphore;
 pub use esync_pipe::pipe;
 pub use esync_priority::{prio, priority_channel};
+pub use esync_pubsub::pubsub;
 pub use esync_run as run;
+pub use esync_zerocopy::zerocopy_channel;

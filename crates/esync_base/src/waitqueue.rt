@@ -1,5 +1,5 @@
 //! Wakers, the places where they wait, and the lists in which a step hands them out.
-ghost use Rattle.std.specs.Prelude.{◌≡◌, ℕ, ◌+◌, ◌<◌, ◌≤◌, ◌++◌, [], ◌∷◌, length, slice_get, slice_index_or, slice_set, Some, ◌↔◌, IsTrue};
+ghost use Rattle.std.specs.Prelude.{◌≡◌, ℕ, ◌+◌, ◌<◌, ◌≤◌, ◌++◌, [], ◌∷◌, length, slice_get, slice_index_or, slice_set, Some, map, ◌↔◌, IsTrue};
 ghost use Rattle.esync_base.specs.Rows.{items_of};
 ghost use Rattle.esync_base.specs.Registration.{registered, displaced};
 
@@ -133,6 +133,44 @@ impl<W, const K: usize> Model for Wakes<W, K> {
     ghost inverse = { λ xs. record { row = record { places = row_of K xs }; len = length xs } };
 }
 
+/// Two lists are equal where they have as many wakers, and each equals the other's at its place.
+impl<W: PartialEq, const K: usize> PartialEq for Wakes<W, K> {
+    ghost use Rattle.std.specs.Cmp.Lexicographic.{pointwise, lists_per};
+
+    ghost eq = { pointwise W.eq };
+
+    ghost laws = { lists_per W.laws };
+
+    fn eq(&self, other: &Self) -> bool {
+        self.filled() == other.filled()
+    }
+}
+
+impl<W: Eq, const K: usize> Eq for Wakes<W, K> {
+    ghost use Rattle.std.specs.Cmp.Lexicographic.{lists_equiv};
+
+    ghost laws = { lists_equiv W.Eq.laws };
+}
+
+/// The wakers, in order, as a list.
+impl<W: fmt::Debug, const K: usize> fmt::Debug for Wakes<W, K> {
+    fn fmt<F: fmt::Write>(&self, f: &mut fmt::Formatter<F>) -> fmt::Result {
+        f.debug_list()
+            .entries(self.filled().iter().flatten())
+            .finish()
+    }
+}
+
+impl<W, const K: usize> Wakes<W, K> {
+    // The places that have a waker.
+    fn filled(&self) -> &[Option<W>]
+        ensures { result.now ≡ map Some self.now }
+    {
+        let Wakes { row, len } = self;
+        &row.places[..*len]
+    }
+}
+
 impl<W: Copy, const K: usize> Wakes<W, K> {
     /// An empty list.
     pub fn new() -> Self
@@ -142,6 +180,13 @@ impl<W: Copy, const K: usize> Wakes<W, K> {
             row: Row { places: [None; K] },
             len: 0,
         }
+    }
+
+    /// Empties the list, which has room for `K` wakers again.
+    pub fn clear(&mut self)
+        ensures { self.new ≡ [] }
+    {
+        *self = Wakes::new();
     }
 
     /// How many wakers are in the list.

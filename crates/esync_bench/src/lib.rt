@@ -8,6 +8,7 @@ mod carrier;
 pub mod channel;
 pub mod fair;
 pub mod greedy;
+pub mod mutex;
 pub mod pipe;
 mod pool;
 pub mod priority;

@@ -1,0 +1,2 @@
+pub mod OnceSet
+pub mod WatchKept

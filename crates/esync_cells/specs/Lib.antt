@@ -4,6 +4,12 @@ pub mod SignalLaws
 pub mod OnceLock
 pub mod OnceRules
 pub mod OnceLaws
+pub mod OnceSet
 pub mod LazyLock
 pub mod LazyRules
 pub mod Watch
+pub mod Watched
+pub mod Receivers
+pub mod ReceiversLaws
+pub mod WatchRules
+pub mod WatchLaws

@@ -4,8 +4,17 @@ ghost use Rattle.esync_base.specs.Registration.{registered_if, displaced_if};
 ghost use Rattle.esync_cells.specs.Watch.{fresh, judged, found, Answers, seen_after, polled, waiter_where_pending, last_version, sent, woken_by, sent_if, woken_if, counted};
 
 use esync_base::waitqueue::{Context, MultiWakerRegistration, Poll, Wakes};
+pub use handles::{
+    AnonRcv, AnonReceiver, Changed, ChangedAnd, DynAnonReceiver, DynReceiver, DynSender, Get,
+    GetAnd, Rcv, Receiver, Sender, Snd,
+};
+pub use shared::{SharedWatch, Watch, WatchBehavior, WatchValue};
 use std::alloc::AllocError;
 use std::marker::Model;
+
+mod handles;
+pub mod machine;
+mod shared;
 
 /// Versions have run out: nothing was sent, and what was to be sent comes back. Of a change that is `()`.
 #[derive(Clone, Copy, Debug, PartialEq, Eq, Drop)]

@@ -6,4 +6,8 @@ mod guards;
 #[cfg(test)]
 mod machine;
 #[cfg(test)]
+mod noop;
+#[cfg(test)]
+mod threads;
+#[cfg(test)]
 mod wakers;

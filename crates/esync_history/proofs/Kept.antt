@@ -55,7 +55,7 @@ module _ {Ask Command : Type 0} (tasks : List (Todo Ask Command)) where
   orderly_woken room queue [] o = o
   orderly_woken room queue (w ∷ ws) o = orderly_woken room (put_back tasks queue w.0) ws (orderly_put room queue w.0 o)
 
-  pub orderly_requeued : (room : ℕ) (queue : List ℕ) (ws : List TaskId) (over : Bool) (k : ℕ) → IsOrderly tasks (record { room = room; numbers = queue }) → IsOrderly tasks (record { room = room; numbers = requeued tasks queue ws over k })
+  pub orderly_requeued : (room : ℕ) (queue : List ℕ) (ws : List TaskId) (back : Bool) (k : ℕ) → IsOrderly tasks (record { room = room; numbers = queue }) → IsOrderly tasks (record { room = room; numbers = requeued tasks queue ws back k })
   orderly_requeued room queue ws true k o = orderly_put room (woken tasks queue ws) k (orderly_woken room queue ws o)
   orderly_requeued room queue ws false k o = orderly_woken room queue ws o
 
@@ -74,12 +74,12 @@ module _ {Ask Command : Type 0} (tasks : List (Todo Ask Command)) where
     ];
   }
 
-pub orderly_turn : {Ask Command : Type 0} (tasks now : List (Todo Ask Command)) (queue popped after : Line) (k : ℕ) (left : Todo Ask Command) (ws : List TaskId) (over : Bool) → IsOrderly tasks queue → queue.numbers ≡ k ∷ popped.numbers → popped.room ≡ queue.room → now ≡ slice_set tasks k left → after ≡ record { room = popped.room; numbers = requeued now popped.numbers ws over k } → IsOrderly (slice_set tasks k left) after
-orderly_turn tasks now queue popped after k left ws over o front room e f =
+pub orderly_turn : {Ask Command : Type 0} (tasks now : List (Todo Ask Command)) (queue popped after : Line) (k : ℕ) (left : Todo Ask Command) (ws : List TaskId) (back : Bool) → IsOrderly tasks queue → queue.numbers ≡ k ∷ popped.numbers → popped.room ≡ queue.room → now ≡ slice_set tasks k left → after ≡ record { room = popped.room; numbers = requeued now popped.numbers ws back k } → IsOrderly (slice_set tasks k left) after
+orderly_turn tasks now queue popped after k left ws back o front room e f =
     let same : queue ≡ record { room = popped.room; numbers = k ∷ popped.numbers } = same_line _ _ _ _ (sym room) front in
     let taken = orderly_taken tasks popped.room popped.numbers k left (subst (λ q. IsOrderly tasks q) same o) in
-    subst (λ q. IsOrderly (slice_set tasks k left) q) (sym f) (subst (λ ts. IsOrderly (slice_set tasks k left) (record { room = popped.room; numbers = requeued ts popped.numbers ws over k })) (sym e)
-    (orderly_requeued (slice_set tasks k left) popped.room popped.numbers ws over k taken))
+    subst (λ q. IsOrderly (slice_set tasks k left) q) (sym f) (subst (λ ts. IsOrderly (slice_set tasks k left) (record { room = popped.room; numbers = requeued ts popped.numbers ws back k })) (sym e)
+    (orderly_requeued (slice_set tasks k left) popped.room popped.numbers ws back k taken))
 
 module _ {Ask Command : Type 0} where
   -- the numbers of the tasks that haven't ended, of two lists of tasks

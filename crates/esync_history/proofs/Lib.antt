@@ -4,3 +4,4 @@ pub mod Turning
 pub mod Kept
 pub mod Stalling
 pub mod Starting
+pub mod Entries

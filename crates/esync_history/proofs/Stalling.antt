@@ -62,8 +62,8 @@ module _ {S Ask Command Reply : Type 0} (X : Semantics S Command Reply TaskId) (
     | inr kept ↦ elim (stands_through h.0 new steps r w h.3 v.1 kept) [ inl out ↦ inl (inr out) | inr still ↦ inr still ]
   ]
 
-  poll_uses : (w : TaskId) (t : ℕ) (s : Step X.meaning.Object Command Reply) (over : Bool) (request : Option ℕ) (r : ℕ) → IsPoll X.meaning w t s over request → request ≡ Some r → t ≡ r
-  poll_uses w t s over request r h e = elim h.1 [ inl q ↦ (let n = q.2 in cc) | inr q ↦ (let n = q.2 in absurd cc) ]
+  poll_uses : (w : TaskId) (t : ℕ) (s : Step X.meaning.Object Command Reply) (back : Bool) (request : Option ℕ) (r : ℕ) → IsPoll X.meaning w t s back request → request ≡ Some r → t ≡ r
+  poll_uses w t s back request r h e = elim h.1 [ inl q ↦ (let n = q.0 in cc) | inr q ↦ (let n = q.0 in absurd cc) ]
 
   awaits_first : (r t : ℕ) (ask : Ask) (acts : List (Act Ask Command)) → t ≡ r → list_any (awaits_at r) (Await t ask ∷ acts) ≡ true
   awaits_first r t ask acts e = rw (equal_number t r e) refl
@@ -72,11 +72,11 @@ module _ {S Ask Command Reply : Type 0} (X : Semantics S Command Reply TaskId) (
   awaits_later r act acts e = elim (true_or_false (awaits_at r act)) [ inl h ↦ rw h refl | inr h ↦ rw h e ]
 
   -- the steps of an act neither poll nor start a request that the task doesn't use
-  pub acts_avoid : (w : TaskId) (request : Option ℕ) (acts : List (Act Ask Command)) (steps : List (Step X.meaning.Object Command Reply)) (over : Bool) (left : Todo Ask Command) (r : ℕ) → Acts X.meaning starting w request acts steps over left → (Uses r (record { request = request; acts = acts }) → ⊥) → ArePlain X.meaning acts → Each (Avoids r) steps
-  acts_avoid w (Some t) acts steps over left r h unused p =
+  pub acts_avoid : (w : TaskId) (request : Option ℕ) (acts : List (Act Ask Command)) (steps : List (Step X.meaning.Object Command Reply)) (back : Bool) (left : Todo Ask Command) (r : ℕ) → Acts X.meaning starting w request acts steps back left → (Uses r (record { request = request; acts = acts }) → ⊥) → ArePlain X.meaning acts → Each (Avoids r) steps
+  acts_avoid w (Some t) acts steps back left r h unused p =
       subst (λ xs. Each (Avoids r) xs) (sym h.1) (avoids_poll r t w h.0 h.2.0 (λ e. unused (inl (ap Some e))), tt)
-  acts_avoid w None [] steps over left r h unused p = absurd h
-  acts_avoid w None (Await t ask ∷ acts) steps over left r h unused p =
+  acts_avoid w None [] steps back left r h unused p = absurd h
+  acts_avoid w None (Await t ask ∷ acts) steps back left r h unused p =
       let s = h.0.0 in
       let ne : t ≡ r → ⊥ = λ e. unused (inr (awaits_first r t ask acts e)) in
       let first = avoids_start r t s (ap X.meaning.starts h.0.1 ∙ started t ask) ne in
@@ -84,39 +84,39 @@ module _ {S Ask Command Reply : Type 0} (X : Semantics S Command Reply TaskId) (
         | inl q ↦ subst (λ xs. Each (Avoids r) xs) (sym q.1) (first, tt)
         | inr q ↦ subst (λ xs. Each (Avoids r) xs) (sym q.1.1) (first, (avoids_poll r t w q.1.0 q.1.2.0 ne, tt))
       ]
-  acts_avoid w None (Call c ∷ acts) steps over left r h unused p =
+  acts_avoid w None (Call c ∷ acts) steps back left r h unused p =
       subst (λ xs. Each (Avoids r) xs) (sym h.1) (avoids_call r h.0 c h.2 p.0 p.1, tt)
 
-  pub acts_plain : (w : TaskId) (request : Option ℕ) (acts : List (Act Ask Command)) (steps : List (Step X.meaning.Object Command Reply)) (over : Bool) (left : Todo Ask Command) → Acts X.meaning starting w request acts steps over left → ArePlain X.meaning acts → ArePlain X.meaning left.acts
-  acts_plain w (Some t) acts steps over left h p = subst (λ xs. ArePlain X.meaning xs) (sym h.3) p
-  acts_plain w None [] steps over left h p = absurd h
-  acts_plain w None (Await t ask ∷ acts) steps over left h p = subst (λ xs. ArePlain X.meaning xs) (sym h.1) p
-  acts_plain w None (Call c ∷ acts) steps over left h p = subst (λ xs. ArePlain X.meaning xs) (sym h.5) p.2
+  pub acts_plain : (w : TaskId) (request : Option ℕ) (acts : List (Act Ask Command)) (steps : List (Step X.meaning.Object Command Reply)) (back : Bool) (left : Todo Ask Command) → Acts X.meaning starting w request acts steps back left → ArePlain X.meaning acts → ArePlain X.meaning left.acts
+  acts_plain w (Some t) acts steps back left h p = subst (λ xs. ArePlain X.meaning xs) (sym h.3) p
+  acts_plain w None [] steps back left h p = absurd h
+  acts_plain w None (Await t ask ∷ acts) steps back left h p = subst (λ xs. ArePlain X.meaning xs) (sym h.1) p
+  acts_plain w None (Call c ∷ acts) steps back left h p = subst (λ xs. ArePlain X.meaning xs) (sym h.5) p.2
 
   -- what a task uses after an act it used before
-  pub acts_use : (w : TaskId) (request : Option ℕ) (acts : List (Act Ask Command)) (steps : List (Step X.meaning.Object Command Reply)) (over : Bool) (left : Todo Ask Command) (r : ℕ) → Acts X.meaning starting w request acts steps over left → Uses r left → Uses r (record { request = request; acts = acts })
-  acts_use w (Some t) acts steps over left r h (inl e) = inl (ap Some (poll_uses w t h.0 over left.request r h.2 e))
-  acts_use w (Some t) acts steps over left r h (inr e) = inr (subst (λ xs. list_any (awaits_at r) xs ≡ true) h.3 e)
-  acts_use w None [] steps over left r h u = absurd h
-  acts_use w None (Await t ask ∷ acts) steps over left r h (inl e) = elim h.0.2 [
+  pub acts_use : (w : TaskId) (request : Option ℕ) (acts : List (Act Ask Command)) (steps : List (Step X.meaning.Object Command Reply)) (back : Bool) (left : Todo Ask Command) (r : ℕ) → Acts X.meaning starting w request acts steps back left → Uses r left → Uses r (record { request = request; acts = acts })
+  acts_use w (Some t) acts steps back left r h (inl e) = inl (ap Some (poll_uses w t h.0 back left.request r h.2 e))
+  acts_use w (Some t) acts steps back left r h (inr e) = inr (subst (λ xs. list_any (awaits_at r) xs ≡ true) h.3 e)
+  acts_use w None [] steps back left r h u = absurd h
+  acts_use w None (Await t ask ∷ acts) steps back left r h (inl e) = elim h.0.2 [
     | inl q ↦ (let n = q.3 in absurd cc)
-    | inr q ↦ inr (awaits_first r t ask acts (poll_uses w t q.1.0 over left.request r q.1.2 e))
+    | inr q ↦ inr (awaits_first r t ask acts (poll_uses w t q.1.0 back left.request r q.1.2 e))
   ]
-  acts_use w None (Await t ask ∷ acts) steps over left r h (inr e) = inr (awaits_later r (Await t ask) acts (subst (λ xs. list_any (awaits_at r) xs ≡ true) h.1 e))
-  acts_use w None (Call c ∷ acts) steps over left r h (inl e) = (let n = h.4 in absurd cc)
-  acts_use w None (Call c ∷ acts) steps over left r h (inr e) = inr (awaits_later r (Call c) acts (subst (λ xs. list_any (awaits_at r) xs ≡ true) h.5 e))
+  acts_use w None (Await t ask ∷ acts) steps back left r h (inr e) = inr (awaits_later r (Await t ask) acts (subst (λ xs. list_any (awaits_at r) xs ≡ true) h.1 e))
+  acts_use w None (Call c ∷ acts) steps back left r h (inl e) = (let n = h.4 in absurd cc)
+  acts_use w None (Call c ∷ acts) steps back left r h (inr e) = inr (awaits_later r (Call c) acts (subst (λ xs. list_any (awaits_at r) xs ≡ true) h.5 e))
 
-  poll_waits : (old mid : S) (w : TaskId) (t : ℕ) (s : Step X.meaning.Object Command Reply) (over : Bool) (request : Option ℕ) → Turn X old s.command s.reply mid → IsPoll X.meaning w t s over request → over ≡ false → (request ≡ Some t) × (HandsOut X.meaning s.reply w ⊎ X.Owes mid t w)
-  poll_waits old mid w t s over request turn h e = elim h.1 [
-    | inl q ↦ (q.2, turn.registered t w h.0 q.0)
+  poll_waits : (old mid : S) (w : TaskId) (t : ℕ) (s : Step X.meaning.Object Command Reply) (back : Bool) (request : Option ℕ) → Turn X old s.command s.reply mid → IsPoll X.meaning w t s back request → back ≡ false → (request ≡ Some t) × (HandsOut X.meaning s.reply w ⊎ X.Owes mid t w)
+  poll_waits old mid w t s back request turn h e = elim h.2 [
+    | inl q ↦ (elim h.1 [ inl stands ↦ stands.0 | inr left ↦ absurd (left.1 q.0) ], turn.registered t w h.0 q.0)
     | inr q ↦ (let n = q.1 in absurd cc)
   ]
 
   -- a task whose act isn't over waits for a waker that was registered or handed out
-  pub act_waits : (w : TaskId) (request : Option ℕ) (acts : List (Act Ask Command)) (steps : List (Step X.meaning.Object Command Reply)) (over : Bool) (left : Todo Ask Command) (old new : S) → Acts X.meaning starting w request acts steps over left → over ≡ false → Through X old steps new → (r : ℕ) × (left.request ≡ Some r) × (AtSome (λ s. HandsOut X.meaning s.reply w) steps ⊎ X.Owes new r w)
-  act_waits w (Some t) acts steps over left old new h e run =
+  pub act_waits : (w : TaskId) (request : Option ℕ) (acts : List (Act Ask Command)) (steps : List (Step X.meaning.Object Command Reply)) (back : Bool) (left : Todo Ask Command) (old new : S) → Acts X.meaning starting w request acts steps back left → back ≡ false → Through X old steps new → (r : ℕ) × (left.request ≡ Some r) × (AtSome (λ s. HandsOut X.meaning s.reply w) steps ⊎ X.Owes new r w)
+  act_waits w (Some t) acts steps back left old new h e run =
       let run1 = subst (λ xs. Through X old xs new) h.1 run in
-      let p = poll_waits old run1.0 w t h.0 over left.request run1.2 h.2 e in (
+      let p = poll_waits old run1.0 w t h.0 back left.request run1.2 h.2 e in (
         t,
         p.0,
         elim p.1 [
@@ -124,12 +124,12 @@ module _ {S Ask Command Reply : Type 0} (X : Semantics S Command Reply TaskId) (
           | inr owes ↦ inr (subst (λ m. X.Owes m t w) (sym run1.3) owes)
         ],
       )
-  act_waits w None [] steps over left old new h e run = absurd h
-  act_waits w None (Await t ask ∷ acts) steps over left old new h e run = elim h.0.2 [
+  act_waits w None [] steps back left old new h e run = absurd h
+  act_waits w None (Await t ask ∷ acts) steps back left old new h e run = elim h.0.2 [
     | inl q ↦ (let n = q.2 in absurd cc)
     | inr q ↦ (
         let run1 = subst (λ xs. Through X old xs new) q.1.1 run in
-        let p = poll_waits run1.0 run1.3.0 w t q.1.0 over left.request run1.3.2 q.1.2 e in (
+        let p = poll_waits run1.0 run1.3.0 w t q.1.0 back left.request run1.3.2 q.1.2 e in (
           t,
           p.0,
           elim p.1 [
@@ -138,7 +138,7 @@ module _ {S Ask Command Reply : Type 0} (X : Semantics S Command Reply TaskId) (
           ],
         ))
   ]
-  act_waits w None (Call c ∷ acts) steps over left old new h e run = (let n = h.3 in absurd cc)
+  act_waits w None (Call c ∷ acts) steps back left old new h e run = (let n = h.3 in absurd cc)
 
   module _ (tasks : List (Todo Ask Command)) where
     queued_put_last : (queue : List ℕ) (j k : ℕ) → is_in j queue ≡ true → is_in j (put_last queue k) ≡ true
@@ -162,12 +162,12 @@ module _ {S Ask Command Reply : Type 0} (X : Semantics S Command Reply TaskId) (
     queued_woken queue (w ∷ ws) j e = queued_woken (put_back tasks queue w.0) ws j (queued_put queue j w.0 e)
 
     -- a task that is queued stays so for the rest of the turn
-    pub queued_requeued : (queue : List ℕ) (ws : List TaskId) (over : Bool) (k j : ℕ) → is_in j (woken tasks queue ws) ≡ true → is_in j (requeued tasks queue ws over k) ≡ true
+    pub queued_requeued : (queue : List ℕ) (ws : List TaskId) (back : Bool) (k j : ℕ) → is_in j (woken tasks queue ws) ≡ true → is_in j (requeued tasks queue ws back k) ≡ true
     queued_requeued queue ws true k j e = queued_put (woken tasks queue ws) j k e
     queued_requeued queue ws false k j e = e
 
-    pub queued_behind_requeued : (queue : List ℕ) (ws : List TaskId) (over : Bool) (k j : ℕ) → is_in j queue ≡ true → is_in j (requeued tasks queue ws over k) ≡ true
-    queued_behind_requeued queue ws over k j e = queued_requeued queue ws over k j (queued_woken queue ws j e)
+    pub queued_behind_requeued : (queue : List ℕ) (ws : List TaskId) (back : Bool) (k j : ℕ) → is_in j queue ≡ true → is_in j (requeued tasks queue ws back k) ≡ true
+    queued_behind_requeued queue ws back k j e = queued_requeued queue ws back k j (queued_woken queue ws j e)
 
     last_queued : (queue : List ℕ) (k : ℕ) → is_in k (put_last queue k) ≡ true
     last_queued queue k = elim (true_or_false (is_in k queue)) [ inl h ↦ rw h h | inr h ↦ rw h (has_number-back (λ n. n) queue k) ]
@@ -176,7 +176,7 @@ module _ {S Ask Command Reply : Type 0} (X : Semantics S Command Reply TaskId) (
     put_queued queue k task e h = rw (e, h) (last_queued queue k)
 
     -- the task whose act is over is queued, unless it has ended
-    pub over_queued : (queue : List ℕ) (ws : List TaskId) (over : Bool) (k : ℕ) (task : Todo Ask Command) → over ≡ true → slice_get tasks k ≡ Some task → has_ended task ≡ false → is_in k (requeued tasks queue ws over k) ≡ true
+    pub over_queued : (queue : List ℕ) (ws : List TaskId) (back : Bool) (k : ℕ) (task : Todo Ask Command) → back ≡ true → slice_get tasks k ≡ Some task → has_ended task ≡ false → is_in k (requeued tasks queue ws back k) ≡ true
     over_queued queue ws true k task o e h = put_queued (woken tasks queue ws) k task e h
     over_queued queue ws false k task o e h = absurd cc
 
@@ -209,7 +209,7 @@ module _ {S Ask Command Reply : Type 0} (X : Semantics S Command Reply TaskId) (
   -- what a task uses after the turn it used before
   used_before : (old new : Executing S Ask Command) (t : IsTurn X starting old new) (k : ℕ) (a : Todo Ask Command) (r : ℕ) → slice_get new.tasks k ≡ Some a → Uses r a → (b : Todo Ask Command) × (slice_get old.tasks k ≡ Some b) × Uses r b
   used_before old new t k a r h u = elim (task_after old.tasks new.tasks t.number t.task t.left k a t.there t.tasks h) [
-    | inl s ↦ (t.task, subst (λ x. slice_get old.tasks x ≡ Some t.task) (sym s.0) t.there, acts_use (record { 0 = t.number }) t.task.request t.task.acts t.steps t.over t.left r t.act (subst (λ x. Uses r x) s.1 u))
+    | inl s ↦ (t.task, subst (λ x. slice_get old.tasks x ≡ Some t.task) (sym s.0) t.there, acts_use (record { 0 = t.number }) t.task.request t.task.acts t.steps t.back t.left r t.act (subst (λ x. Uses r x) s.1 u))
     | inr s ↦ (a, s.1, u)
   ]
 
@@ -221,7 +221,7 @@ module _ {S Ask Command Reply : Type 0} (X : Semantics S Command Reply TaskId) (
 
   pub plain_after : (old new : Executing S Ask Command) (t : IsTurn X starting old new) → AreStanding X old.machine old.tasks old.queue → (k : ℕ) (a : Todo Ask Command) → slice_get new.tasks k ≡ Some a → ArePlain X.meaning a.acts
   plain_after old new t o k a h = elim (task_after old.tasks new.tasks t.number t.task t.left k a t.there t.tasks h) [
-    | inl s ↦ subst (λ x. ArePlain X.meaning x.acts) (sym s.1) (acts_plain (record { 0 = t.number }) t.task.request t.task.acts t.steps t.over t.left t.act (o.plain t.number t.task t.there))
+    | inl s ↦ subst (λ x. ArePlain X.meaning x.acts) (sym s.1) (acts_plain (record { 0 = t.number }) t.task.request t.task.acts t.steps t.back t.left t.act (o.plain t.number t.task t.there))
     | inr s ↦ o.plain k a s.1
   ]
 
@@ -231,15 +231,15 @@ module _ {S Ask Command Reply : Type 0} (X : Semantics S Command Reply TaskId) (
       let w : TaskId = record { 0 = t.number } in
       let ws = wakes_in X.meaning (map (λ s. s.reply) t.steps) in
       let there : slice_get new.tasks t.number ≡ Some t.left = subst (λ xs. slice_get xs t.number ≡ Some t.left) (sym t.tasks) (get_set_here old.tasks t.number t.task t.left t.there) in
-      let idle : is_in t.number (requeued new.tasks t.behind ws t.over t.number) ≡ false = subst (λ ns. is_in t.number ns ≡ false) t.queue q in
-      elim (true_or_false t.over) [
-        | inl over ↦ (let in_queue = over_queued new.tasks t.behind ws t.over t.number t.left over there h in absurd cc)
+      let idle : is_in t.number (requeued new.tasks t.behind ws t.back t.number) ≡ false = subst (λ ns. is_in t.number ns ≡ false) t.queue q in
+      elim (true_or_false t.back) [
+        | inl back ↦ (let in_queue = over_queued new.tasks t.behind ws t.back t.number t.left back there h in absurd cc)
         | inr waits ↦ (
-            let p = act_waits w t.task.request t.task.acts t.steps t.over t.left old.machine new.machine t.act waits t.run in (
+            let p = act_waits w t.task.request t.task.acts t.steps t.back t.left old.machine new.machine t.act waits t.run in (
               p.0,
               p.1,
               elim p.2 [
-                | inl out ↦ (let in_queue = queued_requeued new.tasks t.behind ws t.over t.number t.number (handed_queued new.tasks t.behind t.steps t.number t.left there h out) in absurd cc)
+                | inl out ↦ (let in_queue = queued_requeued new.tasks t.behind ws t.back t.number t.number (handed_queued new.tasks t.behind t.steps t.number t.left there h out) in absurd cc)
                 | inr owes ↦ inr owes
               ],
             ))
@@ -249,18 +249,18 @@ module _ {S Ask Command Reply : Type 0} (X : Semantics S Command Reply TaskId) (
   other_after : (old new : Executing S Ask Command) (t : IsTurn X starting old new) → AreStanding X old.machine old.tasks old.queue → (k : ℕ) (a : Todo Ask Command) → (k ≡ t.number → ⊥) → slice_get old.tasks k ≡ Some a → slice_get new.tasks k ≡ Some a → has_ended a ≡ false → is_in k new.queue ≡ false → (r : ℕ) × (a.request ≡ Some r) × IsStanding X new.machine r (record { 0 = k })
   other_after old new t o k a ne was is h q =
       let ws = wakes_in X.meaning (map (λ s. s.reply) t.steps) in
-      let idle : is_in k (requeued new.tasks t.behind ws t.over t.number) ≡ false = subst (λ ns. is_in k ns ≡ false) t.queue q in
+      let idle : is_in k (requeued new.tasks t.behind ws t.back t.number) ≡ false = subst (λ ns. is_in k ns ≡ false) t.queue q in
       let before : is_in k old.queue ≡ false = rw t.front (has_number-behind (λ n. n) k t.number t.behind ne ∙ elim (true_or_false (is_in k t.behind)) [
-        | inl b ↦ (let in_queue = queued_behind_requeued new.tasks t.behind ws t.over t.number k b in absurd cc)
+        | inl b ↦ (let in_queue = queued_behind_requeued new.tasks t.behind ws t.back t.number k b in absurd cc)
         | inr b ↦ b
       ]) in
       let p = o.idle k a was h before in
       let unused : Uses p.0 t.task → ⊥ = λ u. ne (o.apart k t.number a t.task p.0 was t.there (inl p.1) u) in
-      let avoid = acts_avoid (record { 0 = t.number }) t.task.request t.task.acts t.steps t.over t.left p.0 t.act unused (o.plain t.number t.task t.there) in (
+      let avoid = acts_avoid (record { 0 = t.number }) t.task.request t.task.acts t.steps t.back t.left p.0 t.act unused (o.plain t.number t.task t.there) in (
         p.0,
         p.1,
         elim (stands_through old.machine new.machine t.steps p.0 (record { 0 = k }) t.run avoid p.2) [
-          | inl out ↦ (let in_queue = queued_requeued new.tasks t.behind ws t.over t.number k (handed_queued new.tasks t.behind t.steps k a is h out) in absurd cc)
+          | inl out ↦ (let in_queue = queued_requeued new.tasks t.behind ws t.back t.number k (handed_queued new.tasks t.behind t.steps k a is h out) in absurd cc)
           | inr stands ↦ stands
         ],
       )

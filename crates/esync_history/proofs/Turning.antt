@@ -10,16 +10,12 @@ use Rattle.esync_history.specs.declared.executor.Act.TheVariants.{Await, Call}
 use Rattle.esync_history.specs.declared.executor.Outcome.{Outcome}
 use Rattle.esync_history.specs.declared.executor.Outcome.TheVariants.{Limit}
 use Rattle.esync_history.specs.Todo.{Todo, Executing, put_back, woken}
-use Rattle.esync_history.specs.Turns.{IsPoll, Acts, Turns, Ran}
+use Rattle.esync_history.specs.Turns.{StandsAt, IsPoll, Acts, Turns, Ran}
 
 module _ {Command Reply : Type 0} (M : Meaning Command Reply TaskId) where
-  pub poll_waits : (w : TaskId) (r : ℕ) (s : Step M.Object Command Reply) (pending : Bool) (request : Option ℕ) → M.polls s.command ≡ Some (r, w) → (IsTrue pending ↔ M.IsPending s.reply) → pending ≡ true → request ≡ Some r → IsPoll M w r s (not pending) request
-  poll_waits w r s true request polls e h q = (polls, inl (e.0 refl, refl, q))
-  poll_waits w r s false request polls e h q = absurd cc
-
-  pub poll_hears : (w : TaskId) (r : ℕ) (s : Step M.Object Command Reply) (pending : Bool) (request : Option ℕ) → M.polls s.command ≡ Some (r, w) → (IsTrue pending ↔ M.IsPending s.reply) → pending ≡ false → request ≡ None → IsPoll M w r s (not pending) request
-  poll_hears w r s true request polls e h q = absurd cc
-  poll_hears w r s false request polls e h q = (polls, inr ((λ p. let t = e.1 p in absurd cc), refl, q))
+  pub poll_told : (w : TaskId) (r : ℕ) (s : Step M.Object Command Reply) (pending : Bool) (request : Option ℕ) → M.polls s.command ≡ Some (r, w) → (IsTrue pending ↔ M.IsPending s.reply) → StandsAt M r s.reply request → IsPoll M w r s (not pending) request
+  poll_told w r s true request polls e stands = (polls, stands, inl (e.0 refl, refl))
+  poll_told w r s false request polls e stands = (polls, stands, inr ((λ p. let t = e.1 p in absurd cc), refl))
 
   -- the act of a task that stands at a call
   pub called : {Ask : Type 0} (starting : ℕ → Ask → Command) (w : TaskId) (request : Option ℕ) (acts behind : List (Act Ask Command)) (act : Act Ask Command) (c : Command) (s : Step M.Object Command Reply) (left : Todo Ask Command) → request ≡ None → acts ≡ act ∷ behind → act ≡ Call c → s.command ≡ c → left.request ≡ None → left.acts ≡ behind → Acts M starting w request acts (s ∷ []) true left
@@ -31,14 +27,14 @@ module _ {Command Reply : Type 0} (M : Meaning Command Reply TaskId) where
       (s, refl, cc, refl, q, cc)
 
   -- an act takes one or two steps
-  act_steps : {Ask : Type 0} (starting : ℕ → Ask → Command) (w : TaskId) (request : Option ℕ) (acts : List (Act Ask Command)) (steps : List (Step M.Object Command Reply)) (over : Bool) (left : Todo Ask Command) → Acts M starting w request acts steps over left → (1 ≤ length steps) × (length steps ≤ 2)
-  act_steps starting w (Some r) acts steps over left h = (omega (arith, ap length h.1), omega (arith, ap length h.1))
-  act_steps starting w None [] steps over left h = absurd h
-  act_steps starting w None (Await r ask ∷ acts) steps over left h = elim h.0.2 [
+  act_steps : {Ask : Type 0} (starting : ℕ → Ask → Command) (w : TaskId) (request : Option ℕ) (acts : List (Act Ask Command)) (steps : List (Step M.Object Command Reply)) (back : Bool) (left : Todo Ask Command) → Acts M starting w request acts steps back left → (1 ≤ length steps) × (length steps ≤ 2)
+  act_steps starting w (Some r) acts steps back left h = (omega (arith, ap length h.1), omega (arith, ap length h.1))
+  act_steps starting w None [] steps back left h = absurd h
+  act_steps starting w None (Await r ask ∷ acts) steps back left h = elim h.0.2 [
     | inl q ↦ (omega (arith, ap length q.1), omega (arith, ap length q.1))
     | inr q ↦ (omega (arith, ap length q.1.1), omega (arith, ap length q.1.1))
   ]
-  act_steps starting w None (Call c ∷ acts) steps over left h = (omega (arith, ap length h.1), omega (arith, ap length h.1))
+  act_steps starting w None (Call c ∷ acts) steps back left h = (omega (arith, ap length h.1), omega (arith, ap length h.1))
 
 module _ {S Ask Command Reply : Type 0} (X : Semantics S Command Reply TaskId) (starting : ℕ → Ask → Command) where
   -- the steps of the turns are those of the machine
@@ -54,7 +50,7 @@ module _ {S Ask Command Reply : Type 0} (X : Semantics S Command Reply TaskId) (
   turns_count (suc t) old new steps h =
       let turn = h.3.0 in
       let so_far = turns_count t old h.0 h.1 h.2 in
-      let few = act_steps X.meaning starting (record { 0 = turn.number }) turn.task.request turn.task.acts turn.steps turn.over turn.left turn.act in
+      let few = act_steps X.meaning starting (record { 0 = turn.number }) turn.task.request turn.task.acts turn.steps turn.back turn.left turn.act in
       let all = ap length h.3.1 ∙ length-append h.1 turn.steps in
       (omega (arith, so_far.0, few.0, all), omega (arith, so_far.1, few.1, all))
 

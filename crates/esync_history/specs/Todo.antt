@@ -53,7 +53,7 @@ woken tasks queue [] = queue
 woken tasks queue (w ∷ ws) = woken tasks (put_back tasks queue w.0) ws
 
 -- the queue after a turn of the task with this number: first the tasks that were woken, in order, and last the task itself,
--- if its act is over
+-- if it goes to the back
 abbrev pub requeued : {Ask Command : Type 0} → List (Todo Ask Command) → List ℕ → List TaskId → Bool → ℕ → List ℕ
 requeued tasks queue wakers true number = put_back tasks (woken tasks queue wakers) number
 requeued tasks queue wakers false number = woken tasks queue wakers

@@ -18,24 +18,29 @@ Tells Stalled e = (list_all has_ended e.tasks ≡ false) × (e.queue ≡ [])
 Tells Limit e = (list_all has_ended e.tasks ≡ false) × (e.queue ≡ [] → ⊥)
 
 module _ {Command Reply : Type 0} (M : Meaning Command Reply TaskId) where
-  -- A poll of the request: the act is over with any answer but Pending, and else the task still stands at it.
+  -- where a task stands after this answer to a poll of the request: still at it with Pending and with want of memory, else its act is over
+  abbrev pub StandsAt : ℕ → Reply → Option ℕ → Type 0
+  StandsAt r a request = ((request ≡ Some r) × (M.IsPending a ⊎ M.IsRefused a)) ⊎ ((request ≡ None) × (M.IsPending a → ⊥) × (M.IsRefused a → ⊥))
+
+  -- A poll of the request. The task goes to the back of the queue with any answer but Pending.
   abbrev pub IsPoll : TaskId → ℕ → Step M.Object Command Reply → Bool → Option ℕ → Type 0
-  IsPoll w r s over request =
+  IsPoll w r s back request =
       (M.polls s.command ≡ Some (r, w))
-      × ((M.IsPending s.reply × (over ≡ false) × (request ≡ Some r)) ⊎ ((M.IsPending s.reply → ⊥) × (over ≡ true) × (request ≡ None)))
+      × StandsAt r s.reply request
+      × ((M.IsPending s.reply × (back ≡ false)) ⊎ ((M.IsPending s.reply → ⊥) × (back ≡ true)))
 
   -- The start of a request by this command. Where it answers NoSuch the act is over, and else a poll follows.
   abbrev pub IsAwait : TaskId → ℕ → Command → List (Step M.Object Command Reply) → Bool → Option ℕ → Type 0
-  IsAwait w r start steps over request =
+  IsAwait w r start steps back request =
       (s : Step M.Object Command Reply) × (s.command ≡ start)
-      × ((M.IsNoSuch s.reply × (steps ≡ s ∷ []) × (over ≡ true) × (request ≡ None)) ⊎ ((M.IsNoSuch s.reply → ⊥) × ((p : Step M.Object Command Reply) × (steps ≡ s ∷ p ∷ []) × IsPoll w r p over request)))
+      × ((M.IsNoSuch s.reply × (steps ≡ s ∷ []) × (back ≡ true) × (request ≡ None)) ⊎ ((M.IsNoSuch s.reply → ⊥) × ((p : Step M.Object Command Reply) × (steps ≡ s ∷ p ∷ []) × IsPoll w r p back request)))
 
-  -- The current act of a task, by these steps: whether it is over after them, and what the task has still to do.
+  -- The current act of a task, by these steps: whether the task goes to the back of the queue after them, and what it has still to do.
   abbrev pub Acts : {Ask : Type 0} → (ℕ → Ask → Command) → TaskId → Option ℕ → List (Act Ask Command) → List (Step M.Object Command Reply) → Bool → Todo Ask Command → Type 0
-  Acts starting w (Some r) acts steps over left = (s : Step M.Object Command Reply) × (steps ≡ s ∷ []) × IsPoll w r s over left.request × (left.acts ≡ acts)
-  Acts starting w None [] steps over left = ⊥
-  Acts starting w None (Await r ask ∷ acts) steps over left = IsAwait w r (starting r ask) steps over left.request × (left.acts ≡ acts)
-  Acts starting w None (Call c ∷ acts) steps over left = (s : Step M.Object Command Reply) × (steps ≡ s ∷ []) × (s.command ≡ c) × (over ≡ true) × (left.request ≡ None) × (left.acts ≡ acts)
+  Acts starting w (Some r) acts steps back left = (s : Step M.Object Command Reply) × (steps ≡ s ∷ []) × IsPoll w r s back left.request × (left.acts ≡ acts)
+  Acts starting w None [] steps back left = ⊥
+  Acts starting w None (Await r ask ∷ acts) steps back left = IsAwait w r (starting r ask) steps back left.request × (left.acts ≡ acts)
+  Acts starting w None (Call c ∷ acts) steps back left = (s : Step M.Object Command Reply) × (steps ≡ s ∷ []) × (s.command ≡ c) × (back ≡ true) × (left.request ≡ None) × (left.acts ≡ acts)
 
   -- one or two steps gave these answers
   abbrev pub Gave : List (Step M.Object Command Reply) → Reply → Option Reply → Type 0
@@ -54,13 +59,13 @@ module _ {S Ask Command Reply : Type 0} (X : Semantics S Command Reply TaskId) (
     pub task : Todo Ask Command
     pub left : Todo Ask Command
     pub steps : List (Step X.meaning.Object Command Reply)
-    pub over : Bool
+    pub back : Bool
     pub front : old.queue ≡ number ∷ behind
     pub there : slice_get old.tasks number ≡ Some task
-    pub act : Acts X.meaning starting (record { 0 = number }) task.request task.acts steps over left
+    pub act : Acts X.meaning starting (record { 0 = number }) task.request task.acts steps back left
     pub run : Through X old.machine steps new.machine
     pub tasks : new.tasks ≡ slice_set old.tasks number left
-    pub queue : new.queue ≡ requeued new.tasks behind (wakes_in X.meaning (map (λ s. s.reply) steps)) over number
+    pub queue : new.queue ≡ requeued new.tasks behind (wakes_in X.meaning (map (λ s. s.reply) steps)) back number
 
   -- as many turns, one after another, and all their steps
   abbrev pub Turns : ℕ → Executing S Ask Command → List (Step X.meaning.Object Command Reply) → Executing S Ask Command → Type 0

@@ -16,7 +16,7 @@ use std::marker::Model;
 /// What a task does, an act after another.
 #[derive(Clone, Copy, Debug, PartialEq, Eq)]
 pub enum Act<A, C> {
-    /// Starts a request at the number, and polls it until it answers something other than Pending. It is over at once where
+    /// Starts a request at the number, and polls it until it answers something other than Pending and want of memory. It is over at once where
     /// the start names what isn't there.
     Await(usize, A),
     /// Makes a call. It is over with any answer.
@@ -59,8 +59,8 @@ impl From<AllocError> for NewError {
 ///
 /// A task is known by its place in the list that was handed in, and polls with the `TaskId` of that number. A turn takes the
 /// task at the front of the queue and does its current act. Then the tasks that the machine woke go to the back of the queue,
-/// in order, and last the task itself, if its act is over. No task is queued twice, none is that has ended, and a waker that
-/// names no task is passed over.
+/// in order, and last the task itself, if its act is over or its poll had no memory. No task is queued twice, none is that has
+/// ended, and a waker that names no task is passed over.
 #[derive(Drop)]
 pub struct Executor<M: Awaits<Waker = TaskId>> {
     machine: M,

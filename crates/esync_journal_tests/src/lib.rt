@@ -1,5 +1,7 @@
-//! A book over a channel: what each call answers, and what its journal has.
+//! Recorded machines: what each call answers, what their journals have, and what audits and settling say, with threads too.
 #![tactic(auto)]
 
 #[cfg(test)]
 mod books;
+#[cfg(test)]
+mod threads;

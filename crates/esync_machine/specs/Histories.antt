@@ -1,7 +1,7 @@
 -- The steps so far of a machine, which can be extended by a step: between them stand the machine's own states, so that what is
 -- owed isn't forgotten.
 use Rattle.std.specs.Prelude.{◌≡◌, ℕ, List, [], ◌∷◌, Some, ◌⊎◌}
-use Rattle.esync_machine.specs.Runs.{Semantics, Step, Polls, HandsOut, IsQuiet, Answers}
+use Rattle.esync_machine.specs.Runs.{Semantics, Step, Polls, HandsOut, LastPoll, IsWaiting, IsWoken, IsQuiet, Answers}
 use Rattle.esync_machine.specs.Wakings.{IsHanded}
 
 module _ {S C A W : Type 0} (X : Semantics S C A W) where
@@ -29,6 +29,10 @@ module _ {S C A W : Type 0} (X : Semantics S C A W) where
   abbrev pub Through : S → List (Step X.meaning.Object C A) → S → Type 0
   Through old [] new = new ≡ old
   Through old (s ∷ steps) new = (mid : S) × (s ≡ step_of old s.command s.reply mid) × Turn old s.command s.reply mid × Through mid steps new
+
+  -- to each request that waits after these steps and wasn't woken, its last waker is owed
+  abbrev pub AreOwed : List (Step X.meaning.Object C A) → S → Type 0
+  AreOwed steps new = (r : ℕ) (p : LastPoll X.meaning steps r) → IsWaiting X.meaning steps r p → IsWoken X.meaning steps r p ⊎ X.Owes new r p.waker
 
   -- The commands and the answers so far.
   pub record History (old : S) (commands : List C) (replies : List A) (new : S) : Type 0 where

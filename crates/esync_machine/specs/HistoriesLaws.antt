@@ -3,7 +3,7 @@ use Rattle.std.proofs.Common.{◌≡◌, ℕ, List, [], ◌∷◌, ◌++◌, map
 use Rattle.std.proofs.lemmas.List.{map-append}
 use Rattle.esync_machine.specs.Runs.{Semantics, Step, Each, AtSome, IsRun, IsDue, Polls, HandsOut, object_after, AreWoken, NoIdleSelfWake, registered_after, HandsOutExactly, GoodRunOf, OwedAreIdle}
 use Rattle.esync_machine.specs.RunsLaws.{ready_is_due}
-use Rattle.esync_machine.specs.Histories.{Turn, Through, History, step_of}
+use Rattle.esync_machine.specs.Histories.{Turn, Through, AreOwed, History, step_of}
 
 module _ {S C A W : Type 0} (X : Semantics S C A W) where
   -- the steps of one after those of another
@@ -45,6 +45,19 @@ module _ {S C A W : Type 0} (X : Semantics S C A W) where
         | inr x ↦ elim (stays_owed h.0 new later r w h.3 p.1 e.1 x) [ inl y ↦ inl (inr y) | inr y ↦ inr y ]
       ]
 
+  -- a request that waits is owed its waker, or was woken
+  owed_or_woken : (old new : S) (s : Step X.meaning.Object C A) (later : List (Step X.meaning.Object C A)) (r : ℕ) (w : W) → Through X old (s ∷ later) new → X.meaning.polls s.command ≡ Some (r, w) → X.meaning.IsPending s.reply → Each (λ t. Polls X.meaning t.command r → ⊥) later → Each (λ t. X.meaning.Ends t.before t.command r → ⊥) later → AtSome (λ t. HandsOut X.meaning t.reply w) (s ∷ later) ⊎ X.Owes new r w
+  owed_or_woken old new s later r w h polls pending p e =
+      elim (h.2.registered r w polls pending) [
+        | inl x ↦ inl (inl x)
+        | inr x ↦ elim (stays_owed h.0 new later r w h.3 p e x) [ inl y ↦ inl (inr y) | inr y ↦ inr y ]
+      ]
+
+  pub are_owed : (old new : S) (steps : List (Step X.meaning.Object C A)) → Through X old steps new → AreOwed X steps new
+  are_owed old new steps h r p waits =
+      let q = split old new p.earlier (p.poll ∷ p.later) (subst (λ xs. Through X old xs new) p.parts h) in
+      owed_or_woken q.0 new p.poll p.later r p.waker q.2 p.polls waits.0 p.last waits.1
+
   object_at_end : (old new : S) (s : Step X.meaning.Object C A) (later : List (Step X.meaning.Object C A)) → Through X old (s ∷ later) new → object_after X.meaning s later ≡ X.object new
   object_at_end old new s [] h = ap (λ x. x.after) h.1 ∙ ap X.object (sym h.3)
   object_at_end old new s (t ∷ later) h = object_at_end h.0 new t later h.3
@@ -52,12 +65,9 @@ module _ {S C A W : Type 0} (X : Semantics S C A W) where
   module _ (law : OwedAreIdle X) where
     woken : (old new : S) (s : Step X.meaning.Object C A) (later : List (Step X.meaning.Object C A)) (r : ℕ) (w : W) → Through X old (s ∷ later) new → X.meaning.polls s.command ≡ Some (r, w) → X.meaning.IsPending s.reply → Each (λ t. Polls X.meaning t.command r → ⊥) later → Each (λ t. X.meaning.Ends t.before t.command r → ⊥) later → IsDue X.meaning (object_after X.meaning s later) r → AtSome (λ t. HandsOut X.meaning t.reply w) (s ∷ later)
     woken old new s later r w h polls pending p e due =
-        elim (h.2.registered r w polls pending) [
-          | inl x ↦ inl x
-          | inr x ↦ elim (stays_owed h.0 new later r w h.3 p e x) [
-            | inl y ↦ inr y
-            | inr y ↦ (let i = law new r w y s.command w polls in absurd (subst (λ o. IsDue X.meaning o r) (object_at_end old new s later h) due s.command w i.0 polls i.1 i.2))
-          ]
+        elim (owed_or_woken old new s later r w h polls pending p e) [
+          | inl x ↦ x
+          | inr y ↦ (let i = law new r w y s.command w polls in absurd (subst (λ o. IsDue X.meaning o r) (object_at_end old new s later h) due s.command w i.0 polls i.1 i.2))
         ]
 
     due_are_woken : (old new : S) (steps : List (Step X.meaning.Object C A)) → Through X old steps new → AreWoken X.meaning (IsDue X.meaning) steps

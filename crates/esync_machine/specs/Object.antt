@@ -4,7 +4,7 @@ use Rattle.esync_machine.specs.Runs.{Meaning}
 use Rattle.esync_machine.specs.Numbers.{at_number, swept}
 use Rattle.esync_machine.specs.declared.run.Reply.{Reply}
 use Rattle.esync_machine.specs.declared.primitive.Answer.{Answer}
-use Rattle.esync_machine.specs.declared.primitive.Answer.TheVariants.{Done, Pending, NoSuch}
+use Rattle.esync_machine.specs.declared.primitive.Answer.TheVariants.{Done, Pending, NoSuch, NoMemory}
 use Rattle.esync_machine.specs.declared.primitive.Reach.{Reach}
 use Rattle.esync_machine.specs.declared.primitive.Reach.TheVariants.{Nobody, Number, Leavers}
 use Rattle.esync_machine.specs.declared.primitive.Command.{Command}
@@ -108,5 +108,6 @@ module _ {Ask Held C A : Type 0} (R : Rules Ask Held C A) where
     ends = end_of;
     IsLive = IsLive;
     IsNoSuch = λ a. a.answer ≡ NoSuch;
+    IsRefused = λ a. a.answer ≡ NoMemory;
     WakesItself = R.WakesItself;
   }

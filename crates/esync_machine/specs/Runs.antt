@@ -28,6 +28,8 @@ pub record Meaning (Command Reply Waker : Type 0) : Type 1 where
   pub IsLive : Object → ℕ → Type 0
   -- the command names what isn't there
   pub IsNoSuch : Reply → Type 0
+  -- there was no memory for a clone, and the command changed nothing
+  pub IsRefused : Reply → Type 0
   -- a Pending poll hands out its own waker, though it leaves the object as it was
   pub WakesItself : Type 0
 

@@ -10,6 +10,7 @@ use std::alloc::{AllocError, Global};
 
 /// An answer, and the wakers that were handed out with it.
 #[derive_where(Clone, Copy; A: Copy, W: Copy)]
+#[derive_where(PartialEq, Eq; A, W)]
 #[derive(Drop)]
 pub struct Reply<A, W, const K: usize> {
     pub answer: A,
@@ -80,6 +81,10 @@ pub trait Awaits: Machine {
     /// The reply says that the command names what isn't there.
     fn is_no_such(reply: &Self::Reply) -> bool
         ensures { IsTrue result ↔ Self.semantics.meaning.IsNoSuch reply.now };
+
+    /// The reply says that there was no memory.
+    fn is_refused(reply: &Self::Reply) -> bool
+        ensures { IsTrue result ↔ Self.semantics.meaning.IsRefused reply.now };
 
     /// The wakers that the reply hands out, in order, in a row that may have empty places behind them.
     fn wakes(reply: &Self::Reply) -> &[Option<Self::Waker>]

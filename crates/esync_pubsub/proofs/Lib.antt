@@ -1,2 +1,10 @@
 pub mod Counted
 pub mod Logged
+pub mod Lagging
+pub mod Shared
+pub mod Kept
+pub mod Turns
+pub mod Named
+pub mod Calls
+pub mod Reading
+pub mod Machine

@@ -114,7 +114,7 @@ first_wanted : (cs : List ℕ) (n s : ℕ) → length cs ≡ n → (0 < n → 0 
 first_wanted [] n s e h l = l
 first_wanted (c ∷ cs) n s e h l = (let a : suc (length cs) ≡ n = e in let b : 0 < n = omega (arith, a) in h b)
 
-some_number : (q : Option ℕ) → is_some q ≡ true → q ≡ Some (number_of q)
+pub some_number : (q : Option ℕ) → is_some q ≡ true → q ≡ Some (number_of q)
 some_number None e = absurd cc
 some_number (Some p) e = refl
 
@@ -186,15 +186,15 @@ module _ {T : Type 0} (cap subs : ℕ) where
     pub log_position : (i : ℕ) → is_some (slice_index_or ps i None) ≡ true → slice_index_or ps i None ≡ Some (number_of (slice_index_or ps i None))
     log_position i e = some_number (slice_index_or ps i None) e
 
-    -- a subscriber that lagged is at the oldest message
-    pub log_lag : (i p : ℕ) → slice_index_or ps i None ≡ Some p → p ≤ next - length ms → IsLog cap subs ms cs next (slice_set ps i (Some (next - length ms))) s
-    log_lag i p e b = (let l : i < length ps = place_below ps i (ap is_some e) in let f : next - length ms ≤ next = omega arith in record {
+    -- a subscriber that reads all that is held, at another position where it does
+    pub log_lag : (i p q : ℕ) → slice_index_or ps i None ≡ Some p → p ≤ next - length ms → q ≤ next - length ms → IsLog cap subs ms cs next (slice_set ps i (Some q)) s
+    log_lag i p q e b c = (let l : i < length ps = place_below ps i (ap is_some e) in let f : q ≤ next = omega (arith, c) in record {
       room = L.room;
-      places = length-set ps i (Some (next - length ms)) ∙ L.places;
+      places = length-set ps i (Some q) ∙ L.places;
       numbered = L.numbered;
-      counted = counted_same ms cs (next - length ms) ps (slice_set ps i (Some (next - length ms))) (λ n h h2. (let a : reads n (slice_index_or ps i None) ≡ 1 = ap (reads n) e ∙ reads-below n p (omega (arith, b, h)) in omega (arith, readers_set n ps i (Some (next - length ms)) l, a, reads-below n (next - length ms) h))) L.counted;
-      within = within_set next ps i (Some (next - length ms)) (some_is (next - length ms) next f) L.within;
-      live = (let a : live_at (slice_index_or ps i None) ≡ 1 = ap live_at e in let b : count_by is_some (slice_set ps i (Some (next - length ms))) + live_at (slice_index_or ps i None) ≡ count_by is_some ps + 1 = live_set ps i (Some (next - length ms)) l in omega (arith, L.live, a, b));
+      counted = counted_same ms cs (next - length ms) ps (slice_set ps i (Some q)) (λ n h h2. (let a : reads n (slice_index_or ps i None) ≡ 1 = ap (reads n) e ∙ reads-below n p (omega (arith, b, h)) in omega (arith, readers_set n ps i (Some q) l, a, reads-below n q (omega (arith, c, h))))) L.counted;
+      within = within_set next ps i (Some q) (some_is q next f) L.within;
+      live = (let a : live_at (slice_index_or ps i None) ≡ 1 = ap live_at e in let b : count_by is_some (slice_set ps i (Some q)) + live_at (slice_index_or ps i None) ≡ count_by is_some ps + 1 = live_set ps i (Some q) l in omega (arith, L.live, a, b));
       wanted = L.wanted;
     })
 

@@ -1,3 +1,6 @@
 pub mod Log
 pub mod Counts
 pub mod PubSub
+pub mod Events
+pub mod PubSubRules
+pub mod PubSubLaws

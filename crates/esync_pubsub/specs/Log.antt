@@ -2,6 +2,8 @@
 use Rattle.std.specs.Prelude.{◌≡◌, ℕ, suc, ◌+◌, ◌-◌, ◌<◌, ◌≤◌, Bool, true, false, List, [], ◌∷◌, ◌++◌, length, drop, Option, Some, None, Result, Ok, Err, if◌then◌else◌, is_some, nat_lt, slice_get, slice_set, slice_index_or, refl}
 use Rattle.std.specs.List.{list_all, list_any}
 use Rattle.std.specs.Coded.{Coded, code_by, coded×, coded_ℕ, coded_list, coded_option}
+use Rattle.esync_base.specs.declared.waitqueue.Poll.{Poll}
+use Rattle.esync_base.specs.declared.waitqueue.Poll.TheVariants.{Pending, Ready}
 use Rattle.esync_pubsub.specs.declared.pubsub.TryPublishError.{TryPublishError}
 use Rattle.esync_pubsub.specs.declared.pubsub.TryPublishError.TheVariants.{Full, Exhausted}
 use Rattle.esync_pubsub.specs.declared.pubsub.Exhausted.{Exhausted as NoNumber}
@@ -143,6 +145,38 @@ module _ {T : Type 0} where
   Reads IsClone place log None log2 = (position place log ≡ log.next) × (log2 ≡ log)
   Reads IsClone place log (Some (Lagged k)) log2 = (position place log < oldest log) × (k ≡ oldest log - position place log) × (log2 ≡ moved place (oldest log) log)
   Reads IsClone place log (Some (Message given)) log2 = Takes IsClone place (position place log) log given log2
+
+  -- the position of the subscriber at the place is behind the oldest held number
+  abbrev pub lags : ℕ → Log T → Bool
+  lags place log = nat_lt (position place log) (oldest log)
+
+  -- the log in which a subscriber that lags goes on from the oldest message
+  abbrev pub caught_if : Bool → ℕ → Log T → Log T
+  caught_if true place log = moved place (oldest log) log
+  caught_if false place log = log
+
+  abbrev pub caught : ℕ → Log T → Log T
+  caught place log = caught_if (lags place log) place log
+
+  -- a message, or nothing, as what is read without a lag
+  abbrev pub found : Option T → Option (WaitResult T)
+  found None = None
+  found (Some given) = Some (Message given)
+
+  -- a pure read: where the subscriber lags it goes on from the oldest message, and reads there
+  abbrev pub ReadsOn : (T → T → Type 0) → ℕ → Log T → Option T → Log T → Type 0
+  ReadsOn IsClone place log answer log2 = Reads IsClone place (caught place log) (found answer) log2
+
+  -- what a stream has read where it answers Pending: a lag, or nothing
+  abbrev pub gap : Bool → ℕ → Option (WaitResult T)
+  gap true k = Some (Lagged k)
+  gap false k = None
+
+  -- a poll of a stream, which never ends: Pending at a lag and where all is read
+  abbrev pub Streams : (T → T → Type 0) → ℕ → Log T → Poll (Option T) → Log T → Type 0
+  Streams IsClone place log (Ready (Some given)) log2 = Reads IsClone place log (Some (Message given)) log2
+  Streams IsClone place log (Ready None) log2 = ⊥
+  Streams IsClone place log Pending log2 = Reads IsClone place log (gap (lags place log) (oldest log - position place log)) log2
 
   -- a clone is refused, of a message that others still read too
   pub record IsRefused (IsInfallible : T → Type 0) (place n : ℕ) (log : Log T) : Type 0 where

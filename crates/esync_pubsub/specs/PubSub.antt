@@ -1,7 +1,7 @@
 -- A channel for many: its log, how many publishers are counted, and who waits.
-use Rattle.std.specs.Prelude.{◌≡◌, ℕ, ◌+◌, ◌<◌, Bool, true, false, List, [], length, Option, Some, None, Result, Ok, Err, nat_lt, replicate, refl}
+use Rattle.std.specs.Prelude.{◌≡◌, ℕ, ◌+◌, ◌<◌, Bool, true, false, List, [], ◌∷◌, length, Option, Some, None, Result, Ok, Err, nat_lt, replicate, refl}
 use Rattle.std.specs.Coded.{Coded, code_by, coded×, coded_ℕ, coded_list}
-use Rattle.esync_base.specs.Registration.{registered_if, displaced_if}
+use Rattle.esync_base.specs.Registration.{registered, displaced, registered_if, displaced_if}
 use Rattle.esync_pubsub.specs.Log.{Log, log_code, Joins}
 use Rattle.esync_base.specs.declared.waitqueue.Poll.{Poll}
 use Rattle.esync_base.specs.declared.waitqueue.Poll.TheVariants.{Pending, Ready}
@@ -61,6 +61,18 @@ abbrev pub still : {T A : Type 0} → T → Poll A → Option T
 still message (Ready a) = None
 still message Pending = Some message
 
+-- what a poll of a sink answers, and what it stores then: nothing stored is nothing to publish
+abbrev pub Flushes : {T : Type 0} → Option T → Poll (Result (Unit {0}) (NoNumber T)) → Option T → Type 0
+Flushes None (Ready (Ok done)) rest = rest ≡ None
+Flushes None (Ready (Err refused)) rest = ⊥
+Flushes None Pending rest = ⊥
+Flushes (Some message) answer rest = rest ≡ still message answer
+
+-- what a poll read
+abbrev pub heard : {A : Type 0} → Poll A → Option A
+heard (Ready a) = Some a
+heard Pending = None
+
 module _ {W : Type 0} where
   -- an accepted message hands out the subscribers' list, where there is a subscriber
   abbrev pub lists_after_news : Bool → Lists W → Lists W
@@ -100,3 +112,23 @@ module _ {W : Type 0} where
     wakes_of_publish n w live (Ok done) l = wakes_of_news live l
     wakes_of_publish n w live (Err (Full back)) l = displaced_if eq n l.publishers w
     wakes_of_publish n w live (Err (Exhausted back)) l = []
+
+    -- a read that finds nothing registers the waker, if one is given, in the subscribers' list of n places; another may have freed a message
+    abbrev pub lists_after_read : {A : Type 0} → ℕ → Option W → Option A → Bool → Lists W → Lists W
+    lists_after_read n w None freed l = record l { subscribers = registered_if eq n l.subscribers w }
+    lists_after_read n w (Some a) freed l = lists_after_room freed l
+
+    abbrev pub wakes_of_read : {A : Type 0} → ℕ → Option W → Option A → Bool → Lists W → List W
+    wakes_of_read n w None freed l = displaced_if eq n l.subscribers w
+    wakes_of_read n w (Some a) freed l = wakes_of_room freed l
+
+    -- a stream that finds nothing registers its waker; one that lags hands it out at once
+    abbrev pub lists_after_stream : {A : Type 0} → ℕ → W → Bool → Poll A → Bool → Lists W → Lists W
+    lists_after_stream n w lags (Ready a) freed l = lists_after_room freed l
+    lists_after_stream n w true Pending freed l = l
+    lists_after_stream n w false Pending freed l = record l { subscribers = registered eq n l.subscribers w }
+
+    abbrev pub wakes_of_stream : {A : Type 0} → ℕ → W → Bool → Poll A → Bool → Lists W → List W
+    wakes_of_stream n w lags (Ready a) freed l = wakes_of_room freed l
+    wakes_of_stream n w true Pending freed l = w ∷ []
+    wakes_of_stream n w false Pending freed l = displaced eq n l.subscribers w

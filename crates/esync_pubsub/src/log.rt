@@ -2,7 +2,7 @@
 ghost use Rattle.std.specs.Prelude.{◌≡◌, ℕ, true, false, suc, not, nat_lt, ◌+◌, ◌-◌, ◌<◌, ◌≤◌, ◌↔◌, [], Some, None, length, drop, is_some, IsTrue, replicate, slice_get, slice_set, slice_index, slice_index_or, IfOk, OnOk, OnErr, IfSome, IfNone};
 ghost use Rattle.std.specs.List.{list_all};
 ghost use Rattle.esync_pubsub.specs.Counts.{unread};
-ghost use Rattle.esync_pubsub.specs.Log.{IsLeastFree, oldest, has_subscribers, last_number, published, with_room, is_last, settled, moved, is_live, position, left, cleared, Joins, Publishes, PublishesAtOnce, ClonesAt, MayFailAt, Takes, IsRefused, Reads};
+ghost use Rattle.esync_pubsub.specs.Log.{IsLeastFree, oldest, has_subscribers, last_number, published, with_room, is_last, settled, moved, is_live, position, left, cleared, Joins, Publishes, PublishesAtOnce, ClonesAt, MayFailAt, Takes, IsRefused, Reads, ReadsOn, caught, found};
 
 use crate::pubsub::{Exhausted, TryPublishError, WaitResult};
 use esync_base::deque::Deque;
@@ -151,6 +151,7 @@ impl<T: Drop, const CAP: usize, const SUBS: usize> Log<T, CAP, SUBS> {
     pub fn len(&self) -> usize
         ensures value { result ≡ length self.now.held }
         ensures within { result ≤ CAP }
+        ensures numbered { length self.now.held ≤ self.now.next }
     {
         self.messages.len()
     }
@@ -216,14 +217,14 @@ impl<T: Drop, const CAP: usize, const SUBS: usize> Log<T, CAP, SUBS> {
         position
     }
 
-    // A subscriber that lags goes on from the oldest message.
-    fn catch_up(&mut self, place: usize)
+    // Moves a subscriber that reads all that is held to another position where it does.
+    fn lag_at(&mut self, place: usize, number: u64)
         requires live { IsTrue (is_live place self.old) }
         requires lags { position place self.old ≤ oldest self.old }
-        ensures { self.new ≡ moved place (oldest self.old) self.old }
+        requires within { number ≤ oldest self.old }
+        ensures { self.new ≡ moved place number self.old }
     {
-        let oldest = self.oldest();
-        self.positions.put(place, Some(oldest));
+        self.positions.put(place, Some(number));
     }
 
     /// There are subscribers.
@@ -396,6 +397,22 @@ impl<T: Clone, const CAP: usize, const SUBS: usize> Log<T, CAP, SUBS> {
         }
     }
 
+    // Reads what the subscriber at this place, which does not lag, reads next.
+    fn take_next(&mut self, place: usize) -> Result<Option<T>, AllocError>
+        requires live { IsTrue (is_live place self.old) }
+        requires from { oldest self.old ≤ position place self.old }
+        ensures ok { IfOk result (λ answer. Reads T.is_clone place self.old (found answer) self.new) }
+        ensures refused { OnErr result (IsRefused T.is_infallible place (position place self.old) self.old) }
+        ensures err { OnErr result (self.new ≡ self.old) }
+    {
+        let position = self.position(place);
+        if position == self.next() {
+            return Ok(None);
+        }
+        let message = self.take(place, position)?;
+        Ok(Some(message))
+    }
+
     /// What the subscriber at this place reads next; `None` where it has read all. A refused clone changes nothing.
     pub fn read(&mut self, place: usize) -> Result<Option<WaitResult<T>>, AllocError>
         requires { IsTrue (is_live place self.old) }
@@ -407,13 +424,35 @@ impl<T: Clone, const CAP: usize, const SUBS: usize> Log<T, CAP, SUBS> {
         let position = self.position(place);
         let oldest = self.oldest();
         if position < oldest {
-            self.catch_up(place);
+            self.lag_at(place, oldest);
             return Ok(Some(WaitResult::Lagged(oldest - position)));
         }
-        if position == self.next() {
-            return Ok(None);
+        match self.take_next(place)? {
+            Some(message) => Ok(Some(WaitResult::Message(message))),
+            None => Ok(None),
         }
-        let message = self.take(place, position)?;
-        Ok(Some(WaitResult::Message(message)))
+    }
+
+    /// The same, where a subscriber that lags goes on from the oldest message at once. A refused clone leaves it where it was.
+    pub fn read_on(&mut self, place: usize) -> Result<Option<T>, AllocError>
+        requires { IsTrue (is_live place self.old) }
+        ensures ok { IfOk result (λ answer. ReadsOn T.is_clone place self.old answer self.new) }
+        ensures refused { OnErr result (IsRefused T.is_infallible place (position place (caught place self.old)) self.old) }
+        ensures err { OnErr result (self.new ≡ self.old) }
+        ensures place { place < SUBS }
+    {
+        let position = self.position(place);
+        let oldest = self.oldest();
+        if oldest <= position {
+            return self.take_next(place);
+        }
+        self.lag_at(place, oldest);
+        match self.take_next(place) {
+            Ok(answer) => Ok(answer),
+            Err(error) => {
+                self.lag_at(place, position);
+                Err(error)
+            }
+        }
     }
 }

@@ -1,13 +1,25 @@
 //! A channel for many: whoever publishes reaches all who subscribed before.
-ghost use Rattle.std.specs.Prelude.{◌≡◌, ◌+◌, ◌-◌, ◌≤◌, ◌++◌, ◌↔◌, IsTrue, [], None, Some, IsSome, IfSome, is_none, length, not, nat_lt};
-ghost use Rattle.esync_pubsub.specs.Log.{has_subscribers, is_live, position, left, cleared, Publishes, PublishesAtOnce};
-ghost use Rattle.esync_pubsub.specs.PubSub.{fresh, Subscribes, Adds, frees, lists_after_news, wakes_of_news, lists_after_room, wakes_of_room, lists_after_publish, wakes_of_publish, tried, still, lists_after_immediate, wakes_of_immediate};
+ghost use Rattle.std.specs.Prelude.{◌≡◌, ◌+◌, ◌-◌, ◌<◌, ◌≤◌, ◌++◌, ◌↔◌, IsTrue, [], None, Some, IsSome, IfSome, IfOk, OnErr, is_none, length, not, nat_lt};
+ghost use Rattle.esync_pubsub.specs.Log.{has_subscribers, is_live, position, left, cleared, Publishes, PublishesAtOnce, lags, caught, Reads, ReadsOn, Streams, IsRefused};
+ghost use Rattle.esync_pubsub.specs.PubSub.{fresh, Subscribes, Adds, frees, lists_after_news, wakes_of_news, lists_after_room, wakes_of_room, lists_after_publish, wakes_of_publish, tried, still, lists_after_immediate, wakes_of_immediate, heard, lists_after_read, wakes_of_read, lists_after_stream, wakes_of_stream};
+
+pub mod machine;
 
 use crate::log::Log;
 use esync_base::waitqueue::{Context, MultiWakerRegistration, Poll, Wakes};
+pub use handles::{
+    DynImmediatePublisher, DynPublisher, DynSubscriber, ImmediatePub, ImmediatePublisher,
+    NextMessagePure, Pub, PubSink, Publisher, PublisherWaitFuture, Sub, Subscriber,
+    SubscriberWaitFuture,
+};
+pub use shared::{LogState, PubSubBehavior, PubSubChannel, SharedPubSub};
+use std::alloc::AllocError;
 use std::fmt::Debug;
 use std::marker::Model;
 use thiserror::Error;
+
+mod handles;
+mod shared;
 
 /// Why nobody came.
 #[derive(Clone, Copy, Debug, PartialEq, Eq, Error)]
@@ -253,18 +265,36 @@ impl<T: Drop, W: Copy + Eq, const CAP: usize, const SUBS: usize, const PUBS: usi
         ensures rest { self.new ≡ record self.old { log = self.new.log; lists = lists_after_publish W.eq PUBS (Some waker) (has_subscribers self.old.log) result self.old.lists } }
         ensures wakes { wakes.new ≡ wakes.old ++ wakes_of_publish W.eq PUBS (Some waker) (has_subscribers self.old.log) result self.old.lists }
     {
-        let has_subscribers = self.log.has_subscribers();
-        match self.log.publish(message) {
-            Ok(()) => {
-                self.tell_news(has_subscribers, wakes);
-                Ok(())
-            }
+        match self.try_publish(message, wakes) {
+            Ok(()) => Ok(()),
             Err(TryPublishError::Full(message)) => {
                 self.publisher_wakers.register(waker, wakes);
                 Err(TryPublishError::Full(message))
             }
             Err(TryPublishError::Exhausted(message)) => Err(TryPublishError::Exhausted(message)),
         }
+    }
+
+    /// Publishes a message for all who are subscribers. Where `CAP` messages are held, the context's waker waits for room.
+    ///
+    /// # Errors
+    ///
+    /// The message comes back and the log stays: `Full` where `CAP` messages are held, and else `Exhausted` where the numbers of messages
+    /// have run out.
+    pub fn publish_with_context<const K: usize>(
+        &mut self,
+        message: T,
+        cx: &Context<W>,
+        wakes: &mut Wakes<W, K>,
+    ) -> Result<(), TryPublishError<T>>
+        requires subscribers { length wakes.old + SUBS ≤ K }
+        requires place { 1 ≤ PUBS }
+        requires publishers { length wakes.old + PUBS ≤ K }
+        ensures log { Publishes CAP message self.old.log result self.new.log }
+        ensures rest { self.new ≡ record self.old { log = self.new.log; lists = lists_after_publish W.eq PUBS (Some cx.now) (has_subscribers self.old.log) result self.old.lists } }
+        ensures wakes { wakes.new ≡ wakes.old ++ wakes_of_publish W.eq PUBS (Some cx.now) (has_subscribers self.old.log) result self.old.lists }
+    {
+        self.publish_or_wait(message, cx.waker(), wakes)
     }
 
     /// Publishes a message at once. Where `CAP` are held, the oldest one is dropped, and who had not read it lags.
@@ -348,6 +378,173 @@ impl<T: Drop, W: Copy + Eq, const CAP: usize, const SUBS: usize, const PUBS: usi
     }
 }
 
+impl<T: Clone, W: Copy + Eq, const CAP: usize, const SUBS: usize, const PUBS: usize> PubSubState<
+    T,
+    W,
+    CAP,
+    SUBS,
+    PUBS,
+> {
+    /// What this subscriber reads next: a message, or how many messages left before it read them. `None` where it has read all. The last
+    /// reader is given the message itself, which leaves, and who waits for room is woken. Others are given a clone.
+    ///
+    /// # Errors
+    ///
+    /// Where a clone has no memory nothing is changed.
+    pub fn try_next_message<const K: usize>(
+        &mut self,
+        id: &SubId,
+        wakes: &mut Wakes<W, K>,
+    ) -> Result<Option<WaitResult<T>>, AllocError>
+        requires live { IsTrue (is_live id.now self.old.log) }
+        requires room { length wakes.old + PUBS ≤ K }
+        ensures place { id.now < SUBS }
+        ensures ok { IfOk result (λ answer. Reads T.is_clone id.now self.old.log answer self.new.log) }
+        ensures rest { IfOk result (λ answer. self.new ≡ record self.old { log = self.new.log; lists = lists_after_read W.eq SUBS None answer (frees self.old.log self.new.log) self.old.lists }) }
+        ensures wakes { IfOk result (λ answer. wakes.new ≡ wakes.old ++ wakes_of_read W.eq SUBS None answer (frees self.old.log self.new.log) self.old.lists) }
+        ensures refused { OnErr result (IsRefused T.is_infallible id.now (position id.now self.old.log) self.old.log) }
+        ensures unchanged { OnErr result (self.new ≡ self.old) }
+        ensures unwoken { OnErr result (wakes.new ≡ wakes.old) }
+    {
+        let held = self.log.len();
+        match self.log.read(id.place) {
+            Ok(Some(answer)) => {
+                self.tell_room(held, wakes);
+                Ok(Some(answer))
+            }
+            Ok(None) => Ok(None),
+            Err(error) => Err(error),
+        }
+    }
+
+    /// The same as a poll: where the subscriber has read all, the context's waker waits for a message.
+    ///
+    /// # Errors
+    ///
+    /// Where a clone has no memory nothing is changed.
+    pub fn get_message_with_context<const K: usize>(
+        &mut self,
+        id: &SubId,
+        cx: &Context<W>,
+        wakes: &mut Wakes<W, K>,
+    ) -> Result<Poll<WaitResult<T>>, AllocError>
+        requires live { IsTrue (is_live id.now self.old.log) }
+        requires subscribers { length wakes.old + SUBS ≤ K }
+        requires publishers { length wakes.old + PUBS ≤ K }
+        ensures ok { IfOk result (λ answer. Reads T.is_clone id.now self.old.log (heard answer) self.new.log) }
+        ensures rest { IfOk result (λ answer. self.new ≡ record self.old { log = self.new.log; lists = lists_after_read W.eq SUBS (Some cx.now) (heard answer) (frees self.old.log self.new.log) self.old.lists }) }
+        ensures wakes { IfOk result (λ answer. wakes.new ≡ wakes.old ++ wakes_of_read W.eq SUBS (Some cx.now) (heard answer) (frees self.old.log self.new.log) self.old.lists) }
+        ensures refused { OnErr result (IsRefused T.is_infallible id.now (position id.now self.old.log) self.old.log) }
+        ensures unchanged { OnErr result (self.new ≡ self.old) }
+        ensures unwoken { OnErr result (wakes.new ≡ wakes.old) }
+    {
+        match self.try_next_message(id, wakes) {
+            Ok(Some(answer)) => Ok(Poll::Ready(answer)),
+            Ok(None) => {
+                self.subscriber_wakers.register(cx.waker(), wakes);
+                Ok(Poll::Pending)
+            }
+            Err(error) => Err(error),
+        }
+    }
+
+    /// The message that this subscriber reads next. One that lags goes on from the oldest message. `None` where it has then read all.
+    ///
+    /// # Errors
+    ///
+    /// Where a clone has no memory nothing is changed: who lagged still does.
+    pub fn try_next_message_pure<const K: usize>(
+        &mut self,
+        id: &SubId,
+        wakes: &mut Wakes<W, K>,
+    ) -> Result<Option<T>, AllocError>
+        requires live { IsTrue (is_live id.now self.old.log) }
+        requires room { length wakes.old + PUBS ≤ K }
+        ensures place { id.now < SUBS }
+        ensures ok { IfOk result (λ answer. ReadsOn T.is_clone id.now self.old.log answer self.new.log) }
+        ensures rest { IfOk result (λ answer. self.new ≡ record self.old { log = self.new.log; lists = lists_after_read W.eq SUBS None answer (frees self.old.log self.new.log) self.old.lists }) }
+        ensures wakes { IfOk result (λ answer. wakes.new ≡ wakes.old ++ wakes_of_read W.eq SUBS None answer (frees self.old.log self.new.log) self.old.lists) }
+        ensures refused { OnErr result (IsRefused T.is_infallible id.now (position id.now (caught id.now self.old.log)) self.old.log) }
+        ensures unchanged { OnErr result (self.new ≡ self.old) }
+        ensures unwoken { OnErr result (wakes.new ≡ wakes.old) }
+    {
+        let held = self.log.len();
+        match self.log.read_on(id.place) {
+            Ok(Some(message)) => {
+                self.tell_room(held, wakes);
+                Ok(Some(message))
+            }
+            Ok(None) => Ok(None),
+            Err(error) => Err(error),
+        }
+    }
+
+    /// The same as a poll: where the subscriber has read all, the context's waker waits for a message.
+    ///
+    /// # Errors
+    ///
+    /// Where a clone has no memory nothing is changed: who lagged still does.
+    pub fn get_message_pure_with_context<const K: usize>(
+        &mut self,
+        id: &SubId,
+        cx: &Context<W>,
+        wakes: &mut Wakes<W, K>,
+    ) -> Result<Poll<T>, AllocError>
+        requires live { IsTrue (is_live id.now self.old.log) }
+        requires subscribers { length wakes.old + SUBS ≤ K }
+        requires publishers { length wakes.old + PUBS ≤ K }
+        ensures ok { IfOk result (λ answer. ReadsOn T.is_clone id.now self.old.log (heard answer) self.new.log) }
+        ensures rest { IfOk result (λ answer. self.new ≡ record self.old { log = self.new.log; lists = lists_after_read W.eq SUBS (Some cx.now) (heard answer) (frees self.old.log self.new.log) self.old.lists }) }
+        ensures wakes { IfOk result (λ answer. wakes.new ≡ wakes.old ++ wakes_of_read W.eq SUBS (Some cx.now) (heard answer) (frees self.old.log self.new.log) self.old.lists) }
+        ensures refused { OnErr result (IsRefused T.is_infallible id.now (position id.now (caught id.now self.old.log)) self.old.log) }
+        ensures unchanged { OnErr result (self.new ≡ self.old) }
+        ensures unwoken { OnErr result (wakes.new ≡ wakes.old) }
+    {
+        match self.try_next_message_pure(id, wakes) {
+            Ok(Some(message)) => Ok(Poll::Ready(message)),
+            Ok(None) => {
+                self.subscriber_wakers.register(cx.waker(), wakes);
+                Ok(Poll::Pending)
+            }
+            Err(error) => Err(error),
+        }
+    }
+
+    /// Polls the stream of a subscriber's messages, which has no end. A subscriber that lags goes on from the oldest message: the answer is
+    /// Pending then, and the context's waker is woken at once. Where it has read all, the waker waits for a message.
+    ///
+    /// # Errors
+    ///
+    /// Where a clone has no memory nothing is changed.
+    pub fn poll_next<const K: usize>(
+        &mut self,
+        id: &SubId,
+        cx: &Context<W>,
+        wakes: &mut Wakes<W, K>,
+    ) -> Result<Poll<Option<T>>, AllocError>
+        requires live { IsTrue (is_live id.now self.old.log) }
+        requires subscribers { length wakes.old + SUBS ≤ K }
+        requires publishers { length wakes.old + PUBS ≤ K }
+        requires one { length wakes.old + 1 ≤ K }
+        ensures ok { IfOk result (λ answer. Streams T.is_clone id.now self.old.log answer self.new.log) }
+        ensures rest { IfOk result (λ answer. self.new ≡ record self.old { log = self.new.log; lists = lists_after_stream W.eq SUBS cx.now (lags id.now self.old.log) answer (frees self.old.log self.new.log) self.old.lists }) }
+        ensures wakes { IfOk result (λ answer. wakes.new ≡ wakes.old ++ wakes_of_stream W.eq SUBS cx.now (lags id.now self.old.log) answer (frees self.old.log self.new.log) self.old.lists) }
+        ensures refused { OnErr result (IsRefused T.is_infallible id.now (position id.now self.old.log) self.old.log) }
+        ensures unchanged { OnErr result (self.new ≡ self.old) }
+        ensures unwoken { OnErr result (wakes.new ≡ wakes.old) }
+    {
+        match self.get_message_with_context(id, cx, wakes) {
+            Ok(Poll::Ready(WaitResult::Message(message))) => Ok(Poll::Ready(Some(message))),
+            Ok(Poll::Ready(WaitResult::Lagged(_missed))) => {
+                wakes.push(cx.waker());
+                Ok(Poll::Pending)
+            }
+            Ok(Poll::Pending) => Ok(Poll::Pending),
+            Err(error) => Err(error),
+        }
+    }
+}
+
 /// A message that waits to be published.
 #[derive(Drop)]
 pub struct PublishRequest<T> {
@@ -373,6 +570,13 @@ impl<T: Drop> PublishRequest<T> {
         PublishRequest {
             message: Some(message),
         }
+    }
+
+    // No message.
+    pub(crate) fn finished() -> Self
+        ensures { result ≡ None }
+    {
+        PublishRequest { message: None }
     }
 
     /// The message was published, or refused for good.
@@ -413,7 +617,7 @@ impl<T: Drop> PublishRequest<T> {
         let Some(message) = self.message.take() else {
             unreachable!()
         };
-        match state.publish_or_wait(message, cx.waker(), wakes) {
+        match state.publish_with_context(message, cx, wakes) {
             Ok(()) => Poll::Ready(Ok(())),
             Err(TryPublishError::Full(message)) => {
                 self.message = Some(message);

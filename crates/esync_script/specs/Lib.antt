@@ -2,7 +2,10 @@ pub mod Channel
 pub mod Signal
 pub mod Semaphore
 pub mod Pipe
+pub mod PubSub
 pub mod Once
 pub mod Lazy
 pub mod Mutex
+pub mod Watch
+pub mod Zerocopy
 pub mod Opening

@@ -1,7 +1,7 @@
 -- Line 1 of a script, and what is played behind it.
-use Rattle.std.specs.Prelude.{◌≡◌, ℕ, ◌==◌, Bool, List, [], Option, Some, None, ◌⊎◌, Result, Ok, Err, if◌then◌else◌, codes, false}
+use Rattle.std.specs.Prelude.{◌≡◌, ℕ, ◌==◌, Bool, List, [], Option, Some, None, ◌⊎◌, Result, Ok, Err, if◌then◌else◌, codes, false, nat_lt}
 use Rattle.std.proofs.Math.ListN.{replicate}
-use Rattle.std.specs.Option.{option_map}
+use Rattle.std.specs.Option.{option_map, unwrap_or}
 use Rattle.esync_base.specs.Keeping.{Keeping, BoundedList}
 use Rattle.esync_machine.specs.declared.primitive.Answer.{Answer}
 use Rattle.esync_machine.specs.Rules.{Rules}
@@ -15,30 +15,43 @@ use Rattle.esync_cells.specs.OnceRules.{once_rules, once_wakings}
 use Rattle.esync_cells.specs.declared.lazy_lock.Given.{Given}
 use Rattle.esync_cells.specs.LazyLock.{Lazy as LazyValue}
 use Rattle.esync_cells.specs.LazyRules.{lazy_rules, lazy_wakings}
+use Rattle.esync_cells.specs.WatchRules.{Watch as WatchObject, watch_rules, watch_wakings}
 use Rattle.esync_guards.specs.MutexRules.{Lock, mutex_rules, mutex_wakings}
 use Rattle.esync_permits.specs.GreedyRules.{greedy_rules, greedy_wakings}
 use Rattle.esync_permits.specs.FairRules.{fair_rules, fair_wakings}
 use Rattle.esync_base.specs.Ring.{Ringed}
 use Rattle.esync_pipe.specs.PipeRules.{pipe_rules, pipe_wakings}
 use Rattle.esync_pipe.specs.Piped.{Slots as PipeSlots}
+use Rattle.esync_pubsub.specs.PubSub.{Lists}
+use Rattle.esync_pubsub.specs.PubSubRules.{Topic, pubsub_rules, pubsub_wakings}
+use Rattle.esync_zerocopy.specs.Slots.{Waiting, all_spare}
+use Rattle.esync_zerocopy.specs.Lending.{Slots as LentSlots}
+use Rattle.esync_zerocopy.specs.ZeroRules.{zero_rules, zero_wakings}
 use Rattle.esync_words.specs.declared.fault.Fault.{Fault}
+use Rattle.esync_words.specs.declared.fault.Fault.TheVariants.{OutOfMemory}
 use Rattle.esync_words.specs.declared.play.Giver.{Giver}
 use Rattle.esync_words.specs.Fault.{status_of}
 use Rattle.esync_words.specs.Words.{is_text, and_then, one, two, number_and_values}
+use Rattle.esync_words.specs.Perhaps.{one_or_two}
 use Rattle.esync_words.specs.Commands.{says, command}
 use Rattle.esync_words.specs.Played.{Played, Opened, NotOpened, IsJudged}
 use Rattle.esync_words.specs.Tells.{tells_of}
 use Rattle.esync_script.specs.declared.opening.Capacity.{Capacity}
 use Rattle.esync_script.specs.declared.opening.Capacity.TheVariants.{One, Two, Three, Four, Eight}
 use Rattle.esync_script.specs.declared.opening.Opening.{Opening}
-use Rattle.esync_script.specs.declared.opening.Opening.TheVariants.{Channel, Max, Min, Signal, Greedy, Fair, Pipe, Once, Lazy, Mutex}
+use Rattle.esync_script.specs.declared.opening.Opening.TheVariants.{Channel, Max, Min, Signal, Greedy, Fair, Pipe, PubSub, Once, Lazy, Mutex, Watch, Zerocopy}
 use Rattle.esync_script.specs.Channel.{channel_asks, channel_calls, channel_text}
 use Rattle.esync_script.specs.Signal.{signal_asks, signal_calls, signal_text}
 use Rattle.esync_script.specs.Once.{once_asks, once_calls, once_text}
 use Rattle.esync_script.specs.Lazy.{lazy_asks, lazy_calls}
 use Rattle.esync_script.specs.Mutex.{mutex_asks, mutex_calls, mutex_text}
 use Rattle.esync_script.specs.Pipe.{pipe_asks, pipe_calls, pipe_text}
+use Rattle.esync_script.specs.PubSub.{pubsub_asks, pubsub_calls, pubsub_text}
+use Rattle.esync_script.specs.Watch.{watch_asks, watch_calls, watch_text, added, adds}
+use Rattle.esync_script.specs.declared.watch.Adds.{Adds}
+use Rattle.esync_script.specs.declared.watch.Below.{Below}
 use Rattle.esync_script.specs.Semaphore.{permit_asks, permit_calls, permit_text, fair_text}
+use Rattle.esync_script.specs.Zerocopy.{zero_asks, zero_calls, zero_text}
 use Rattle.std.specs.Prelude.{decimal}
 
 abbrev pub capacity : ℕ → Option Capacity
@@ -71,9 +84,12 @@ opening name words =
     else if is_text name (codes "greedy") then and_then (two 64 64 words) (λ p. only_one (Greedy p.1) p.0)
     else if is_text name (codes "fair") then and_then (two 64 64 words) (λ p. option_map (λ c. Fair c p.1) (capacity p.0))
     else if is_text name (codes "pipe") then option_map (λ c. Pipe c) (and_then (one 64 words) capacity)
+    else if is_text name (codes "pubsub") then and_then (one_or_two 64 64 words) (λ p. option_map (λ c. PubSub c (unwrap_or p.1 0)) (capacity p.0))
     else if is_text name (codes "once") then and_then (one 64 words) (only_one Once)
     else if is_text name (codes "lazy") then and_then (two 64 32 words) (λ p. only_one (Lazy p.1) p.0)
+    else if is_text name (codes "zerocopy") then option_map (λ c. Zerocopy c) (and_then (one 64 words) capacity)
     else if is_text name (codes "mutex") then and_then (number_and_values words) (λ p. only_one (Mutex p.1 p.2) p.0)
+    else if is_text name (codes "watch") then and_then (one_or_two 64 32 words) (λ p. option_map (λ c. Watch c p.1) (capacity p.0))
     else None
 
 -- without requests
@@ -91,6 +107,18 @@ an_empty_pipe = record { items = []; front = 0 }
 abbrev pub no_slot : PipeSlots ℕ
 no_slot = record { readers = []; writers = [] }
 
+-- a channel for many in which nobody is, with four places for subscribers; its first message has this number
+abbrev pub a_new_topic : ℕ → Topic ℕ
+a_new_topic first = record {
+  log = record { held = []; next = first; positions = replicate 4 None };
+  subscribers = replicate 16 None;
+  publishers = replicate 16 None;
+}
+
+-- no waker in either list
+abbrev pub no_lists : Lists ℕ
+no_lists = record { subscribers = []; publishers = [] }
+
 -- the value that was given is the only one that is made
 abbrev pub IsGiven : Given ℕ → ℕ → Type 0
 IsGiven given v = v ≡ given.value
@@ -103,12 +131,40 @@ not_made v = Some (record { value = None; maker = record { value = v } })
 abbrev pub a_free_lock : ℕ → ℕ → Lock (ℕ × ℕ)
 a_free_lock v x = record { held = false; value = (v, x) }
 
+-- n slots of value 0, all spare, and no waker in either slot
+abbrev pub zero_slots : ℕ → LentSlots ℕ
+zero_slots n = record { sides = all_spare n; values = replicate n 0 }
+
+abbrev pub no_side_waits : Waiting ℕ
+no_side_waits = record { senders = []; receivers = [] }
+
 -- the second of two, and the two with another second
 abbrev pub second : ℕ × ℕ → ℕ
 second v = v.1
 
 abbrev pub with_second : ℕ × ℕ → ℕ → ℕ × ℕ
 with_second v x = (v.0, x)
+
+-- a watch with this value, if there is one, and without receivers
+abbrev pub a_new_watch : Option ℕ → WatchObject ℕ
+a_new_watch value = record { value = value; version = 0; receivers = replicate 16 None }
+
+-- the numbers of a script are cloned as they are, and no clone of one needs memory
+abbrev pub IsSame : ℕ → ℕ → Type 0
+IsSame v w = w ≡ v
+
+abbrev pub NeedsNone : ℕ → Type 0
+NeedsNone v = Unit {0}
+
+-- what a change of a script makes of a value, and whether it tells; and which values pass a test
+abbrev pub changed : Adds → Option ℕ → Option ℕ
+changed change value = added change.amount value
+
+abbrev pub tells_change : Adds → Option ℕ → Bool
+tells_change change value = adds change.amount value
+
+abbrev pub passes : Below → ℕ → Bool
+passes below value = nat_lt value below.limit
 
 -- What is played behind line n: a run of the named primitive, which begins as that line says, without requests and with no waker
 -- registered. A step hands out so many wakers at most.
@@ -131,6 +187,21 @@ module _ (eq : ℕ → ℕ → Bool) (tells : (A : Type 0) → (A → List ℕ) 
   PlaysPipe places n left before after outcome =
       PlaysAs 2 (pipe_rules places) (pipe_wakings eq places) pipe_asks pipe_calls pipe_text an_empty_pipe no_slot n left before after outcome
 
+  -- a channel of places messages for four subscribers and four publishers, of which a step hands out four wakers at most
+  abbrev pub PlaysPubSub : ℕ → ℕ → ℕ → Option (List ℕ) → Option (List ℕ) → Option (List ℕ) → Result (Unit {0}) Fault → Type 0
+  PlaysPubSub places first n left before after outcome =
+      PlaysAs 4 (pubsub_rules IsSame NeedsNone places 4) (pubsub_wakings eq 4 4) pubsub_asks pubsub_calls pubsub_text (a_new_topic first) no_lists n left before after outcome
+
+  -- a zero-copy channel: there was no memory for its slots, or it is played
+  abbrev pub PlaysSlots : ℕ → ℕ → Option (List ℕ) → Option (List ℕ) → Option (List ℕ) → Result (Unit {0}) Fault → Type 0
+  PlaysSlots places n left before after outcome =
+      (outcome ≡ Err OutOfMemory) ⊎ PlaysAs 1 (zero_rules ℕ) (zero_wakings eq) zero_asks zero_calls zero_text (zero_slots places) no_side_waits n left before after outcome
+
+  -- a watch, of which a step hands out as many wakers at most as receivers are counted
+  abbrev pub PlaysWatch : ℕ → Option ℕ → ℕ → Option (List ℕ) → Option (List ℕ) → Option (List ℕ) → Result (Unit {0}) Fault → Type 0
+  PlaysWatch places value n left before after outcome =
+      PlaysAs places (watch_rules places IsSame NeedsNone changed tells_change passes) (watch_wakings eq places tells_change) watch_asks watch_calls watch_text (a_new_watch value) [] n left before after outcome
+
   abbrev pub Plays : (max_above min_above : ℕ → ℕ → Bool) → Opening → ℕ → Option (List ℕ) → Option (List ℕ) → Option (List ℕ) → Result (Unit {0}) Fault → Type 0
   Plays max_above min_above (Channel c) n left before after outcome = PlaysMessages (BoundedList ℕ (places c)) n left before after outcome
   Plays max_above min_above (Max c) n left before after outcome = PlaysMessages (Bag ℕ max_above (places c)) n left before after outcome
@@ -141,12 +212,15 @@ module _ (eq : ℕ → ℕ → Bool) (tells : (A : Type 0) → (A → List ℕ) 
       PlaysAs 1 greedy_rules (greedy_wakings eq) permit_asks permit_calls (permit_text decimal) permits [] n left before after outcome
   Plays max_above min_above (Fair c permits) n left before after outcome = PlaysFair (places c) permits n left before after outcome
   Plays max_above min_above (Pipe c) n left before after outcome = PlaysPipe (places c) n left before after outcome
+  Plays max_above min_above (PubSub c first) n left before after outcome = PlaysPubSub (places c) first n left before after outcome
   Plays max_above min_above Once n left before after outcome =
       PlaysAs 1 (once_rules ℕ) (once_wakings ℕ ℕ) once_asks once_calls once_text None tt n left before after outcome
   Plays max_above min_above (Lazy v) n left before after outcome =
       PlaysAs 1 (lazy_rules IsGiven) (lazy_wakings (Option (LazyValue ℕ (Given ℕ))) ℕ ℕ) lazy_asks lazy_calls decimal (not_made v) tt n left before after outcome
   Plays max_above min_above (Mutex v x) n left before after outcome =
       PlaysAs 1 (mutex_rules second with_second) (mutex_wakings eq) mutex_asks mutex_calls mutex_text (a_free_lock v x) [] n left before after outcome
+  Plays max_above min_above (Zerocopy c) n left before after outcome = PlaysSlots (places c) n left before after outcome
+  Plays max_above min_above (Watch c value) n left before after outcome = PlaysWatch (places c) value n left before after outcome
 
   -- A whole script: line 1 names a primitive, and the lines behind it are played; or it names none; or a read, a write or memory
   -- failed before.

@@ -18,8 +18,11 @@ pub mod mutex;
 pub mod once;
 pub mod opening;
 pub mod pipe;
+pub mod pubsub;
 pub mod semaphore;
 pub mod signal;
+pub mod watch;
+pub mod zerocopy;
 
 /// Reads a script, writes what its commands are answered, and returns the status that tells how it ended.
 ///
@@ -76,7 +79,7 @@ pub fn play_script<T: Telling, R: Read + Drop, W: Write>(
     ensures { PlaysScript ⟦<u64 as PartialEq>⟧.eq T.tells ⟦<Max as Kind<u32>>⟧.above ⟦<Min as Kind<u32>>⟧.above T.opening (R.remaining input) (W.contents output.old) (W.contents output.new) result }
 {
     match Lines::new(alloc, input) {
-        Ok(mut lines) => opening::play_lines(telling, &mut lines, output),
+        Ok(mut lines) => opening::play_lines(alloc, telling, &mut lines, output),
         Err(fault) => Err(fault),
     }
 }

@@ -1,8 +1,10 @@
 //! Line 1 of a script, which names the primitive, and the machine that is played behind it.
-ghost use Rattle.std.specs.Prelude.{◌≡◌, ℕ, []};
+ghost use Rattle.std.specs.Prelude.{◌≡◌, ◌<◌, ◌≤◌, ℕ, [], IfOk, IfErr, length};
+ghost use Rattle.std.proofs.Math.ListN.{replicate};
 ghost use Rattle.esync_base.specs.Keeping.{BoundedList};
+ghost use Rattle.esync_cells.specs.Watch.{fresh};
 ghost use Rattle.esync_priority.specs.Prio.{Bag};
-ghost use Rattle.esync_script.specs.Opening.{places, capacity, opening, new_object, nobody_waits, no_slot, an_empty_pipe, not_made, a_free_lock, Plays, PlaysMessages, PlaysFair, PlaysPipe, PlaysScript};
+ghost use Rattle.esync_script.specs.Opening.{places, capacity, opening, new_object, nobody_waits, no_slot, an_empty_pipe, not_made, a_free_lock, a_new_watch, a_new_topic, no_lists, zero_slots, no_side_waits, Plays, PlaysMessages, PlaysFair, PlaysPipe, PlaysSlots, PlaysWatch, PlaysPubSub, PlaysScript};
 ghost use Rattle.esync_words.specs.Commands.{says, command};
 ghost use Rattle.esync_words.specs.Played.{Played};
 ghost use Rattle.esync_words.specs.Tells.{tells_of};
@@ -13,8 +15,11 @@ use crate::lazy::LazyWords;
 use crate::mutex::MutexWords;
 use crate::once::OnceWords;
 use crate::pipe::PipeWords;
+use crate::pubsub::PubSubWords;
 use crate::semaphore::{FairWords, GreedyWords};
 use crate::signal::SignalWords;
+use crate::watch::{Adds, Below, WatchWords};
+use crate::zerocopy::ZeroWords;
 use esync_base::deque::Deque;
 use esync_base::store::Store;
 use esync_cells::lazy_lock::Given;
@@ -23,6 +28,8 @@ use esync_cells::once_lock::OnceState;
 use esync_cells::once_lock::machine::OnceRun;
 use esync_cells::signal::SignalState;
 use esync_cells::signal::machine::SignalRun;
+use esync_cells::watch::WatchState;
+use esync_cells::watch::machine::{WatchRun, Watched};
 use esync_channel::channel::Mailbox;
 use esync_guards::mutex::Second;
 use esync_guards::mutex::machine::{Guarded, MutexRun};
@@ -35,11 +42,16 @@ use esync_permits::semaphore::{FairState, GreedyState};
 use esync_pipe::pipe::PipeState;
 use esync_pipe::pipe::machine::PipeRun;
 use esync_priority::prio::{Kind, Max, Min, PrioQueue};
+use esync_pubsub::pubsub::PubSubState;
+use esync_pubsub::pubsub::machine::Events;
 use esync_words::fault::Fault;
 use esync_words::lines::Lines;
 use esync_words::play::{Opens, Parts, Telling, open, play};
 use esync_words::vocabulary::{REQS, Vocabulary};
 use esync_words::words::Words;
+use esync_zerocopy::zerocopy_channel::ChannelState;
+use esync_zerocopy::zerocopy_channel::machine::ZeroRun;
+use std::alloc::{AllocError, Global};
 use std::io::{Read, Write};
 
 /// How much a primitive holds, of the capacities that a script can ask for.
@@ -82,9 +94,12 @@ pub enum Opening {
     Greedy(usize),
     Fair(Capacity, usize),
     Pipe(Capacity),
+    PubSub(Capacity, u64),
     Once,
     Lazy(u32),
     Mutex(u32, u32),
+    Watch(Capacity, Option<u32>),
+    Zerocopy(Capacity),
 }
 
 impl Opens for Opening {
@@ -107,14 +122,23 @@ impl Opens for Opening {
                 Some(Opening::Fair(capacity_of(places)?, permits as usize))
             }
             "pipe" => Some(Opening::Pipe(read_capacity(words)?)),
+            "pubsub" => {
+                let (places, first) = words.one_or_two_numbers()?;
+                Some(Opening::PubSub(capacity_of(places)?, first.unwrap_or(0)))
+            }
             "once" => (words.number()? == 1).then_some(Opening::Once),
             "lazy" => {
                 let (places, value) = words.number_and_value()?;
                 (places == 1).then_some(Opening::Lazy(value))
             }
+            "zerocopy" => Some(Opening::Zerocopy(read_capacity(words)?)),
             "mutex" => {
                 let (places, value, part) = words.number_and_two_values()?;
                 (places == 1).then_some(Opening::Mutex(value, part))
+            }
+            "watch" => {
+                let (places, value) = words.number_and_value_if_any()?;
+                Some(Opening::Watch(capacity_of(places)?, value))
             }
             _ => None,
         }
@@ -181,6 +205,18 @@ fn pipe<const N: usize>() -> PipeRun<u64, N, REQS, 2>
     Requests::new(PipeState::new())
 }
 
+// A channel for at most four subscribers and four publishers, as a machine.
+type ManyRun<const N: usize> = Requests<Events<PubSubState<u32, u64, N, 4, 4>, REQS, 4>, REQS, 4>;
+
+// A channel for many in which nobody is, of `N` messages, of which the first has this number, with no request.
+fn pubsub<const N: usize>(first: u64) -> ManyRun<N>
+    requires { 1 ≤ N }
+    ensures object { ⟦<ManyRun<N> as Machine>⟧.semantics.object result ≡ new_object (a_new_topic first) }
+    ensures registrations { ⟦<ManyRun<N> as Machine>⟧.semantics.registrations result ≡ no_lists }
+{
+    Requests::new(Events::new(PubSubState::new_at(first)))
+}
+
 // A value that is not set yet, with no request.
 fn once() -> OnceRun<u32, u64, REQS, 1>
     ensures { ⟦<OnceRun<u32, u64, REQS, 1> as Machine>⟧.semantics.object result ≡ new_object None }
@@ -201,6 +237,46 @@ fn mutex(value: u32, part: u32) -> MutexRun<(u32, u32), u32, Second, u64, REQS, 
     ensures registrations { ⟦<MutexRun<(u32, u32), u32, Second, u64, REQS, 1> as Machine>⟧.semantics.registrations result ≡ [] }
 {
     Requests::new(Guarded::new((value, part), Second {}))
+}
+
+// A watch in which nobody was counted, with this value, if there is one.
+fn watch_state<const N: usize>(value: Option<u32>) -> WatchState<u32, u64, N>
+    ensures { result ≡ fresh value 0 }
+{
+    match value {
+        Some(value) => WatchState::new_with(value),
+        None => WatchState::new(),
+    }
+}
+
+// The same as a machine, with no receiver and no request.
+fn watch<const N: usize>(value: Option<u32>) -> WatchRun<u32, u64, Adds, Below, N, REQS, REQS, N>
+    requires { 1 ≤ N }
+    ensures object { ⟦<WatchRun<u32, u64, Adds, Below, N, REQS, REQS, N> as Machine>⟧.semantics.object result ≡ new_object (a_new_watch value) }
+    ensures registrations { ⟦<WatchRun<u32, u64, Adds, Below, N, REQS, REQS, N> as Machine>⟧.semantics.registrations result ≡ [] }
+{
+    Requests::new(Watched::new(watch_state(value)))
+}
+
+// So many slots of value 0.
+fn zeros(alloc: Global, count: usize) -> Result<Vec<u32>, AllocError>
+    ensures values { IfOk result (λ slots. slots.items ≡ replicate count 0) }
+    ensures count { IfOk result (λ slots. length slots.items ≡ count) }
+{
+    vec![in alloc; 0; count]
+}
+
+// A zero-copy channel of so many slots of value 0, at least one, with no request, unless there is no memory for them.
+fn zerocopy(alloc: Global, count: usize) -> Result<ZeroRun<u32, u64, REQS, 1>, Fault>
+    requires { 0 < count }
+    ensures object { IfOk result (λ machine. ⟦<ZeroRun<u32, u64, REQS, 1> as Machine>⟧.semantics.object machine ≡ new_object (zero_slots count)) }
+    ensures registrations { IfOk result (λ machine. ⟦<ZeroRun<u32, u64, REQS, 1> as Machine>⟧.semantics.registrations machine ≡ no_side_waits) }
+    ensures refused { IfErr result (λ fault. fault ≡ Fault.OutOfMemory) }
+{
+    match zeros(alloc, count) {
+        Ok(slots) => Ok(Requests::new(ChannelState::new(slots))),
+        Err(AllocError) => Err(Fault::OutOfMemory),
+    }
 }
 
 // An expression of a capacity, which has to be written for each: a number of places is part of a machine's type.
@@ -294,8 +370,76 @@ fn serve_pipe<T: Telling, R: Read + Drop, W: Write>(
     at_capacity!(capacity, serve_bytes!(telling, lines, output))
 }
 
+// A script over a channel for many of at most `n` messages.
+macro_rules! serve_log {
+    ($n:literal, $first:ident, $telling:ident, $lines:ident, $output:ident) => {
+        serve::<PubSubWords, _, T, R, W>($telling, pubsub::<$n>($first), $lines, $output)
+    };
+}
+
+fn serve_pubsub<T: Telling, R: Read + Drop, W: Write>(
+    telling: &T,
+    capacity: Capacity,
+    first: u64,
+    lines: &mut Lines<R>,
+    output: &mut W,
+) -> Result<(), Fault>
+    ensures { PlaysPubSub ⟦<u64 as PartialEq>⟧.eq T.tells (places capacity) first lines.old.number lines.old.left (W.contents output.old) (W.contents output.new) result }
+{
+    at_capacity!(capacity, serve_log!(first, telling, lines, output))
+}
+
+// The number of places of this capacity.
+fn places_of(capacity: Capacity) -> usize
+    ensures value { result ≡ places capacity }
+    ensures some { 0 < result }
+{
+    match capacity {
+        Capacity::One => 1,
+        Capacity::Two => 2,
+        Capacity::Three => 3,
+        Capacity::Four => 4,
+        Capacity::Eight => 8,
+    }
+}
+
+fn serve_zerocopy<T: Telling, R: Read + Drop, W: Write>(
+    alloc: Global,
+    telling: &T,
+    capacity: Capacity,
+    lines: &mut Lines<R>,
+    output: &mut W,
+) -> Result<(), Fault>
+    ensures { PlaysSlots ⟦<u64 as PartialEq>⟧.eq T.tells (places capacity) lines.old.number lines.old.left (W.contents output.old) (W.contents output.new) result }
+{
+    match zerocopy(alloc, places_of(capacity)) {
+        Ok(machine) => serve::<ZeroWords, _, T, R, W>(telling, machine, lines, output),
+        Err(fault) => Err(fault),
+    }
+}
+
+// A script over a watch of at most `n` counted receivers.
+macro_rules! serve_value {
+    ($n:literal, $value:ident, $telling:ident, $lines:ident, $output:ident) => {
+        serve::<WatchWords, _, T, R, W>($telling, watch::<$n>($value), $lines, $output)
+    };
+}
+
+fn serve_watch<T: Telling, R: Read + Drop, W: Write>(
+    telling: &T,
+    capacity: Capacity,
+    value: Option<u32>,
+    lines: &mut Lines<R>,
+    output: &mut W,
+) -> Result<(), Fault>
+    ensures { PlaysWatch ⟦<u64 as PartialEq>⟧.eq T.tells (places capacity) value lines.old.number lines.old.left (W.contents output.old) (W.contents output.new) result }
+{
+    at_capacity!(capacity, serve_value!(value, telling, lines, output))
+}
+
 // Makes the primitive that line 1 names, and plays the lines behind it.
 fn serve_opening<T: Telling, R: Read + Drop, W: Write>(
+    alloc: Global,
     telling: &T,
     opening: Opening,
     lines: &mut Lines<R>,
@@ -313,16 +457,20 @@ fn serve_opening<T: Telling, R: Read + Drop, W: Write>(
         }
         Opening::Fair(capacity, permits) => serve_fair(telling, capacity, permits, lines, output),
         Opening::Pipe(capacity) => serve_pipe(telling, capacity, lines, output),
+        Opening::PubSub(capacity, first) => serve_pubsub(telling, capacity, first, lines, output),
         Opening::Once => serve::<OnceWords, _, T, R, W>(telling, once(), lines, output),
         Opening::Lazy(value) => serve::<LazyWords, _, T, R, W>(telling, lazy(value), lines, output),
         Opening::Mutex(value, part) => {
             serve::<MutexWords, _, T, R, W>(telling, mutex(value, part), lines, output)
         }
+        Opening::Watch(capacity, value) => serve_watch(telling, capacity, value, lines, output),
+        Opening::Zerocopy(capacity) => serve_zerocopy(alloc, telling, capacity, lines, output),
     }
 }
 
 /// Plays a whole script, whose lines haven't been read.
 pub fn play_lines<T: Telling, R: Read + Drop, W: Write>(
+    alloc: Global,
     telling: &T,
     lines: &mut Lines<R>,
     output: &mut W,
@@ -331,7 +479,7 @@ pub fn play_lines<T: Telling, R: Read + Drop, W: Write>(
     ensures { PlaysScript ⟦<u64 as PartialEq>⟧.eq T.tells ⟦<Max as Kind<u32>>⟧.above ⟦<Min as Kind<u32>>⟧.above T.opening lines.old.left (W.contents output.old) (W.contents output.new) result }
 {
     match open::<Opening, T, R, W>(telling, lines, output) {
-        Ok(opening) => serve_opening(telling, opening, lines, output),
+        Ok(opening) => serve_opening(alloc, telling, opening, lines, output),
         Err(fault) => Err(fault),
     }
 }

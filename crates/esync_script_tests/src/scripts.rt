@@ -186,6 +186,51 @@ fn a_guard_of_a_part_writes_the_part(rt: HostRuntime) -> Result<(), Fail> {
 }
 
 #[test]
+fn a_clear_under_a_loan_is_refused(rt: HostRuntime) -> Result<(), Fail> {
+    let input =
+        "zerocopy 1\nstart 0 receive\npoll 0 5\ntry-send\nwrite 3\ntry-send\ndone-send\npoll 0 5\nclear-send\ndone-receive\ndone-receive\nclear-send\n";
+    let output =
+        "Ok | -\nPending | -\nSome(0) | -\nOk | -\nSome(0) | -\nOk | 5\nReady(0,3) | -\nErr(SlotLent) | -\nOk | -\nErr(NoSuch) | -\nOk | -\n";
+    assert_answers(&rt, input, output)
+}
+
+#[test]
+fn slots_go_round(rt: HostRuntime) -> Result<(), Fail> {
+    let input =
+        "zerocopy 2\nwrite 1\ntry-receive\nstart 3 send\npoll 3 7\nclear-receive\nend-send\nend-send\ndone-send\ndone-send\ndone-send\nstart 4 send\npoll 4 8\ntry-receive\nend-receive\nend-receive\nlen\nfree\ndone-receive\npoll 4 8\nwrite 6\ndone-send\ndone-receive\ntry-receive\nclear-receive\nclear-send\nlen\n";
+    let output =
+        "Err(NoSuch) | -\nNone | -\nOk | -\nReady(0) | -\nErr(SlotLent) | -\nOk | -\nErr(NoSuch) | -\nOk | -\nOk | -\nErr(NoSuch) | -\nOk | -\nPending | -\nSome(0,0) | -\nOk | -\nErr(NoSuch) | -\n2 | -\n0 | -\nOk | 8\nReady(0) | -\nOk | -\nOk | -\nOk | -\nSome(0,6) | -\nOk | -\nOk | -\n0 | -\n";
+    assert_answers(&rt, input, output)
+}
+
+#[test]
+fn who_finds_nothing_is_told_of_news(rt: HostRuntime) -> Result<(), Fail> {
+    let input =
+        "watch 1\nreceiver 0\nstart 0 changed-below 0 5\nstart 1 changed 0\npoll 0 1\npoll 1 2\nsend 9\npoll 1 2\npoll 0 1\nmodify 0\npoll 0 1\nanon 1\nstart 2 get 1\nid\n";
+    let output =
+        "Ok | -\nOk | -\nOk | -\nPending | -\nPending | 1\nOk | 2\nReady(9) | -\nPending | -\nOk | 1\nPending | -\nOk | -\nErr(NoSuch) | -\n2 | -\n";
+    assert_answers(&rt, input, output)
+}
+
+#[test]
+fn who_waits_for_a_message_is_told_of_it(rt: HostRuntime) -> Result<(), Fail> {
+    assert_answers(
+        &rt,
+        "pubsub 2\njoin 0\npublisher 0\nstart 1 message 0\nstart 2 message 0\npoll 1 1\npoll 2 2\ntry-publish 0 5\npoll 2 2\npoll 1 1\n",
+        "Ok | -\nOk | -\nOk | -\nOk | -\nPending | -\nPending | -\nOk | 1 2\nReady(Message(5)) | -\nPending | -\n",
+    )
+}
+
+#[test]
+fn the_last_number_is_never_given(rt: HostRuntime) -> Result<(), Fail> {
+    let input =
+        "pubsub 1 18446744073709551614\njoin 0\npublisher 0\nstart 0 publish 0 5\npoll 0 1\nstart 1 publish 0 6\npoll 1 2\nnext 0\npoll 1 2\nimmediate 7\nleave 0\ntry-publish 0 8\n";
+    let output =
+        "Ok | -\nOk | -\nOk | -\nReady | -\nOk | -\nPending | -\nMessage(5) | 2\nReady(Err(Exhausted(6))) | -\nErr(Exhausted(7)) | -\nOk | -\nOk | -\n";
+    assert_answers(&rt, input, output)
+}
+
+#[test]
 fn a_fair_request_is_granted_all_its_permits(rt: HostRuntime) -> Result<(), Fail> {
     assert_answers(
         &rt,
@@ -398,6 +443,8 @@ fn line_1_names_a_primitive(rt: HostRuntime) -> Result<(), Fail> {
         "mutex 1 4\n",
         "mutex 2 4 6\n",
         "mutex 1 4 6 8\n",
+        "zerocopy 5\n",
+        "zerocopy 1 0\n",
         "len\n",
     ] {
         let played = play(rt.alloc(), input.as_bytes());

@@ -2,6 +2,7 @@ pub mod Fault
 pub mod Lines
 pub mod LinesLaws
 pub mod Words
+pub mod Perhaps
 pub mod WordsView
 pub mod WordsLaws
 pub mod Commands

@@ -2,6 +2,7 @@
 ghost use Rattle.std.specs.Prelude.{◌≡◌, ℕ, ◌∷◌, [], MatchOption, IsTrue, ◌↔◌};
 ghost use Rattle.std.specs.Option.{option_map};
 ghost use Rattle.esync_words.specs.Words.{words_of, parts_of, number, numbers, at_most, bytes_of, first_number, behind, nothing, one, two, row, and_then, number_and_values};
+ghost use Rattle.esync_words.specs.Perhaps.{perhaps, one_or_two};
 
 use arrayvec::ArrayVec;
 use std::marker::Model;
@@ -114,6 +115,50 @@ impl<'a> Words<'a> {
         let number = self.next_number()?;
         let value = self.value()?;
         Some((number, value))
+    }
+
+    // The value that the last word writes, if there is a word.
+    fn value_if_any(mut self) -> Option<Option<u32>>
+        ensures { result ≡ perhaps 32 self.entry }
+    {
+        match self.word() {
+            Some(word) => {
+                let value = read_value(word)?;
+                self.is_over().then_some(Some(value))
+            }
+            None => Some(None),
+        }
+    }
+
+    // The number that the last word writes, if there is a word.
+    fn number_if_any(mut self) -> Option<Option<u64>>
+        ensures { result ≡ perhaps 64 self.entry }
+    {
+        match self.word() {
+            Some(word) => {
+                let number = read_number(word)?;
+                self.is_over().then_some(Some(number))
+            }
+            None => Some(None),
+        }
+    }
+
+    /// A number, and behind it another, if there is a word for one.
+    pub fn one_or_two_numbers(mut self) -> Option<(u64, Option<u64>)>
+        ensures { result ≡ one_or_two 64 64 self.entry }
+    {
+        let first = self.next_number()?;
+        let if_any = self.number_if_any()?;
+        Some((first, if_any))
+    }
+
+    /// A number, and behind it a value, if there is a word for one.
+    pub fn number_and_value_if_any(mut self) -> Option<(u64, Option<u32>)>
+        ensures { result ≡ one_or_two 64 32 self.entry }
+    {
+        let number = self.next_number()?;
+        let if_any = self.value_if_any()?;
+        Some((number, if_any))
     }
 
     /// A number and two values, which the last three words write.

@@ -3,6 +3,7 @@ ghost use Rattle.std.specs.Prelude.{◌≡◌, IfOk, OnErr};
 ghost use Rattle.esync_machine.specs.Runs.{GoodRun};
 ghost use Rattle.esync_machine.specs.Object.{requests_meaning};
 ghost use Rattle.esync_cells.specs.OnceRules.{once_rules, once_wakings};
+ghost use Rattle.esync_cells.specs.OnceSet.{StaysSet};
 
 use super::{InitError, OnceState};
 use esync_base::waitqueue::{Context, Poll, Wakes};
@@ -128,13 +129,15 @@ pub type OnceCommand<T, W> = Command<Get, W, OnceCall<T>>;
 pub type OnceReply<T, W, const K: usize> = Reply<Answer<OnceHeard<T>>, W, K>;
 
 /// Gives the commands to the value, one after another, as `run` does: the answers are those of an optional value, and no wake is
-/// lost, since a poll that finds no value wakes itself.
+/// lost, since a poll that finds no value wakes itself. And a value that was set stays: from a successful `Init` on, until a `Take`,
+/// every answer shows it.
 pub fn run_once<T: Copy, W: Copy + Eq, const REQS: usize, const K: usize>(
     alloc: Global,
     machine: &mut OnceRun<T, W, REQS, K>,
     commands: Vec<OnceCommand<T, W>>,
 ) -> Result<Vec<OnceReply<T, W, K>>, AllocError>
     ensures run { IfOk result (λ replies. GoodRun (requests_meaning (once_rules T) (once_wakings T W) W.eq K) (record { core = machine.old.state; requests = machine.old.requests }) tt commands.items replies.items (record { core = machine.new.state; requests = machine.new.requests }) tt) }
+    ensures set { IfOk result (λ replies. StaysSet commands.items replies.items) }
     ensures refused { OnErr result (machine.new ≡ machine.old) }
 {
     run(alloc, machine, commands)

@@ -30,7 +30,7 @@ turn g c =
       task = c.index_mut-task.result.now;
       left = c.do_act-heard.new.task;
       steps = h.0;
-      over = heard.over;
+      back = heard.back;
       front = c.in-Some.ensures.front;
       there = slice_get_read tasks (length tasks) k c.index_mut-task.result.now refl (omega (arith, c.in-Some.ensures.below, c.self.invariant.orderly.room)) c.index_mut-task.ensures.value;
       act = h.3;
@@ -38,8 +38,8 @@ turn g c =
       tasks = refl;
       queue =
           ap (λ q. q.numbers) c.requeue.ensures
-          ∙ ap (λ ts. requeued ts behind wakers heard.over k) c.deref.ensures.value
-          ∙ ap (λ rs. requeued (slice_set tasks k c.do_act-heard.new.task) behind (wakes_in M rs) heard.over k) (sym h.2);
+          ∙ ap (λ ts. requeued ts behind wakers heard.back k) c.deref.ensures.value
+          ∙ ap (λ rs. requeued (slice_set tasks k c.do_act-heard.new.task) behind (wakes_in M rs) heard.back k) (sym h.2);
     }
 
 pub invariant_of-self-2 : goal.invariant_of-self-2
@@ -47,7 +47,7 @@ invariant_of-self-2 g c =
     let heard = c.do_act-heard.result in
     let wakers = wakes_in g.M.Machine.semantics.meaning (heard.first ∷ option_to_list heard.second) in
     record {
-      orderly = orderly_turn c.self.inside.tasks.items c.deref.result.now c.self.inside.queue c.pop.new.self c.requeue.new.queue c.in-Some.number c.do_act-heard.new.task wakers heard.over c.self.invariant.orderly c.in-Some.ensures.front c.in-Some.ensures.room c.deref.ensures.value c.requeue.ensures;
+      orderly = orderly_turn c.self.inside.tasks.items c.deref.result.now c.self.inside.queue c.pop.new.self c.requeue.new.queue c.in-Some.number c.do_act-heard.new.task wakers heard.back c.self.invariant.orderly c.in-Some.ensures.front c.in-Some.ensures.room c.deref.ensures.value c.requeue.ensures;
       standing = standing_after g.M.Machine.semantics g.M.Awaits.starting g.met.M.Awaits.keeps g.met.M.Awaits.starts (λ v w e. same_task v w (sym (g.met.M.Awaits.same v w) ∙ e)) (before g c) (after g c) (turn g c) c.self.invariant.standing;
     }
 

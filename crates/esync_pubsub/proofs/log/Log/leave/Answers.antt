@@ -1,4 +1,4 @@
-use Rattle.std.proofs.Common.{arith, rules, sym, ◌∙◌, length, ◌≤◌, ◌-◌, ap}
+use Rattle.std.proofs.Common.{arith, rules, sym, ◌∙◌, length, ◌≤◌, ◌-◌}
 use Rattle.esync_pubsub.proofs.Logged.{log_some, log_lowers, log_leave, log_left}
 use Rattle.esync_pubsub.proofs.log.Log.leave.Goals as goal
 

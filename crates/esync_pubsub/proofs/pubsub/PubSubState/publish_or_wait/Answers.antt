@@ -1,4 +1,16 @@
+use Rattle.std.proofs.Common.{rules}
+use Rattle.std.proofs.lemmas.List.{append-nil}
 use Rattle.esync_pubsub.proofs.pubsub.PubSubState.publish_or_wait.Goals as goal
 
+pub register-requires : goal.register-requires
+register-requires g c =
+    let unwoken = rw (c.in-Err-Full.field-0-is, append-nil c.args.wakes.now) at c.in-Err-Full.ensures.wakes in
+    (search rules, (search rules, (c.requires.place, rw unwoken c.requires.publishers)))
+
+pub returns-in-Err-Full-clause-wakes : goal.returns-in-Err-Full-clause-wakes
+returns-in-Err-Full-clause-wakes g c =
+    let unwoken = rw (c.in-Err-Full.field-0-is, append-nil c.args.wakes.now) at c.in-Err-Full.ensures.wakes in
+    rw (c.register.ensures.displaced, unwoken) (search rules)
+
 pub returns-in-Ok-clause-log : goal.returns-in-Ok-clause-log
-returns-in-Ok-clause-log g c = rw (c.tell_news.ensures.state, ← c.self.view_is) c.in-Ok.ensures
+returns-in-Ok-clause-log g c = c.in-Ok.ensures.log

@@ -1,13 +1,13 @@
 use Rattle.std.specs.Prelude.{None, slice_index_or}
 use Rattle.esync_pubsub.specs.Log.{number_of}
 use Rattle.esync_pubsub.proofs.Logged.{log_position, log_lag}
-use Rattle.esync_pubsub.proofs.log.Log.catch_up.Goals as goal
+use Rattle.esync_pubsub.proofs.log.Log.lag_at.Goals as goal
 
 pub invariant_of-self : goal.invariant_of-self
 invariant_of-self g c =
     let a = c.self.inside in
     let live = rw (← c.self.view_is) at c.requires.live in
     let lags = rw (← c.self.view_is) at c.requires.lags in
-    let o = rw (← c.self.view_is) at c.oldest-oldest.ensures in
+    let within = rw (← c.self.view_is) at c.requires.within in
     let at = log_position g.row.CAP g.row.SUBS a.messages.items a.counts.items a.next a.positions.row a.subscribers c.self.invariant c.args.place live in
-    rw (c.put.ensures, o) (log_lag g.row.CAP g.row.SUBS a.messages.items a.counts.items a.next a.positions.row a.subscribers c.self.invariant c.args.place (number_of (slice_index_or a.positions.row c.args.place None)) at lags)
+    rw (c.put.ensures) (log_lag g.row.CAP g.row.SUBS a.messages.items a.counts.items a.next a.positions.row a.subscribers c.self.invariant c.args.place (number_of (slice_index_or a.positions.row c.args.place None)) c.args.number at lags within)

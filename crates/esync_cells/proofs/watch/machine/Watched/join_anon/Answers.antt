@@ -1,0 +1,9 @@
+use Rattle.std.proofs.Common.{sym, ap, ◌∙◌}
+use Rattle.esync_cells.specs.Receivers.{Followed, is_free}
+use Rattle.esync_cells.specs.ReceiversLaws.{counts_joined}
+use Rattle.esync_cells.proofs.watch.machine.Watched.join_anon.Goals as goal
+
+pub invariant_of-self : goal.invariant_of-self
+invariant_of-self g c =
+    let free = ap (λ (s : Followed _ _). is_free c.args.h s.receivers) c.self.view_is ∙ sym c.is_free.ensures ∙ c.if-not-is_free.false in
+    counts_joined g.row.NAMES c.self.inside.state.receivers c.args.h c.self.inside.receivers c.put.new.self c.self.invariant _ free c.put.ensures

@@ -1,0 +1,35 @@
+-- What a read of a shared watch finds, whatever the watch is when the lock is taken.
+use Rattle.std.specs.Prelude.{◌≡◌, ℕ, Bool, true, false, Option, Some, None, Result, nat_lt}
+use Rattle.esync_cells.specs.Watch.{found, Answers, seen_after}
+
+-- what a test may answer of what is there: it isn't asked where nothing is
+abbrev pub Tells : {T : Type 0} → (T → Bool → Type 0) → Option T → Bool → Type 0
+Tells Says None shows = shows ≡ false
+Tells Says (Some v) shows = Says v shows
+
+-- the same of a test that is asked only where there is news
+abbrev pub TellsIf : {T : Type 0} → Bool → (T → Bool → Type 0) → Option T → Bool → Type 0
+TellsIf false Says value shows = shows ≡ false
+TellsIf true Says value shows = Tells Says value shows
+
+-- whether a read shows a value of this version: at any time
+abbrev pub Always : {T : Type 0} → Option T → ℕ → Bool → Type 0
+Always value version shows = shows ≡ true
+
+-- to who has seen an older one
+abbrev pub WhereNewer : {T : Type 0} → ℕ → Option T → ℕ → Bool → Type 0
+WhereNewer seen value version shows = shows ≡ nat_lt seen version
+
+-- where it passes the test
+abbrev pub WherePassing : {T : Type 0} → (T → Bool → Type 0) → Option T → ℕ → Bool → Type 0
+WherePassing Says value version shows = Tells Says value shows
+
+-- where it passes the test, to who has seen an older one
+abbrev pub WhereNewPassing : {T : Type 0} → (T → Bool → Type 0) → ℕ → Option T → ℕ → Bool → Type 0
+WhereNewPassing Says seen value version shows = TellsIf (nat_lt seen version) Says value shows
+
+-- a read of some value and version, which may mark the version even where it finds nothing
+abbrev pub ReadsSome : {T E : Type 0} → (T → T → Type 0) → (T → Type 0) → (Option T → ℕ → Bool → Type 0) → (ℕ → Bool) → ℕ → Result (Option T) E → ℕ → Type 0
+ReadsSome {T} IsClone IsInfallible Shows marks seen result after =
+    (value : Option T) × (version : ℕ) × (shows : Bool)
+    × Shows value version shows × Answers IsClone IsInfallible (found shows value) result × (after ≡ seen_after (marks version) version seen result)

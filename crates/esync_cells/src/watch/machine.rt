@@ -1,0 +1,550 @@
+//! The watch as a machine that takes commands.
+ghost use Rattle.std.specs.Prelude.{◌≡◌, ℕ, ◌+◌, ◌<◌, ◌≤◌, ◌++◌, List, Option, slice_set, [], None, true, false, length, nat_lt, max, IfOk, OnErr};
+ghost use Rattle.std.proofs.Math.ListN.{replicate};
+ghost use Rattle.esync_base.specs.Registration.{registered_if, displaced_if};
+ghost use Rattle.esync_machine.specs.Numbers.{at_number};
+ghost use Rattle.esync_machine.specs.Object.{requests_meaning};
+ghost use Rattle.esync_machine.specs.Runs.{GoodRun};
+ghost use Rattle.esync_machine.specs.Wakings.{IsHanded, polled as poll_handed, called};
+ghost use Rattle.esync_cells.specs.Watch.{Answers, seen_after, polled, waiter_where_pending, counted};
+ghost use Rattle.esync_cells.specs.Receivers.{count, is_counted, is_free, seen_at, with_seen};
+ghost use Rattle.esync_cells.specs.WatchRules.{watch_rules, watch_wakings, watch_of, sought, marks, Polls, Calls, Joins, JoinsAnon, Leaves, TriesGet, Reads, Sends, Modifies, IsReceiving, answer_hands};
+
+use super::{Change, Exhausted, Judge, WatchState};
+use esync_base::waitqueue::{Context, Poll, Wakes};
+use esync_machine::names::Names;
+use esync_machine::primitive::{Answer, Command, Primitive, Reach, Turn};
+use esync_machine::requests::Requests;
+use esync_machine::run::{Reply, run};
+use std::alloc::{AllocError, Global};
+use std::marker::{Model, PhantomData};
+
+/// A receiver: whether it is counted, and the version that it has seen.
+#[derive(Clone, Copy, Debug, PartialEq, Eq)]
+pub struct Seen {
+    pub is_counted: bool,
+    pub version: u64,
+}
+
+/// What a receiver reads.
+#[derive(Clone, Copy, Debug, PartialEq, Eq)]
+pub enum Reading<J> {
+    /// The value.
+    Get,
+    /// The value, if its version is newer than the one that was seen.
+    Changed,
+    /// The value, if it passes the test.
+    GetAnd(J),
+    /// The value, if it passes the test and its version is newer than the one that was seen.
+    ChangedAnd(J),
+}
+
+/// A wait of the counted receiver at a number for what it reads.
+#[derive(Clone, Copy, Debug, PartialEq, Eq)]
+pub struct Await<J> {
+    pub receiver: usize,
+    pub read: Reading<J>,
+}
+
+/// The other calls of a watch.
+#[derive(Clone, Copy, Debug, PartialEq, Eq)]
+pub enum WatchCall<T, C, J> {
+    /// Makes a counted receiver at a free number, if there is room for one more.
+    Receiver(usize),
+    /// Makes an anonymous receiver at a free number.
+    Anon(usize),
+    /// Ends the receiver at the number, and all its requests.
+    Leave(usize),
+    /// Drops the value.
+    Clear,
+    Send(T),
+    /// Changes the value and sends it.
+    Modify(C),
+    /// Changes the value and sends it, if the change tells that there is another one.
+    ModifyIf(C),
+    /// Reads the value for no receiver.
+    TryGet,
+    /// Reads for the receiver at the number.
+    Read(usize, Reading<J>),
+    /// Asks for the version.
+    Id,
+    /// Asks whether there is a value.
+    Contains,
+}
+
+/// What a watch answers.
+#[derive(Clone, Copy, Debug, PartialEq, Eq)]
+pub enum WatchHeard<T> {
+    /// The value that the request waited for.
+    Waited(T),
+    /// Whether there was room for one more counted receiver.
+    Counted(bool),
+    /// Whether the value was sent.
+    Sent(Result<(), Exhausted<T>>),
+    /// Whether the change was made.
+    Modified(Result<(), Exhausted<()>>),
+    /// What a read found.
+    Found(Option<T>),
+    Version(u64),
+    HasValue(bool),
+}
+
+// A poll of any reading.
+fn poll_reading<T: Clone, W: Copy + Eq, J: Judge<T>, const N: usize, const K: usize>(
+    state: &mut WatchState<T, W, N>,
+    read: &Reading<J>,
+    seen: &mut u64,
+    cx: &Context<W>,
+    wakes: &mut Wakes<W, K>,
+) -> Result<Poll<T>, AllocError>
+    requires place { 1 ≤ N }
+    requires room { length wakes.old + N ≤ K }
+    ensures answer { Answers T.is_clone T.is_infallible (sought J.passes state.old.value state.old.version seen.old read.now) (polled result) }
+    ensures seen { seen.new ≡ seen_after false state.old.version seen.old (polled result) }
+    ensures state { state.new ≡ record state.old { waiters = registered_if W.eq N state.old.waiters (waiter_where_pending result cx.now) } }
+    ensures wakes { wakes.new ≡ wakes.old ++ displaced_if W.eq N state.old.waiters (waiter_where_pending result cx.now) }
+    ensures at_most { length wakes.new ≤ length wakes.old + N }
+{
+    match read {
+        Reading::Get => state.poll_get(seen, cx, wakes),
+        Reading::Changed => state.poll_changed(seen, cx, wakes),
+        Reading::GetAnd(judge) => state.poll_get_and(judge, seen, cx, wakes),
+        Reading::ChangedAnd(judge) => state.poll_changed_and(judge, seen, cx, wakes),
+    }
+}
+
+// A try of any reading.
+fn try_reading<T: Clone, W: Copy + Eq, J: Judge<T>, const N: usize>(
+    state: &WatchState<T, W, N>,
+    read: &Reading<J>,
+    seen: &mut u64,
+) -> Result<Option<T>, AllocError>
+    ensures answer { Answers T.is_clone T.is_infallible (sought J.passes state.now.value state.now.version seen.old read.now) result }
+    ensures seen { seen.new ≡ seen_after (marks state.now.version seen.old read.now) state.now.version seen.old result }
+{
+    match read {
+        Reading::Get => state.try_get(seen),
+        Reading::Changed => state.try_changed(seen),
+        Reading::GetAnd(judge) => state.try_get_and(judge, seen),
+        Reading::ChangedAnd(judge) => state.try_changed_and(judge, seen),
+    }
+}
+
+// Counts one receiver less, if this one is counted.
+fn drop_counted<T: Drop, W: Copy + Eq, const N: usize>(
+    state: &mut WatchState<T, W, N>,
+    is_counted: bool,
+)
+    requires { is_counted ≡ true → 1 ≤ state.old.receivers }
+    ensures state { state.new ≡ record state.old { receivers = state.new.receivers } }
+    ensures count { state.old.receivers ≡ counted is_counted state.new.receivers }
+{
+    if is_counted {
+        state.drop_receiver();
+    }
+}
+
+/// A watch with its receivers, at the numbers below `NAMES`; at most `N` are counted.
+#[derive(Drop)]
+pub struct Watched<T, W, C, J, const N: usize, const NAMES: usize> {
+    state: WatchState<T, W, N>,
+    receivers: Names<Seen, NAMES>,
+    change: PhantomData<C>,
+    judge: PhantomData<J>,
+}
+
+impl<T, W, C, J, const N: usize, const NAMES: usize> Model for Watched<T, W, C, J, N, NAMES> {
+    ghost use Rattle.esync_cells.specs.Receivers.{Followed, followed_code, IsCounted};
+
+    ghost Value = { Followed T W };
+
+    ghost coded = { followed_code T.code W.code };
+
+    ghost view = { λ a. record { state = a.state; receivers = a.receivers } };
+
+    ghost invariant = { λ a. IsCounted NAMES a.state.receivers a.receivers };
+}
+
+impl<
+    T: Clone + Drop,
+    W: Copy + Eq,
+    C: Change<T> + Drop,
+    J: Judge<T> + Drop,
+    const N: usize,
+    const NAMES: usize,
+> Watched<T, W, C, J, N, NAMES> {
+    // The version that the receiver at the number has seen, and 0 where there is none.
+    fn seen_at(&self, h: usize) -> u64
+        ensures { result ≡ seen_at self.now.receivers h }
+    {
+        match self.receivers.get(h) {
+            Some(receiver) => receiver.version,
+            None => 0,
+        }
+    }
+
+    // The receiver at the number, if there is one, has seen the version.
+    #[tactic(auto, using(crate::specs::ReceiversLaws::in_table))]
+    fn mark(&mut self, h: usize, version: u64)
+        ensures { self.new ≡ record self.old { receivers = with_seen h version self.old.receivers } }
+    {
+        if let Some(receiver) = self.receivers.get(h) {
+            let marked = Seen {
+                is_counted: receiver.is_counted,
+                version,
+            };
+            self.receivers.put(h, Some(marked));
+        }
+    }
+
+    // The number is one of the table, and free.
+    fn is_free(&self, h: usize) -> bool
+        ensures { result ≡ is_free h self.now.receivers }
+    {
+        h < NAMES && self.receivers.get(h).is_none()
+    }
+    /// A watch without receivers, in this state, in which nobody is counted.
+    pub fn new(state: WatchState<T, W, N>) -> Self
+        requires { state.receivers ≡ 0 }
+        ensures state { result.state ≡ state }
+        ensures receivers { result.receivers ≡ replicate NAMES None }
+    {
+        Watched {
+            state,
+            receivers: Names::new(),
+            change: PhantomData,
+            judge: PhantomData,
+        }
+    }
+
+    // A counted receiver has the number.
+    fn is_counted(&self, h: usize) -> bool
+        ensures { result ≡ is_counted (at_number self.now.receivers h) }
+    {
+        match self.receivers.get(h) {
+            Some(receiver) => receiver.is_counted,
+            None => false,
+        }
+    }
+
+    // Where a counted receiver is, there is a place for a waker. This says so, and does nothing.
+    fn has_place(&self, h: usize)
+        requires { is_counted (at_number self.now.receivers h) ≡ true }
+        ensures { 1 ≤ N }
+    {
+        let _counted = self.state.receivers();
+        let _receiver = self.receivers.get(h);
+    }
+
+    // What a poll does.
+    fn turn<const K: usize>(
+        &mut self,
+        held: Await<J>,
+        cx: &Context<W>,
+        wakes: &mut Wakes<W, K>,
+    ) -> Turn<WatchHeard<T>, Await<J>>
+        requires empty { wakes.old ≡ [] }
+        requires room { N ≤ K }
+        requires fits { IsReceiving (watch_of self.old) held }
+        ensures allowed { Polls T.is_clone T.is_infallible J.passes (watch_of self.old) held result.answer (watch_of self.new) result.place }
+        ensures exact { IsHanded (poll_handed (watch_wakings W.eq N C.tells) (watch_of self.old) self.old.state.waiters held cx.now result.answer result.place) wakes.new self.new.state.waiters }
+    {
+        self.has_place(held.receiver);
+        let mut seen = self.seen_at(held.receiver);
+        match poll_reading(&mut self.state, &held.read, &mut seen, cx, wakes) {
+            Ok(Poll::Ready(value)) => {
+                self.mark(held.receiver, seen);
+                Turn::over(WatchHeard::Waited(value))
+            }
+            Ok(Poll::Pending) => Turn::waits(held),
+            Err(AllocError) => Turn {
+                answer: Answer::NoMemory,
+                place: Some(held),
+            },
+        }
+    }
+
+    // A counted receiver comes.
+    fn join(&mut self, h: usize) -> Answer<WatchHeard<T>>
+        ensures allowed { Joins (is_free h self.old.receivers) (nat_lt (count self.old.receivers) N) h (watch_of self.old) result (watch_of self.new) }
+        ensures waiters { self.new.state.waiters ≡ self.old.state.waiters }
+    {
+        if !self.is_free(h) {
+            return Answer::NoSuch;
+        }
+        if !self.state.add_receiver() {
+            return Answer::Gives(WatchHeard::Counted(false));
+        }
+        let receiver = Seen {
+            is_counted: true,
+            version: 0,
+        };
+        self.receivers.put(h, Some(receiver));
+        Answer::Gives(WatchHeard::Counted(true))
+    }
+
+    // An anonymous receiver comes.
+    fn join_anon(&mut self, h: usize) -> Answer<WatchHeard<T>>
+        ensures allowed { JoinsAnon (is_free h self.old.receivers) h (watch_of self.old) result (watch_of self.new) }
+        ensures waiters { self.new.state.waiters ≡ self.old.state.waiters }
+    {
+        if !self.is_free(h) {
+            return Answer::NoSuch;
+        }
+        let receiver = Seen {
+            is_counted: false,
+            version: 0,
+        };
+        self.receivers.put(h, Some(receiver));
+        Answer::Done
+    }
+
+    // The receiver at the number leaves.
+    #[tactic(auto, using(crate::specs::ReceiversLaws::in_table))]
+    fn leave(&mut self, h: usize) -> Answer<WatchHeard<T>>
+        ensures allowed { Leaves (at_number self.old.receivers h) h (watch_of self.old) result (watch_of self.new) }
+        ensures waiters { self.new.state.waiters ≡ self.old.state.waiters }
+    {
+        let Some(receiver) = self.receivers.get(h) else {
+            return Answer::NoSuch;
+        };
+        drop_counted(&mut self.state, receiver.is_counted);
+        self.receivers.put(h, None);
+        Answer::Done
+    }
+
+    // A try of the watch itself.
+    fn try_get(&self) -> Answer<WatchHeard<T>>
+        ensures { TriesGet T.is_clone T.is_infallible (watch_of self.now) result (watch_of self.now) }
+    {
+        let mut seen = 0;
+        match self.state.try_get(&mut seen) {
+            Ok(found) => Answer::Gives(WatchHeard::Found(found)),
+            Err(AllocError) => Answer::NoMemory,
+        }
+    }
+
+    // A try of the receiver at the number.
+    fn read(&mut self, h: usize, read: &Reading<J>) -> Answer<WatchHeard<T>>
+        ensures allowed { Reads T.is_clone T.is_infallible J.passes (at_number self.old.receivers h) h read.now (watch_of self.old) result (watch_of self.new) }
+        ensures waiters { self.new.state.waiters ≡ self.old.state.waiters }
+    {
+        let Some(receiver) = self.receivers.get(h) else {
+            return Answer::NoSuch;
+        };
+        let mut seen = receiver.version;
+        match try_reading(&self.state, read, &mut seen) {
+            Ok(found) => {
+                self.mark(h, seen);
+                Answer::Gives(WatchHeard::Found(found))
+            }
+            Err(AllocError) => Answer::NoMemory,
+        }
+    }
+
+    // What a call does that puts a value.
+    fn send<const K: usize>(&mut self, value: T, wakes: &mut Wakes<W, K>) -> Answer<WatchHeard<T>>
+        requires empty { wakes.old ≡ [] }
+        requires room { N ≤ K }
+        ensures allowed { Sends value (watch_of self.old) result (watch_of self.new) }
+        ensures exact { IsHanded (answer_hands true result self.old.state.waiters) wakes.new self.new.state.waiters }
+    {
+        Answer::Gives(WatchHeard::Sent(self.state.send(value, wakes)))
+    }
+
+    // What a call does that changes the value.
+    fn modify<const K: usize>(
+        &mut self,
+        change: &C,
+        wakes: &mut Wakes<W, K>,
+    ) -> Answer<WatchHeard<T>>
+        requires empty { wakes.old ≡ [] }
+        requires room { N ≤ K }
+        ensures allowed { Modifies (C.changed change.now self.old.state.value) true (watch_of self.old) result (watch_of self.new) }
+        ensures exact { IsHanded (answer_hands true result self.old.state.waiters) wakes.new self.new.state.waiters }
+    {
+        Answer::Gives(WatchHeard::Modified(self.state.send_modify(change, wakes)))
+    }
+
+    // What a call does that changes the value where the change tells that there is another.
+    fn modify_if<const K: usize>(
+        &mut self,
+        change: &C,
+        wakes: &mut Wakes<W, K>,
+    ) -> Answer<WatchHeard<T>>
+        requires empty { wakes.old ≡ [] }
+        requires room { N ≤ K }
+        ensures allowed { Modifies (C.changed change.now self.old.state.value) (C.tells change.now self.old.state.value) (watch_of self.old) result (watch_of self.new) }
+        ensures exact { IsHanded (answer_hands (C.tells change.now self.old.state.value) result self.old.state.waiters) wakes.new self.new.state.waiters }
+    {
+        Answer::Gives(WatchHeard::Modified(self.state.send_if_modified(change, wakes)))
+    }
+
+    // What a call does.
+    fn perform<const K: usize>(
+        &mut self,
+        call: WatchCall<T, C, J>,
+        wakes: &mut Wakes<W, K>,
+    ) -> Answer<WatchHeard<T>>
+        requires empty { wakes.old ≡ [] }
+        requires room { N ≤ K }
+        ensures allowed { Calls N T.is_clone T.is_infallible C.changed C.tells J.passes (watch_of self.old) call result (watch_of self.new) }
+        ensures exact { IsHanded (called (watch_wakings W.eq N C.tells) (watch_of self.old) self.old.state.waiters call None result) wakes.new self.new.state.waiters }
+    {
+        match call {
+            WatchCall::Receiver(h) => self.join(h),
+            WatchCall::Anon(h) => self.join_anon(h),
+            WatchCall::Leave(h) => self.leave(h),
+            WatchCall::Clear => {
+                self.state.clear();
+                Answer::Done
+            }
+            WatchCall::Send(value) => self.send(value, wakes),
+            WatchCall::Modify(change) => self.modify(&change, wakes),
+            WatchCall::ModifyIf(change) => self.modify_if(&change, wakes),
+            WatchCall::TryGet => self.try_get(),
+            WatchCall::Read(h, read) => self.read(h, &read),
+            WatchCall::Id => Answer::Gives(WatchHeard::Version(self.state.get_msg_id())),
+            WatchCall::Contains => {
+                Answer::Gives(WatchHeard::HasValue(self.state.contains_value()))
+            }
+        }
+    }
+}
+
+impl<
+    T: Clone + Drop,
+    W: Copy + Eq,
+    C: Change<T> + Drop,
+    J: Judge<T> + Drop,
+    const N: usize,
+    const NAMES: usize,
+    const K: usize,
+> Primitive<K> for Watched<T, W, C, J, N, NAMES> {
+    type Ask = Await<J>;
+
+    type Held = Await<J>;
+
+    type Call = WatchCall<T, C, J>;
+
+    type Heard = WatchHeard<T>;
+
+    type Waker = W;
+
+    ghost use Rattle.esync_cells.specs.WatchRules.{watch_rules, watch_wakings, watch_of, IsReceiving, OwesNews};
+    ghost use Rattle.esync_cells.specs.WatchLaws.{watch_idle, watch_pending};
+
+    ghost rules = { watch_rules N T.is_clone T.is_infallible C.changed C.tells J.passes };
+
+    ghost core = { watch_of };
+
+    ghost wakings = { watch_wakings W.eq N C.tells };
+
+    ghost registrations = { λ m. m.state.waiters };
+
+    ghost most = { max N 1 };
+
+    ghost Owes = { λ m held w. OwesNews J.passes W.eq (watch_of m) m.state.waiters held w };
+
+    ghost Fits = { λ m held. IsReceiving (watch_of m) held };
+
+    ghost Apart = { λ held other. Unit };
+
+    fn begin(&self, ask: Await<J>) -> Option<Await<J>> {
+        if self.is_counted(ask.receiver) {
+            Some(ask)
+        } else {
+            None
+        }
+    }
+
+    fn poll(
+        &mut self,
+        held: Await<J>,
+        waker: W,
+        wakes: &mut Wakes<W, K>,
+    ) -> Turn<WatchHeard<T>, Await<J>> {
+        self.turn(held, &Context::from_waker(waker), wakes)
+    }
+
+    fn end(&mut self, _held: Await<J>, _wakes: &mut Wakes<W, K>) {}
+
+    fn reach(call: &WatchCall<T, C, J>) -> Reach {
+        match call {
+            WatchCall::Leave(_) => Reach::Leavers,
+            _ => Reach::Nobody,
+        }
+    }
+
+    fn leaves(&self, call: &WatchCall<T, C, J>, held: &Await<J>) -> bool {
+        match call {
+            WatchCall::Leave(h) => held.receiver == *h && self.receivers.get(*h).is_some(),
+            _ => false,
+        }
+    }
+
+    fn call(
+        &mut self,
+        call: WatchCall<T, C, J>,
+        _place: &mut Option<Await<J>>,
+        wakes: &mut Wakes<W, K>,
+    ) -> Answer<WatchHeard<T>> {
+        self.perform(call, wakes)
+    }
+
+    ghost idle = { λ m held w f owes. watch_idle N T.is_clone T.is_infallible C.changed C.tells J.passes W.eq (watch_of m) m.state.waiters held w owes };
+
+    ghost pending = { watch_pending N T.is_clone T.is_infallible C.changed C.tells J.passes };
+
+    ghost no_such = { λ o h a o2 p n k. absurd (n tt) };
+
+    ghost symmetric = { λ h k a. tt };
+
+    ghost use Rattle.esync_machine.specs.RulesLaws.{all_requests};
+
+    ghost no_requests = { all_requests (watch_rules N T.is_clone T.is_infallible C.changed C.tells J.passes) (λ h. tt) (λ o o2 call p p2 a c. c.1) };
+}
+
+/// A watch as a machine, with requests at the numbers below `REQS`, and receivers at those below `NAMES`, of which at most `N` are
+/// counted.
+pub type WatchRun<
+    T,
+    W,
+    C,
+    J,
+    const N: usize,
+    const NAMES: usize,
+    const REQS: usize,
+    const K: usize,
+> = Requests<Watched<T, W, C, J, N, NAMES>, REQS, K>;
+
+/// The commands of a watch.
+pub type WatchCommand<T, W, C, J> = Command<Await<J>, W, WatchCall<T, C, J>>;
+
+/// What a watch answers to a command, with the wakers that it hands out.
+pub type WatchReply<T, W, const K: usize> = Reply<Answer<WatchHeard<T>>, W, K>;
+
+/// Gives the commands to the watch, one after another, as `run` does.
+///
+/// Each answer is one that the latest value with its version, and what each receiver has seen, allow. No live request that last
+/// heard Pending would now be answered Ready, unless its waker was handed out in that poll or since. And no Pending poll that
+/// changes nothing hands out its own waker.
+pub fn run_watch<
+    T: Clone + Drop,
+    W: Copy + Eq,
+    C: Change<T> + Drop,
+    J: Judge<T> + Drop,
+    const N: usize,
+    const NAMES: usize,
+    const REQS: usize,
+    const K: usize,
+>(
+    alloc: Global,
+    machine: &mut WatchRun<T, W, C, J, N, NAMES, REQS, K>,
+    commands: Vec<WatchCommand<T, W, C, J>>,
+) -> Result<Vec<WatchReply<T, W, K>>, AllocError>
+    ensures run { IfOk result (λ replies. GoodRun (requests_meaning (watch_rules N T.is_clone T.is_infallible C.changed C.tells J.passes) (watch_wakings W.eq N C.tells) W.eq K) (record { core = watch_of machine.old.state; requests = machine.old.requests }) machine.old.state.state.waiters commands.items replies.items (record { core = watch_of machine.new.state; requests = machine.new.requests }) machine.new.state.state.waiters) }
+    ensures refused { OnErr result (machine.new ≡ machine.old) }
+{
+    run(alloc, machine, commands)
+}

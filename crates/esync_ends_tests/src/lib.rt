@@ -1,0 +1,5 @@
+//! Ends at every point of the scripts that the documents show.
+#![tactic(auto)]
+
+#[cfg(test)]
+mod ends;

@@ -1,0 +1,96 @@
+use esync_base::waitqueue::Hand;
+use esync_guards::mutex::{Mutex, TryLockError};
+use std::process::Abort;
+use std::sync::Wait;
+use std::sync::atomic::{AtomicU32, Ordering};
+use std::thread;
+
+// A hand that wakes nobody: nobody waits here.
+#[derive(Drop)]
+struct Deaf<'a, R> {
+    rt: &'a R,
+}
+
+impl<R: Wait> Hand<u64> for Deaf<'_, R> {
+    type Rt = R;
+
+    fn rt(&self) -> &R {
+        self.rt
+    }
+
+    fn wake(&self, _waker: u64) {}
+}
+
+// Adds one under the lock, so many times. It tries until it has the lock.
+fn adds<H: Hand<u64>>(rt: &impl Wait, mutex: &Mutex<u32, u64, H>, rounds: u32) {
+    for _round in 0..rounds {
+        for _try in rt.forever() {
+            if let Ok(mut guard) = mutex.try_lock() {
+                let value = guard.get_mut();
+                *value = value.wrapping_add(1);
+                break;
+            }
+        }
+    }
+}
+
+#[test]
+fn what_two_threads_add_under_the_lock_is_all_there(rt: HostRuntime) {
+    let mutex = Mutex::new(0u32, Deaf { rt: &rt });
+    let shared = &mutex;
+    let here = &rt;
+    thread::scope(thread::scope_env(), here, |scope| {
+        for _thread in 0..2 {
+            if scope.spawn(move || adds(here, shared, 10_000)).is_err() {
+                adds(here, shared, 10_000);
+            }
+        }
+    });
+    assert_eq!(rt; mutex.into_inner(), 20_000);
+}
+
+const NOT_TRIED: u32 = 0;
+
+const REFUSED: u32 = 1;
+
+const LOCKED: u32 = 2;
+
+// Tries the lock, and tells by the flag what it was answered.
+fn tells<H: Hand<u64>>(mutex: &Mutex<u32, u64, H>, flag: &AtomicU32) {
+    let heard = match mutex.try_lock() {
+        Ok(_guard) => LOCKED,
+        Err(TryLockError) => REFUSED,
+    };
+    flag.store(heard, Ordering::SeqCst);
+}
+
+// Reads the flag until it tells something, at most so many times.
+fn awaits(flag: &AtomicU32, reads: u32) -> u32 {
+    for _read in 0..reads {
+        let told = flag.load(Ordering::SeqCst);
+        if told != NOT_TRIED {
+            return told;
+        }
+    }
+    NOT_TRIED
+}
+
+#[test]
+fn another_thread_is_refused_while_a_guard_reads_and_writes(rt: HostRuntime) {
+    let mutex = Mutex::new(1u32, Deaf { rt: &rt });
+    let flag = AtomicU32::new(NOT_TRIED);
+    let (shared, told, here) = (&mutex, &flag, &rt);
+    thread::scope(thread::scope_env(), here, |scope| {
+        let Ok(mut guard) = shared.try_lock() else {
+            here.abort()
+        };
+        if scope.spawn(move || tells(shared, told)).is_err() {
+            here.abort()
+        }
+        *guard.get_mut() = 7;
+        assert_eq!(here; awaits(told, 50_000_000), REFUSED);
+        assert_eq!(here; *guard.get(), 7);
+        guard.end();
+    });
+    assert_eq!(rt; mutex.into_inner(), 7);
+}

@@ -1,0 +1,71 @@
+-- A subscriber at another position, and a log in which it caught up.
+use Rattle.std.proofs.Common.{◌≡◌, ℕ, ◌-◌, ◌<◌, ◌≤◌, true, false, List, length, refl, sym, ◌∙◌, ap, arith}
+use Rattle.std.specs.Prelude.{Option, Some, None, is_some, nat_lt, slice_set, slice_index_or}
+use Rattle.std.proofs.lemmas.Bool.Decides.{nat_tests}
+use Rattle.std.proofs.lemmas.List.{set-set, set-get_or, get_or-set_same}
+use Rattle.esync_pubsub.specs.Log.{Log, number_of, is_read, oldest, position, is_live, is_last, moved, lags, gap, caught, Reads, IsRefused}
+use Rattle.esync_pubsub.specs.PubSub.{frees}
+use Rattle.esync_pubsub.specs.declared.pubsub.WaitResult.TheVariants.{Lagged}
+use Rattle.esync_pubsub.proofs.Logged.{place_below}
+
+module _ {T : Type 0} (place : ℕ) (log : Log T) where
+  -- moved again, as if it had been moved there at once
+  moved_again : (p q : ℕ) → moved place q (moved place p log) ≡ moved place q log
+  moved_again p q = (let f : List (Option ℕ) → Log T = λ ps. record { held = log.held; next = log.next; positions = ps } in ap f (set-set log.positions place (Some p) (Some q)))
+
+  -- moved to where it is
+  moved_there : (p : ℕ) → slice_index_or log.positions place None ≡ Some p → moved place p log ≡ log
+  moved_there p e = (let f : List (Option ℕ) → Log T = λ ps. record { held = log.held; next = log.next; positions = ps } in ap (λ q. f (slice_set log.positions place q)) (sym e) ∙ ap f (set-get_or log.positions place None))
+
+  -- moved, and back
+  pub moved_back : (p q : ℕ) → slice_index_or log.positions place None ≡ Some p → moved place p (moved place q log) ≡ log
+  moved_back p q e = moved_again q p ∙ moved_there p e
+
+  module _ (live : is_live place log ≡ true) where
+    pub moved_at : (q : ℕ) → slice_index_or (moved place q log).positions place None ≡ Some q
+    moved_at q = get_or-set_same log.positions place (Some q) None (place_below log.positions place live)
+
+    pub moved_live : (q : ℕ) → is_live place (moved place q log) ≡ true
+    moved_live q = ap is_some (moved_at q)
+
+    pub moved_position : (q : ℕ) → position place (moved place q log) ≡ q
+    moved_position q = ap number_of (moved_at q)
+
+    -- at the oldest message
+    pub moved_up : (q : ℕ) → q ≡ oldest log → oldest (moved place q log) ≤ position place (moved place q log)
+    moved_up q e = omega (arith, moved_position q, e)
+
+    pub moved_down : (q : ℕ) → q ≡ oldest log → position place (moved place q log) ≤ oldest (moved place q log)
+    moved_down q e = omega (arith, moved_position q, e)
+
+  -- others read what they read
+  pub moved_last : (n q : ℕ) → is_last place n (moved place q log) ≡ is_last place n log
+  moved_last n q = ap (is_read n) (set-set log.positions place (Some q) None)
+
+  -- a clone that is refused once the subscriber was moved
+  pub refused_moved : (I : T → Type 0) (n q : ℕ) → IsRefused I place n (moved place q log) → IsRefused I place n log
+  refused_moved I n q r = record { from = r.from; shared = sym (moved_last n q) ∙ r.shared; fails = r.fails }
+
+  pub caught_lagging : position place log < oldest log → caught place log ≡ moved place (oldest log) log
+  caught_lagging l = (let e : lags place log ≡ true = grind (arith, nat_tests) in rw e refl)
+
+  pub caught_up : oldest log ≤ position place log → caught place log ≡ log
+  caught_up l = (let e : lags place log ≡ false = grind (arith, nat_tests) in rw e refl)
+
+  module _ (C : T → T → Type 0) (log2 : Log T) where
+    -- a lag was read
+    pub lag_read : (k : ℕ) → Reads C place log (Some (Lagged k)) log2 → lags place log ≡ true
+    lag_read k r = (let l : position place log < oldest log = r.0 in grind (arith, nat_tests))
+
+    pub lag_frees : (k : ℕ) → Reads C place log (Some (Lagged k)) log2 → frees log log2 ≡ false
+    lag_frees k r = rw r.2 (let e : nat_lt (length log.held) (length log.held) ≡ false = grind (arith, nat_tests) in e)
+
+    pub lag_gap : (k : ℕ) → Reads C place log (Some (Lagged k)) log2 → Reads C place log (gap (lags place log) (oldest log - position place log)) log2
+    lag_gap k r = rw (lag_read k r) (r.0, refl, r.2)
+
+    -- all was read
+    pub end_read : Reads C place log None log2 → lags place log ≡ false
+    end_read r = (let l : oldest log ≤ position place log = omega (arith, r.0) in grind (arith, nat_tests))
+
+    pub end_gap : Reads C place log None log2 → Reads C place log (gap (lags place log) (oldest log - position place log)) log2
+    end_gap r = rw (end_read r) r

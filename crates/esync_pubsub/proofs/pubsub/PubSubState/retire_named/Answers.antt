@@ -1,0 +1,21 @@
+use Rattle.std.proofs.Common.{rules, sym, ◌∙◌}
+use Rattle.esync_machine.specs.Numbers.{at_number}
+use Rattle.esync_pubsub.proofs.Named.{one_counted, publisher_below, some_there, named_retire}
+use Rattle.esync_pubsub.proofs.pubsub.PubSubState.retire_named.Goals as goal
+
+pub remove_publisher-requires : goal.remove_publisher-requires
+remove_publisher-requires g c =
+    let here = sym c.is_publisher.ensures ∙ c.if-not-is_publisher.false in
+    (search rules, one_counted g.row.CAP g.row.PUBS g.row.NAMES c.args.self.now c.args.tables.now c.requires.named c.args.p here)
+
+pub put_publisher-requires : goal.put_publisher-requires
+put_publisher-requires g c =
+    let here = sym c.is_publisher.ensures ∙ c.if-not-is_publisher.false in
+    (search rules, publisher_below g.row.CAP g.row.PUBS g.row.NAMES c.args.self.now c.args.tables.now c.requires.named c.args.p here)
+
+pub returns-clause-named : goal.returns-clause-named
+returns-clause-named g c =
+    let here = sym c.is_publisher.ensures ∙ c.if-not-is_publisher.false in
+    let named = some_there (at_number c.args.tables.now.publishers c.args.p) here in
+    rw c.put_publisher.ensures
+    (named_retire g.row.CAP g.row.PUBS g.row.NAMES c.args.self.now c.remove_publisher.new.self c.args.tables.now.subscribers c.args.tables.now.publishers c.requires.named c.args.p named.0 named.1 c.remove_publisher.ensures)

@@ -1,0 +1,20 @@
+use Rattle.std.proofs.Common.{Some, ap}
+use Rattle.esync_pubsub.proofs.Reading.{read_below, refused_below, read_handed, alone}
+use Rattle.esync_pubsub.proofs.pubsub.PubSubState.turn_message.Goals as goal
+
+pub returns-in-Ok-Ready-clause-allowed : goal.returns-in-Ok-Ready-clause-allowed
+returns-in-Ok-Ready-clause-allowed g c =
+    let h = rw c.in-Ok-Ready.field-0-is at c.in-Ok-Ready.ensures.ok in
+    rw c.over.ensures.answer (read_below g.T.Clone.is_clone c.args.id.now c.args.self.now.log _ (Some c.in-Ok-Ready.answer) c.numbered.ensures h, h)
+
+pub returns-in-Ok-Ready-clause-exact : goal.returns-in-Ok-Ready-clause-exact
+returns-in-Ok-Ready-clause-exact g c =
+    let h = rw c.in-Ok-Ready.field-0-is at c.in-Ok-Ready.ensures.ok in
+    let wakes = rw c.in-Ok-Ready.field-0-is at c.in-Ok-Ready.ensures.wakes in
+    let lists = rw c.in-Ok-Ready.field-0-is at (ap (λ x. x.lists) c.in-Ok-Ready.ensures.rest) in
+    rw c.over.ensures.answer (read_handed g.W.PartialEq.eq g.row.SUBS g.row.PUBS c.args.id.now c.args.self.now.log _ c.args.self.now.lists _ _ g.T.Clone.is_clone (Some c.args.cx.now) (Some c.in-Ok-Ready.answer) h (alone c.args.wakes.now _ _ wakes c.requires.empty) lists)
+
+pub returns-in-Err-clause-allowed : goal.returns-in-Err-clause-allowed
+returns-in-Err-clause-allowed g c =
+    let h = c.in-Err.ensures.refused in
+    rw c.refused.ensures.answer (refused_below g.T.Clone.is_infallible c.args.id.now _ c.args.self.now.log c.numbered.ensures h, h, ap (λ x. x.log) c.in-Err.ensures.unchanged)

@@ -1,0 +1,37 @@
+use Rattle.std.proofs.Common.{rules, sym, ◌∙◌}
+use Rattle.esync_pubsub.specs.PubSubRules.{topic_of}
+use Rattle.esync_pubsub.proofs.Turns.{message_log, message_hands, pure_log, pure_poll_hands, stream_log, stream_poll_hands}
+use Rattle.esync_pubsub.proofs.pubsub.PubSubState.turn_named.Goals as goal
+
+pub has_publisher-requires : goal.has_publisher-requires
+has_publisher-requires g c = (search rules, (search rules, (c.requires.named, rw c.in-Publish.is at c.requires.fits)))
+
+pub returns-in-Some-clause-allowed : goal.returns-in-Some-clause-allowed
+returns-in-Some-clause-allowed g c =
+    let here = sym c.subscriber.ensures.place ∙ c.in-Some.is in
+    message_log g.T.Clone.is_clone g.T.Clone.is_infallible g.row.CAP g.row.SUBS g.row.PUBS g.W.PartialEq.eq (topic_of c.args.self.now c.args.tables.now) c.args.self.now.lists c.turn_message.new.self.lists c.args.cx.now c.turn_message.new.wakes c.turn_message.result.answer c.turn_message.new.self.log c.args.held c.in-Message.s c.in-Some.id here c.in-Message.is c.turn_message.ensures.allowed
+
+pub returns-in-Some-clause-exact : goal.returns-in-Some-clause-exact
+returns-in-Some-clause-exact g c =
+    let here = sym c.subscriber.ensures.place ∙ c.in-Some.is in
+    message_hands g.T.Clone.is_clone g.T.Clone.is_infallible g.row.CAP g.row.SUBS g.row.PUBS g.W.PartialEq.eq (topic_of c.args.self.now c.args.tables.now) c.args.self.now.lists c.turn_message.new.self.lists c.args.cx.now c.turn_message.new.wakes c.turn_message.result.answer c.turn_message.new.self.log c.args.held c.in-Message.s c.in-Some.id here c.in-Message.is c.turn_message.ensures.exact
+
+pub returns-in-Some-subscriber-clause-allowed : goal.returns-in-Some-subscriber-clause-allowed
+returns-in-Some-subscriber-clause-allowed g c =
+    let here = sym c.subscriber-in-MessagePure.ensures.place ∙ c.in-Some-subscriber.is in
+    pure_log g.T.Clone.is_clone g.T.Clone.is_infallible g.row.CAP g.row.SUBS g.row.PUBS g.W.PartialEq.eq (topic_of c.args.self.now c.args.tables.now) c.args.self.now.lists c.turn_pure.new.self.lists c.args.cx.now c.turn_pure.new.wakes c.turn_pure.result.answer c.turn_pure.new.self.log c.args.held c.in-MessagePure.s c.in-Some-subscriber.id here c.in-MessagePure.is c.turn_pure.ensures.allowed
+
+pub returns-in-Some-subscriber-clause-exact : goal.returns-in-Some-subscriber-clause-exact
+returns-in-Some-subscriber-clause-exact g c =
+    let here = sym c.subscriber-in-MessagePure.ensures.place ∙ c.in-Some-subscriber.is in
+    pure_poll_hands g.T.Clone.is_clone g.T.Clone.is_infallible g.row.CAP g.row.SUBS g.row.PUBS g.W.PartialEq.eq (topic_of c.args.self.now c.args.tables.now) c.args.self.now.lists c.turn_pure.new.self.lists c.args.cx.now c.turn_pure.new.wakes c.turn_pure.result.answer c.turn_pure.new.self.log c.args.held c.in-MessagePure.s c.in-Some-subscriber.id here c.in-MessagePure.is c.turn_pure.ensures.exact
+
+pub returns-in-Some-subscriber-2-clause-allowed : goal.returns-in-Some-subscriber-2-clause-allowed
+returns-in-Some-subscriber-2-clause-allowed g c =
+    let here = sym c.subscriber-in-Stream.ensures.place ∙ c.in-Some-subscriber-2.is in
+    stream_log g.T.Clone.is_clone g.T.Clone.is_infallible g.row.CAP g.row.SUBS g.row.PUBS g.W.PartialEq.eq (topic_of c.args.self.now c.args.tables.now) c.args.self.now.lists c.turn_stream.new.self.lists c.args.cx.now c.turn_stream.new.wakes c.turn_stream.result.answer c.turn_stream.new.self.log c.args.held c.in-Stream.s c.in-Some-subscriber-2.id here c.in-Stream.is c.turn_stream.ensures.allowed
+
+pub returns-in-Some-subscriber-2-clause-exact : goal.returns-in-Some-subscriber-2-clause-exact
+returns-in-Some-subscriber-2-clause-exact g c =
+    let here = sym c.subscriber-in-Stream.ensures.place ∙ c.in-Some-subscriber-2.is in
+    stream_poll_hands g.T.Clone.is_clone g.T.Clone.is_infallible g.row.CAP g.row.SUBS g.row.PUBS g.W.PartialEq.eq (topic_of c.args.self.now c.args.tables.now) c.args.self.now.lists c.turn_stream.new.self.lists c.args.cx.now c.turn_stream.new.wakes c.turn_stream.result.answer c.turn_stream.new.self.log c.args.held c.in-Stream.s c.in-Some-subscriber-2.id here c.in-Stream.is c.turn_stream.ensures.exact

@@ -1,0 +1,7 @@
+use Rattle.std.proofs.Common.{rules}
+use Rattle.esync_pubsub.proofs.Shared.{room_subscribers}
+use Rattle.esync_pubsub.proofs.pubsub.shared.PubSubStateLogState.publish_immediate.Goals as goal
+
+pub publish_immediate-requires : goal.publish_immediate-requires
+publish_immediate-requires g c =
+    (search rules, (search rules, room_subscribers g.row.SUBS g.row.PUBS g.row.K c.args.wakes.now c.requires.room c.requires.empty))

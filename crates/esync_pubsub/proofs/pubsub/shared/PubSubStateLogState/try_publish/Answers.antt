@@ -1,0 +1,7 @@
+use Rattle.std.proofs.Common.{rules}
+use Rattle.esync_pubsub.proofs.Shared.{room_subscribers}
+use Rattle.esync_pubsub.proofs.pubsub.shared.PubSubStateLogState.try_publish.Goals as goal
+
+pub try_publish-requires : goal.try_publish-requires
+try_publish-requires g c =
+    (search rules, (search rules, room_subscribers g.row.SUBS g.row.PUBS g.row.K c.args.wakes.now c.requires.room c.requires.empty))

@@ -1,0 +1,930 @@
+//! Publishers and subscribers with numbers, as a machine that takes commands.
+ghost use Rattle.std.specs.Prelude.{◌≡◌, ℕ, ◌+◌, ◌-◌, ◌<◌, ◌≤◌, IsTrue, [], true, Some, None, is_some, length, slice_set, IfSome, IfOk, OnErr};
+ghost use Rattle.std.proofs.Math.ListN.{replicate};
+ghost use Rattle.esync_machine.specs.Numbers.{at_number};
+ghost use Rattle.esync_machine.specs.Object.{requests_meaning};
+ghost use Rattle.esync_machine.specs.Runs.{GoodRun};
+ghost use Rattle.esync_machine.specs.Wakings.{IsHanded, unless_refused};
+ghost use Rattle.esync_pubsub.specs.Events.{AreNamed};
+ghost use Rattle.esync_pubsub.specs.Log.{Log, is_live, position, left};
+ghost use Rattle.esync_pubsub.specs.PubSub.{PubSub, fresh, frees};
+ghost use Rattle.esync_pubsub.specs.PubSubRules.{topic_of, is_free, is_subscriber, is_publisher, is_of_subscriber, is_of_publisher, leaves, place_at, names_it, departed, most_wakes, Where, WithLog, Comes, Counts, TriesPublish, AtOnce, Tries, TriesPure, Calls, Polls, room_hands, immediate_of, immediate_hands, call_hands, reach, rest_of, publish_of, read_of, pure_of, stream_of, publish_hands, read_hands, pure_hands, stream_hands, poll_hands, pubsub_rules, pubsub_wakings, PollsPublish, PollsMessage, PollsPure, PollsStream, PollsLog};
+
+use super::{Error, Exhausted, PubSubState, SubId, TryPublishError, WaitResult};
+use esync_base::waitqueue::{Context, Poll, Wakes};
+use esync_machine::names::Names;
+use esync_machine::primitive::{Answer, Command, Primitive, Reach, Turn};
+use esync_machine::requests::Requests;
+use esync_machine::run::{Reply, run};
+use std::alloc::{AllocError, Global};
+use std::marker::Model;
+
+/// What a request of a subscriber or a publisher waits for. The first part of each is the number of whom it belongs to.
+#[derive(Clone, Copy, Debug, PartialEq, Eq)]
+pub enum PubSubAsk<T> {
+    /// To publish a message, once there is room.
+    Publish(usize, T),
+    /// For the next message, or to hear how many are gone.
+    Message(usize),
+    /// For the next message that is held.
+    MessagePure(usize),
+    /// For the next message of a stream, which wakes itself where messages are gone.
+    Stream(usize),
+}
+
+/// The other calls.
+#[derive(Clone, Copy, Debug, PartialEq, Eq)]
+pub enum PubSubCall<T> {
+    /// A subscriber comes under a free number.
+    Join(usize),
+    /// The subscriber leaves, and its requests end.
+    Leave(usize),
+    /// A publisher comes under a free number.
+    Publisher(usize),
+    /// The publisher leaves, and its requests end.
+    Retire(usize),
+    /// Publishes a message through the publisher, if there is room.
+    TryPublish(usize, T),
+    /// Publishes a message at once.
+    Immediate(T),
+    /// Reads what the subscriber reads next, if anything is there.
+    Next(usize),
+    /// Reads the next message that is held, if there is one.
+    NextPure(usize),
+    /// Asks how much the subscriber has not read.
+    Available(usize),
+    Clear,
+    Len,
+    FreeCapacity,
+}
+
+/// What a channel for many answers.
+#[derive(Clone, Copy, Debug, PartialEq, Eq)]
+pub enum PubSubHeard<T> {
+    /// The message of the request is published, or the numbers have run out.
+    Published(Result<(), Exhausted<T>>),
+    /// What the request read.
+    Read(WaitResult<T>),
+    /// The message that the request read.
+    ReadPure(T),
+    /// What a stream gives, which has no end.
+    Streamed(Option<T>),
+    /// Whether the subscriber or the publisher is here.
+    Came(Result<(), Error>),
+    TriedPublish(Result<(), TryPublishError<T>>),
+    PublishedAtOnce(Result<(), Exhausted<T>>),
+    Tried(Option<WaitResult<T>>),
+    TriedPure(Option<T>),
+    /// So many messages were published that the subscriber has not read.
+    Unread(u64),
+    Number(usize),
+}
+
+// What a poll does, of each request.
+impl<T: Clone, W: Copy + Eq, const CAP: usize, const SUBS: usize, const PUBS: usize> PubSubState<
+    T,
+    W,
+    CAP,
+    SUBS,
+    PUBS,
+> {
+    // No more messages are held than were published. This says so, and does nothing.
+    fn numbered(&self)
+        ensures { length self.now.log.held ≤ self.now.log.next }
+    {
+        self.log.len();
+    }
+
+    fn turn_publish<const K: usize>(
+        &mut self,
+        p: usize,
+        message: T,
+        cx: &Context<W>,
+        wakes: &mut Wakes<W, K>,
+    ) -> Turn<PubSubHeard<T>, PubSubAsk<T>>
+        requires empty { wakes.old ≡ [] }
+        requires subscribers { length wakes.old + SUBS ≤ K }
+        requires publishers { length wakes.old + PUBS ≤ K }
+        requires place { 1 ≤ PUBS }
+        ensures allowed { PollsPublish CAP message self.old.log result.answer self.new.log }
+        ensures place { result.place ≡ rest_of (PubSubAsk.Publish p message) result.answer }
+        ensures exact { IsHanded (unless_refused result.answer self.old.lists (publish_hands W.eq SUBS PUBS self.old.log (Some cx.now) (publish_of message result.answer) self.old.lists)) wakes.new self.new.lists }
+        ensures publishers { self.new.publishers ≡ self.old.publishers }
+    {
+        match self.publish_with_context(message, cx, wakes) {
+            Ok(()) => Turn::over(PubSubHeard::Published(Ok(()))),
+            Err(TryPublishError::Full(message)) => Turn::waits(PubSubAsk::Publish(p, message)),
+            Err(TryPublishError::Exhausted(message)) => {
+                Turn::over(PubSubHeard::Published(Err(Exhausted(message))))
+            }
+        }
+    }
+
+    fn turn_message<const K: usize>(
+        &mut self,
+        s: usize,
+        id: &SubId,
+        cx: &Context<W>,
+        wakes: &mut Wakes<W, K>,
+    ) -> Turn<PubSubHeard<T>, PubSubAsk<T>>
+        requires empty { wakes.old ≡ [] }
+        requires subscribers { length wakes.old + SUBS ≤ K }
+        requires publishers { length wakes.old + PUBS ≤ K }
+        requires live { IsTrue (is_live id.now self.old.log) }
+        ensures allowed { PollsMessage T.is_clone T.is_infallible id.now self.old.log result.answer self.new.log }
+        ensures place { result.place ≡ rest_of (PubSubAsk.Message s) result.answer }
+        ensures exact { IsHanded (unless_refused result.answer self.old.lists (read_hands W.eq SUBS PUBS id.now self.old.log (Some cx.now) (read_of result.answer) self.old.lists)) wakes.new self.new.lists }
+        ensures publishers { self.new.publishers ≡ self.old.publishers }
+    {
+        self.numbered();
+        match self.get_message_with_context(id, cx, wakes) {
+            Ok(Poll::Ready(answer)) => Turn::over(PubSubHeard::Read(answer)),
+            Ok(Poll::Pending) => Turn::waits(PubSubAsk::Message(s)),
+            Err(AllocError) => refused(PubSubAsk::Message(s)),
+        }
+    }
+
+    fn turn_pure<const K: usize>(
+        &mut self,
+        s: usize,
+        id: &SubId,
+        cx: &Context<W>,
+        wakes: &mut Wakes<W, K>,
+    ) -> Turn<PubSubHeard<T>, PubSubAsk<T>>
+        requires empty { wakes.old ≡ [] }
+        requires subscribers { length wakes.old + SUBS ≤ K }
+        requires publishers { length wakes.old + PUBS ≤ K }
+        requires live { IsTrue (is_live id.now self.old.log) }
+        ensures allowed { PollsPure T.is_clone T.is_infallible id.now self.old.log result.answer self.new.log }
+        ensures place { result.place ≡ rest_of (PubSubAsk.MessagePure s) result.answer }
+        ensures exact { IsHanded (unless_refused result.answer self.old.lists (pure_hands W.eq SUBS PUBS id.now self.old.log (Some cx.now) (pure_of result.answer) self.old.lists)) wakes.new self.new.lists }
+        ensures publishers { self.new.publishers ≡ self.old.publishers }
+    {
+        self.numbered();
+        match self.get_message_pure_with_context(id, cx, wakes) {
+            Ok(Poll::Ready(message)) => Turn::over(PubSubHeard::ReadPure(message)),
+            Ok(Poll::Pending) => Turn::waits(PubSubAsk::MessagePure(s)),
+            Err(AllocError) => refused(PubSubAsk::MessagePure(s)),
+        }
+    }
+
+    fn turn_stream<const K: usize>(
+        &mut self,
+        s: usize,
+        id: &SubId,
+        cx: &Context<W>,
+        wakes: &mut Wakes<W, K>,
+    ) -> Turn<PubSubHeard<T>, PubSubAsk<T>>
+        requires empty { wakes.old ≡ [] }
+        requires subscribers { length wakes.old + SUBS ≤ K }
+        requires publishers { length wakes.old + PUBS ≤ K }
+        requires one { length wakes.old + 1 ≤ K }
+        requires live { IsTrue (is_live id.now self.old.log) }
+        ensures allowed { PollsStream T.is_clone T.is_infallible id.now self.old.log result.answer self.new.log }
+        ensures place { result.place ≡ rest_of (PubSubAsk.Stream s) result.answer }
+        ensures exact { IsHanded (unless_refused result.answer self.old.lists (stream_hands W.eq SUBS PUBS id.now self.old.log cx.now (stream_of result.answer) self.old.lists)) wakes.new self.new.lists }
+        ensures publishers { self.new.publishers ≡ self.old.publishers }
+    {
+        self.numbered();
+        match self.poll_next(id, cx, wakes) {
+            Ok(Poll::Ready(answer)) => Turn::over(PubSubHeard::Streamed(answer)),
+            Ok(Poll::Pending) => Turn::waits(PubSubAsk::Stream(s)),
+            Err(AllocError) => refused(PubSubAsk::Stream(s)),
+        }
+    }
+}
+
+// The request stays: there was no memory for a clone.
+fn refused<T>(ask: PubSubAsk<T>) -> Turn<PubSubHeard<T>, PubSubAsk<T>>
+    ensures answer { result.answer ≡ Answer.NoMemory }
+    ensures place { result.place ≡ Some ask }
+{
+    Turn {
+        answer: Answer::NoMemory,
+        place: Some(ask),
+    }
+}
+
+/// The numbers below `NAMES`: for each subscriber its place, and which ones are publishers.
+#[derive(Drop)]
+pub struct Tables<const NAMES: usize> {
+    subscribers: Names<usize, NAMES>,
+    publishers: Names<(), NAMES>,
+}
+
+impl<const NAMES: usize> Model for Tables<NAMES> {
+    ghost use Rattle.esync_pubsub.specs.Events.{Tables as Tabled, tables_code};
+
+    ghost Value = { Tabled };
+
+    ghost coded = { tables_code };
+
+    ghost view = { λ a. record { subscribers = a.subscribers; publishers = a.publishers } };
+}
+
+impl<const NAMES: usize> Tables<NAMES> {
+    fn new() -> Self
+        ensures { result ≡ record { subscribers = replicate NAMES None; publishers = replicate NAMES None } }
+    {
+        Tables {
+            subscribers: Names::new(),
+            publishers: Names::new(),
+        }
+    }
+
+    // The place of the subscriber that the number names.
+    fn place(&self, s: usize) -> Option<usize>
+        ensures { result ≡ at_number self.now.subscribers s }
+    {
+        self.subscribers.get(s)
+    }
+
+    // The number names a publisher.
+    fn is_publisher(&self, p: usize) -> bool
+        ensures { result ≡ is_some (at_number self.now.publishers p) }
+    {
+        self.publishers.get(p).is_some()
+    }
+
+    // The number is free for a subscriber.
+    fn is_subscriber_free(&self, s: usize) -> bool
+        requires { length self.now.subscribers ≡ NAMES }
+        ensures { result ≡ is_free s self.now.subscribers }
+    {
+        s < NAMES && self.subscribers.get(s).is_none()
+    }
+
+    // The number is free for a publisher.
+    fn is_publisher_free(&self, p: usize) -> bool
+        requires { length self.now.publishers ≡ NAMES }
+        ensures { result ≡ is_free p self.now.publishers }
+    {
+        p < NAMES && self.publishers.get(p).is_none()
+    }
+
+    fn put_subscriber(&mut self, s: usize, place: Option<usize>)
+        requires { s < NAMES }
+        ensures { self.new ≡ record self.old { subscribers = slice_set self.old.subscribers s place } }
+    {
+        self.subscribers.put(s, place);
+    }
+
+    fn put_publisher(&mut self, p: usize, named: Option<()>)
+        requires { p < NAMES }
+        ensures { self.new ≡ record self.old { publishers = slice_set self.old.publishers p named } }
+    {
+        self.publishers.put(p, named);
+    }
+
+    // The request is one of whom its number names.
+    fn names<T>(&self, ask: &PubSubAsk<T>) -> bool
+        ensures { (log : Log T) → result ≡ names_it ask.now (record { log = log; subscribers = self.now.subscribers; publishers = self.now.publishers }) }
+    {
+        match ask {
+            PubSubAsk::Publish(p, _) => self.is_publisher(*p),
+            PubSubAsk::Message(s) => self.place(*s).is_some(),
+            PubSubAsk::MessagePure(s) => self.place(*s).is_some(),
+            PubSubAsk::Stream(s) => self.place(*s).is_some(),
+        }
+    }
+
+    // The call ends the request, which is one of who leaves or retires.
+    fn leaves<T>(&self, call: &PubSubCall<T>, ask: &PubSubAsk<T>) -> bool
+        ensures { (log : Log T) → result ≡ leaves (record { log = log; subscribers = self.now.subscribers; publishers = self.now.publishers }) call.now ask.now }
+    {
+        match call {
+            PubSubCall::Leave(s) => self.place(*s).is_some() && is_of_subscriber(*s, ask),
+            PubSubCall::Retire(p) => self.is_publisher(*p) && is_of_publisher(*p, ask),
+            PubSubCall::Join(_)
+            | PubSubCall::Publisher(_)
+            | PubSubCall::TryPublish(..)
+            | PubSubCall::Immediate(_)
+            | PubSubCall::Next(_)
+            | PubSubCall::NextPure(_)
+            | PubSubCall::Available(_)
+            | PubSubCall::Clear
+            | PubSubCall::Len
+            | PubSubCall::FreeCapacity => false,
+        }
+    }
+}
+
+// The request is one of the subscriber.
+fn is_of_subscriber<T>(s: usize, ask: &PubSubAsk<T>) -> bool
+    ensures { result ≡ is_of_subscriber s ask.now }
+{
+    match ask {
+        PubSubAsk::Publish(..) => false,
+        PubSubAsk::Message(t) => s == *t,
+        PubSubAsk::MessagePure(t) => s == *t,
+        PubSubAsk::Stream(t) => s == *t,
+    }
+}
+
+// The request is one of the publisher.
+fn is_of_publisher<T>(p: usize, ask: &PubSubAsk<T>) -> bool
+    ensures { result ≡ is_of_publisher p ask.now }
+{
+    match ask {
+        PubSubAsk::Publish(q, _) => p == *q,
+        PubSubAsk::Message(_) | PubSubAsk::MessagePure(_) | PubSubAsk::Stream(_) => false,
+    }
+}
+
+// What a poll does, by the numbers.
+impl<T: Clone, W: Copy + Eq, const CAP: usize, const SUBS: usize, const PUBS: usize> PubSubState<
+    T,
+    W,
+    CAP,
+    SUBS,
+    PUBS,
+> {
+    fn turn_named<const NAMES: usize, const K: usize>(
+        &mut self,
+        tables: &Tables<NAMES>,
+        held: PubSubAsk<T>,
+        cx: &Context<W>,
+        wakes: &mut Wakes<W, K>,
+    ) -> Turn<PubSubHeard<T>, PubSubAsk<T>>
+        requires empty { wakes.old ≡ [] }
+        requires subscribers { length wakes.old + SUBS ≤ K }
+        requires publishers { length wakes.old + PUBS ≤ K }
+        requires one { length wakes.old + 1 ≤ K }
+        requires named { AreNamed CAP PUBS NAMES self.old tables.now }
+        requires fits { names_it held (topic_of self.old tables.now) ≡ true }
+        ensures allowed { PollsLog T.is_clone T.is_infallible CAP (topic_of self.old tables.now) held result.answer self.new.log }
+        ensures place { result.place ≡ rest_of held result.answer }
+        ensures exact { IsHanded (unless_refused result.answer self.old.lists (poll_hands W.eq SUBS PUBS (topic_of self.old tables.now) self.old.lists held cx.now result.answer)) wakes.new self.new.lists }
+        ensures publishers { self.new.publishers ≡ self.old.publishers }
+    {
+        match held {
+            PubSubAsk::Publish(p, message) => {
+                self.has_publisher(tables, p);
+                self.turn_publish(p, message, cx, wakes)
+            }
+            PubSubAsk::Message(s) => {
+                let Some(id) = self.subscriber(tables, s) else {
+                    unreachable!()
+                };
+                self.turn_message(s, &id, cx, wakes)
+            }
+            PubSubAsk::MessagePure(s) => {
+                let Some(id) = self.subscriber(tables, s) else {
+                    unreachable!()
+                };
+                self.turn_pure(s, &id, cx, wakes)
+            }
+            PubSubAsk::Stream(s) => {
+                let Some(id) = self.subscriber(tables, s) else {
+                    unreachable!()
+                };
+                self.turn_stream(s, &id, cx, wakes)
+            }
+        }
+    }
+
+    // The subscriber that the number names.
+    fn subscriber<const NAMES: usize>(&self, tables: &Tables<NAMES>, s: usize) -> Option<SubId>
+        requires named { AreNamed CAP PUBS NAMES self.now tables.now }
+        ensures place { result ≡ at_number tables.now.subscribers s }
+        ensures live { IfSome result (λ id. IsTrue (is_live id self.now.log)) }
+    {
+        match tables.place(s) {
+            Some(place) => Some(SubId { place }),
+            None => None,
+        }
+    }
+
+    // Where a number names a publisher, there may be one. This says so, and does nothing.
+    fn has_publisher<const NAMES: usize>(&self, tables: &Tables<NAMES>, p: usize)
+        requires named { AreNamed CAP PUBS NAMES self.now tables.now }
+        requires names { is_some (at_number tables.now.publishers p) ≡ true }
+        ensures { 1 ≤ PUBS }
+    {
+        let _publishers = tables.is_publisher(p);
+    }
+}
+
+// The place of the subscriber.
+fn place_of(id: &SubId) -> usize
+    ensures { result ≡ id.now }
+{
+    id.place
+}
+
+// What a call does, by the numbers.
+impl<T: Clone, W: Copy + Eq, const CAP: usize, const SUBS: usize, const PUBS: usize> PubSubState<
+    T,
+    W,
+    CAP,
+    SUBS,
+    PUBS,
+> {
+    // A subscriber comes under a free number.
+    fn join_named<const NAMES: usize>(
+        &mut self,
+        tables: &mut Tables<NAMES>,
+        s: usize,
+    ) -> Answer<PubSubHeard<T>>
+        requires named { AreNamed CAP PUBS NAMES self.old tables.old }
+        ensures allowed { Where (is_free s tables.old.subscribers) (topic_of self.old tables.old) (Comes s (topic_of self.old tables.old) result (topic_of self.new tables.new)) result (topic_of self.new tables.new) }
+        ensures named { AreNamed CAP PUBS NAMES self.new tables.new }
+        ensures lists { self.new.lists ≡ self.old.lists }
+    {
+        if !tables.is_subscriber_free(s) {
+            return Answer::NoSuch;
+        }
+        match self.subscribe() {
+            Ok(id) => {
+                tables.put_subscriber(s, Some(place_of(&id)));
+                Answer::Gives(PubSubHeard::Came(Ok(())))
+            }
+            Err(error) => Answer::Gives(PubSubHeard::Came(Err(error))),
+        }
+    }
+
+    // The subscriber leaves, and its number is free.
+    fn leave_named<const NAMES: usize, const K: usize>(
+        &mut self,
+        tables: &mut Tables<NAMES>,
+        s: usize,
+        wakes: &mut Wakes<W, K>,
+    ) -> Answer<PubSubHeard<T>>
+        requires empty { wakes.old ≡ [] }
+        requires publishers { length wakes.old + PUBS ≤ K }
+        requires named { AreNamed CAP PUBS NAMES self.old tables.old }
+        ensures allowed { Where (is_subscriber s (topic_of self.old tables.old)) (topic_of self.old tables.old) ((result ≡ Answer.Done) × (topic_of self.new tables.new ≡ departed s (topic_of self.old tables.old))) result (topic_of self.new tables.new) }
+        ensures exact { IsHanded (unless_refused result self.old.lists (room_hands (frees self.old.log (left (place_at s (topic_of self.old tables.old)) self.old.log)) self.old.lists)) wakes.new self.new.lists }
+        ensures named { AreNamed CAP PUBS NAMES self.new tables.new }
+    {
+        let Some(id) = self.subscriber(tables, s) else {
+            return Answer::NoSuch;
+        };
+        self.leave(id, wakes);
+        tables.put_subscriber(s, None);
+        Answer::Done
+    }
+
+    // A publisher comes under a free number.
+    fn add_named<const NAMES: usize>(
+        &mut self,
+        tables: &mut Tables<NAMES>,
+        p: usize,
+    ) -> Answer<PubSubHeard<T>>
+        requires named { AreNamed CAP PUBS NAMES self.old tables.old }
+        ensures allowed { Where (is_free p tables.old.publishers) (topic_of self.old tables.old) (Counts PUBS p (topic_of self.old tables.old) result (topic_of self.new tables.new)) result (topic_of self.new tables.new) }
+        ensures named { AreNamed CAP PUBS NAMES self.new tables.new }
+        ensures lists { self.new.lists ≡ self.old.lists }
+    {
+        if !tables.is_publisher_free(p) {
+            return Answer::NoSuch;
+        }
+        match self.add_publisher() {
+            Ok(()) => {
+                tables.put_publisher(p, Some(()));
+                Answer::Gives(PubSubHeard::Came(Ok(())))
+            }
+            Err(error) => Answer::Gives(PubSubHeard::Came(Err(error))),
+        }
+    }
+
+    // The publisher leaves, and its number is free.
+    fn retire_named<const NAMES: usize>(
+        &mut self,
+        tables: &mut Tables<NAMES>,
+        p: usize,
+    ) -> Answer<PubSubHeard<T>>
+        requires named { AreNamed CAP PUBS NAMES self.old tables.old }
+        ensures allowed { Where (is_publisher p (topic_of self.old tables.old)) (topic_of self.old tables.old) ((result ≡ Answer.Done) × (topic_of self.new tables.new ≡ record { log = self.old.log; subscribers = tables.old.subscribers; publishers = slice_set tables.old.publishers p None })) result (topic_of self.new tables.new) }
+        ensures named { AreNamed CAP PUBS NAMES self.new tables.new }
+        ensures lists { self.new.lists ≡ self.old.lists }
+    {
+        if !tables.is_publisher(p) {
+            return Answer::NoSuch;
+        }
+        self.remove_publisher();
+        tables.put_publisher(p, None);
+        Answer::Done
+    }
+
+    fn try_publish_named<const NAMES: usize, const K: usize>(
+        &mut self,
+        tables: &Tables<NAMES>,
+        p: usize,
+        message: T,
+        wakes: &mut Wakes<W, K>,
+    ) -> Answer<PubSubHeard<T>>
+        requires empty { wakes.old ≡ [] }
+        requires subscribers { length wakes.old + SUBS ≤ K }
+        ensures allowed { Where (is_publisher p (topic_of self.old tables.now)) (topic_of self.old tables.now) (TriesPublish CAP message self.old.log result self.new.log × WithLog (topic_of self.old tables.now) (topic_of self.new tables.now)) result (topic_of self.new tables.now) }
+        ensures exact { IsHanded (unless_refused result self.old.lists (publish_hands W.eq SUBS PUBS self.old.log None (publish_of message result) self.old.lists)) wakes.new self.new.lists }
+        ensures publishers { self.new.publishers ≡ self.old.publishers }
+    {
+        if !tables.is_publisher(p) {
+            return Answer::NoSuch;
+        }
+        Answer::Gives(PubSubHeard::TriedPublish(self.try_publish(message, wakes)))
+    }
+
+    fn publish_at_once<const K: usize>(
+        &mut self,
+        message: T,
+        wakes: &mut Wakes<W, K>,
+    ) -> Answer<PubSubHeard<T>>
+        requires empty { wakes.old ≡ [] }
+        requires subscribers { length wakes.old + SUBS ≤ K }
+        ensures allowed { AtOnce CAP message self.old.log result self.new.log }
+        ensures exact { IsHanded (unless_refused result self.old.lists (immediate_hands W.eq SUBS PUBS self.old.log (immediate_of message result) self.old.lists)) wakes.new self.new.lists }
+        ensures publishers { self.new.publishers ≡ self.old.publishers }
+    {
+        Answer::Gives(PubSubHeard::PublishedAtOnce(self.publish_immediate(message, wakes)))
+    }
+
+    fn next_named<const NAMES: usize, const K: usize>(
+        &mut self,
+        tables: &Tables<NAMES>,
+        s: usize,
+        wakes: &mut Wakes<W, K>,
+    ) -> Answer<PubSubHeard<T>>
+        requires empty { wakes.old ≡ [] }
+        requires publishers { length wakes.old + PUBS ≤ K }
+        requires named { AreNamed CAP PUBS NAMES self.old tables.now }
+        ensures allowed { Where (is_subscriber s (topic_of self.old tables.now)) (topic_of self.old tables.now) (Tries T.is_clone T.is_infallible (place_at s (topic_of self.old tables.now)) self.old.log result self.new.log × WithLog (topic_of self.old tables.now) (topic_of self.new tables.now)) result (topic_of self.new tables.now) }
+        ensures exact { IsHanded (unless_refused result self.old.lists (read_hands W.eq SUBS PUBS (place_at s (topic_of self.old tables.now)) self.old.log None (read_of result) self.old.lists)) wakes.new self.new.lists }
+        ensures publishers { self.new.publishers ≡ self.old.publishers }
+    {
+        let Some(id) = self.subscriber(tables, s) else {
+            return Answer::NoSuch;
+        };
+        self.try_next(&id, wakes)
+    }
+
+    fn try_next<const K: usize>(
+        &mut self,
+        id: &SubId,
+        wakes: &mut Wakes<W, K>,
+    ) -> Answer<PubSubHeard<T>>
+        requires empty { wakes.old ≡ [] }
+        requires publishers { length wakes.old + PUBS ≤ K }
+        requires live { IsTrue (is_live id.now self.old.log) }
+        ensures allowed { Tries T.is_clone T.is_infallible id.now self.old.log result self.new.log }
+        ensures exact { IsHanded (unless_refused result self.old.lists (read_hands W.eq SUBS PUBS id.now self.old.log None (read_of result) self.old.lists)) wakes.new self.new.lists }
+        ensures publishers { self.new.publishers ≡ self.old.publishers }
+    {
+        self.numbered();
+        match self.try_next_message(id, wakes) {
+            Ok(answer) => Answer::Gives(PubSubHeard::Tried(answer)),
+            Err(AllocError) => Answer::NoMemory,
+        }
+    }
+
+    fn next_pure_named<const NAMES: usize, const K: usize>(
+        &mut self,
+        tables: &Tables<NAMES>,
+        s: usize,
+        wakes: &mut Wakes<W, K>,
+    ) -> Answer<PubSubHeard<T>>
+        requires empty { wakes.old ≡ [] }
+        requires publishers { length wakes.old + PUBS ≤ K }
+        requires named { AreNamed CAP PUBS NAMES self.old tables.now }
+        ensures allowed { Where (is_subscriber s (topic_of self.old tables.now)) (topic_of self.old tables.now) (TriesPure T.is_clone T.is_infallible (place_at s (topic_of self.old tables.now)) self.old.log result self.new.log × WithLog (topic_of self.old tables.now) (topic_of self.new tables.now)) result (topic_of self.new tables.now) }
+        ensures exact { IsHanded (unless_refused result self.old.lists (pure_hands W.eq SUBS PUBS (place_at s (topic_of self.old tables.now)) self.old.log None (pure_of result) self.old.lists)) wakes.new self.new.lists }
+        ensures publishers { self.new.publishers ≡ self.old.publishers }
+    {
+        let Some(id) = self.subscriber(tables, s) else {
+            return Answer::NoSuch;
+        };
+        self.try_next_pure(&id, wakes)
+    }
+
+    fn try_next_pure<const K: usize>(
+        &mut self,
+        id: &SubId,
+        wakes: &mut Wakes<W, K>,
+    ) -> Answer<PubSubHeard<T>>
+        requires empty { wakes.old ≡ [] }
+        requires publishers { length wakes.old + PUBS ≤ K }
+        requires live { IsTrue (is_live id.now self.old.log) }
+        ensures allowed { TriesPure T.is_clone T.is_infallible id.now self.old.log result self.new.log }
+        ensures exact { IsHanded (unless_refused result self.old.lists (pure_hands W.eq SUBS PUBS id.now self.old.log None (pure_of result) self.old.lists)) wakes.new self.new.lists }
+        ensures publishers { self.new.publishers ≡ self.old.publishers }
+    {
+        self.numbered();
+        match self.try_next_message_pure(id, wakes) {
+            Ok(answer) => Answer::Gives(PubSubHeard::TriedPure(answer)),
+            Err(AllocError) => Answer::NoMemory,
+        }
+    }
+
+    fn available_named<const NAMES: usize>(
+        &self,
+        tables: &Tables<NAMES>,
+        s: usize,
+    ) -> Answer<PubSubHeard<T>>
+        requires named { AreNamed CAP PUBS NAMES self.now tables.now }
+        ensures { Where (is_subscriber s (topic_of self.now tables.now)) (topic_of self.now tables.now) ((result ≡ Answer.Gives (PubSubHeard.Unread (self.now.log.next - position (place_at s (topic_of self.now tables.now)) self.now.log))) × (topic_of self.now tables.now ≡ topic_of self.now tables.now)) result (topic_of self.now tables.now) }
+    {
+        let Some(id) = self.subscriber(tables, s) else {
+            return Answer::NoSuch;
+        };
+        Answer::Gives(PubSubHeard::Unread(self.available(&id)))
+    }
+}
+
+/// A state that can be polled and called by the numbers of its subscribers and publishers.
+pub trait PubSubSteps<const NAMES: usize, const K: usize> {
+    type Message: Clone;
+
+    type Waker: Copy + Eq;
+
+    /// Its value.
+    ghost value: { Self → PubSub Self.Message Self.Waker };
+
+    /// How many messages, subscribers and publishers there may be.
+    ghost messages: { ℕ };
+
+    ghost subscribers: { ℕ };
+
+    ghost publishers: { ℕ };
+
+    /// Polls a request of one who has a number.
+    fn turn(
+        &mut self,
+        tables: &Tables<NAMES>,
+        held: PubSubAsk<Self::Message>,
+        waker: Self::Waker,
+        wakes: &mut Wakes<Self::Waker, K>,
+    ) -> Turn<PubSubHeard<Self::Message>, PubSubAsk<Self::Message>>
+        requires empty { wakes.old ≡ [] }
+        requires room { most_wakes subscribers publishers ≤ K }
+        requires named { AreNamed messages publishers NAMES (value self.old) tables.now }
+        requires fits { names_it held (topic_of (value self.old) tables.now) ≡ true }
+        ensures allowed { Polls Self.Message.is_clone Self.Message.is_infallible messages (topic_of (value self.old) tables.now) held result.answer (topic_of (value self.new) tables.now) result.place }
+        ensures exact { IsHanded (unless_refused result.answer (value self.old).lists (poll_hands Self.Waker.eq subscribers publishers (topic_of (value self.old) tables.now) (value self.old).lists held waker result.answer)) wakes.new (value self.new).lists }
+        ensures named { AreNamed messages publishers NAMES (value self.new) tables.now };
+
+    /// A call, which may give or free a number.
+    fn perform(
+        &mut self,
+        tables: &mut Tables<NAMES>,
+        call: PubSubCall<Self::Message>,
+        wakes: &mut Wakes<Self::Waker, K>,
+    ) -> Answer<PubSubHeard<Self::Message>>
+        requires empty { wakes.old ≡ [] }
+        requires room { most_wakes subscribers publishers ≤ K }
+        requires named { AreNamed messages publishers NAMES (value self.old) tables.old }
+        ensures allowed { Calls Self.Message.is_clone Self.Message.is_infallible messages publishers (topic_of (value self.old) tables.old) call result (topic_of (value self.new) tables.new) }
+        ensures exact { IsHanded (unless_refused result (value self.old).lists (call_hands Self.Waker.eq subscribers publishers (topic_of (value self.old) tables.old) (value self.old).lists call result)) wakes.new (value self.new).lists }
+        ensures named { AreNamed messages publishers NAMES (value self.new) tables.new };
+}
+
+impl<
+    T: Clone,
+    W: Copy + Eq,
+    const CAP: usize,
+    const SUBS: usize,
+    const PUBS: usize,
+    const NAMES: usize,
+    const K: usize,
+> PubSubSteps<NAMES, K> for PubSubState<T, W, CAP, SUBS, PUBS> {
+    type Message = T;
+
+    type Waker = W;
+
+    ghost value = { λ s. s };
+
+    ghost messages = { CAP };
+
+    ghost subscribers = { SUBS };
+
+    ghost publishers = { PUBS };
+
+    fn turn(
+        &mut self,
+        tables: &Tables<NAMES>,
+        held: PubSubAsk<T>,
+        waker: W,
+        wakes: &mut Wakes<W, K>,
+    ) -> Turn<PubSubHeard<T>, PubSubAsk<T>>
+        requires empty { wakes.old ≡ [] }
+        requires room { most_wakes SUBS PUBS ≤ K }
+        requires named { AreNamed CAP PUBS NAMES self.old tables.now }
+        requires fits { names_it held (topic_of self.old tables.now) ≡ true }
+        ensures allowed { Polls T.is_clone T.is_infallible CAP (topic_of self.old tables.now) held result.answer (topic_of self.new tables.now) result.place }
+        ensures exact { IsHanded (unless_refused result.answer self.old.lists (poll_hands W.eq SUBS PUBS (topic_of self.old tables.now) self.old.lists held waker result.answer)) wakes.new self.new.lists }
+        ensures named { AreNamed CAP PUBS NAMES self.new tables.now }
+    {
+        self.turn_named(tables, held, &Context::from_waker(waker), wakes)
+    }
+
+    fn perform(
+        &mut self,
+        tables: &mut Tables<NAMES>,
+        call: PubSubCall<T>,
+        wakes: &mut Wakes<W, K>,
+    ) -> Answer<PubSubHeard<T>>
+        requires empty { wakes.old ≡ [] }
+        requires room { most_wakes SUBS PUBS ≤ K }
+        requires named { AreNamed CAP PUBS NAMES self.old tables.old }
+        ensures allowed { Calls T.is_clone T.is_infallible CAP PUBS (topic_of self.old tables.old) call result (topic_of self.new tables.new) }
+        ensures exact { IsHanded (unless_refused result self.old.lists (call_hands W.eq SUBS PUBS (topic_of self.old tables.old) self.old.lists call result)) wakes.new self.new.lists }
+        ensures named { AreNamed CAP PUBS NAMES self.new tables.new }
+    {
+        match call {
+            PubSubCall::Join(s) => self.join_named(tables, s),
+            PubSubCall::Leave(s) => self.leave_named(tables, s, wakes),
+            PubSubCall::Publisher(p) => self.add_named(tables, p),
+            PubSubCall::Retire(p) => self.retire_named(tables, p),
+            PubSubCall::TryPublish(p, message) => {
+                self.try_publish_named(tables, p, message, wakes)
+            }
+            PubSubCall::Immediate(message) => self.publish_at_once(message, wakes),
+            PubSubCall::Next(s) => self.next_named(tables, s, wakes),
+            PubSubCall::NextPure(s) => self.next_pure_named(tables, s, wakes),
+            PubSubCall::Available(s) => self.available_named(tables, s),
+            PubSubCall::Clear => {
+                self.clear(wakes);
+                Answer::Done
+            }
+            PubSubCall::Len => Answer::Gives(PubSubHeard::Number(self.len())),
+            PubSubCall::FreeCapacity => { Answer::Gives(PubSubHeard::Number(self.free_capacity())) }
+        }
+    }
+}
+
+/// A channel for many in which subscribers and publishers have numbers below `NAMES`.
+#[derive(Drop)]
+pub struct Events<S: PubSubSteps<NAMES, K>, const NAMES: usize, const K: usize> {
+    state: S,
+    tables: Tables<NAMES>,
+}
+
+impl<S: PubSubSteps<NAMES, K>, const NAMES: usize, const K: usize> Model for Events<S, NAMES, K> {
+    ghost use Rattle.esync_pubsub.specs.Events.{Eventing, eventing_code, AreNamed};
+
+    ghost Value = { Eventing S };
+
+    ghost coded = { eventing_code S.code };
+
+    ghost view = { λ a. record { state = a.state; tables = a.tables } };
+
+    ghost invariant = { λ a. AreNamed S.messages S.publishers NAMES (S.value a.state) a.tables };
+}
+
+impl<S: PubSubSteps<NAMES, K>, const NAMES: usize, const K: usize> Events<S, NAMES, K> {
+    /// All numbers are free. Nobody is there in the state.
+    pub fn new(state: S) -> Self
+        requires messages { 1 ≤ S.messages }
+        requires nobody { (places next : ℕ) × (S.value state ≡ fresh places next) }
+        ensures state { result.state ≡ state }
+        ensures tables { result.tables ≡ record { subscribers = replicate NAMES None; publishers = replicate NAMES None } }
+    {
+        Events {
+            state,
+            tables: Tables::new(),
+        }
+    }
+}
+
+impl<S: PubSubSteps<NAMES, K>, const NAMES: usize, const K: usize> Primitive<K>
+    for Events<S, NAMES, K> {
+    type Ask = PubSubAsk<S::Message>;
+
+    type Held = PubSubAsk<S::Message>;
+
+    type Call = PubSubCall<S::Message>;
+
+    type Heard = PubSubHeard<S::Message>;
+
+    type Waker = S::Waker;
+
+    ghost use Rattle.esync_pubsub.specs.PubSubRules.{pubsub_rules, pubsub_wakings, OwesFor};
+    ghost use Rattle.esync_pubsub.specs.PubSubLaws.{pubsub_idle, pubsub_pending};
+
+    ghost rules = { pubsub_rules S.Message.is_clone S.Message.is_infallible S.messages S.publishers };
+
+    ghost core = { λ m. topic_of (S.value m.state) m.tables };
+
+    ghost wakings = { pubsub_wakings S.Waker.eq S.subscribers S.publishers };
+
+    ghost registrations = { λ m. (S.value m.state).lists };
+
+    ghost most = { most_wakes S.subscribers S.publishers };
+
+    ghost Owes = { λ m ask w. OwesFor S.Waker.eq S.messages (topic_of (S.value m.state) m.tables) (S.value m.state).lists ask w };
+
+    ghost Fits = { λ m ask. names_it ask (topic_of (S.value m.state) m.tables) ≡ true };
+
+    ghost Apart = { λ ask other. Unit };
+
+    fn begin(&self, ask: PubSubAsk<S::Message>) -> Option<PubSubAsk<S::Message>> {
+        if self.tables.names(&ask) {
+            Some(ask)
+        } else {
+            None
+        }
+    }
+
+    fn poll(
+        &mut self,
+        held: PubSubAsk<S::Message>,
+        waker: S::Waker,
+        wakes: &mut Wakes<S::Waker, K>,
+    ) -> Turn<PubSubHeard<S::Message>, PubSubAsk<S::Message>> {
+        self.state.turn(&self.tables, held, waker, wakes)
+    }
+
+    fn end(&mut self, _held: PubSubAsk<S::Message>, _wakes: &mut Wakes<S::Waker, K>) {}
+
+    fn reach(call: &PubSubCall<S::Message>) -> Reach {
+        reach(call)
+    }
+
+    fn leaves(&self, call: &PubSubCall<S::Message>, held: &PubSubAsk<S::Message>) -> bool {
+        self.tables.leaves(call, held)
+    }
+
+    fn call(
+        &mut self,
+        call: PubSubCall<S::Message>,
+        _place: &mut Option<PubSubAsk<S::Message>>,
+        wakes: &mut Wakes<S::Waker, K>,
+    ) -> Answer<PubSubHeard<S::Message>> {
+        self.state.perform(&mut self.tables, call, wakes)
+    }
+
+    ghost idle = { λ m ask w f h. pubsub_idle S.Message.is_clone S.Message.is_infallible S.messages S.publishers S.Waker.eq (topic_of (S.value m.state) m.tables) (S.value m.state).lists ask w f h };
+
+    ghost pending = { pubsub_pending S.Message.is_clone S.Message.is_infallible S.messages S.publishers };
+
+    ghost no_such = { λ o h a o2 p n k. absurd (n tt) };
+
+    ghost symmetric = { λ h k a. tt };
+
+    ghost use Rattle.esync_machine.specs.RulesLaws.{all_requests};
+
+    ghost no_requests = { all_requests (pubsub_rules S.Message.is_clone S.Message.is_infallible S.messages S.publishers) (λ h. tt) (λ o o2 call p p2 a c. c.1) };
+}
+
+// Which numbers a call concerns.
+fn reach<T>(call: &PubSubCall<T>) -> Reach
+    ensures { result ≡ reach call.now }
+{
+    match call {
+        PubSubCall::Leave(_) | PubSubCall::Retire(_) => Reach::Leavers,
+        PubSubCall::Join(_)
+        | PubSubCall::Publisher(_)
+        | PubSubCall::TryPublish(..)
+        | PubSubCall::Immediate(_)
+        | PubSubCall::Next(_)
+        | PubSubCall::NextPure(_)
+        | PubSubCall::Available(_)
+        | PubSubCall::Clear
+        | PubSubCall::Len
+        | PubSubCall::FreeCapacity => Reach::Nobody,
+    }
+}
+
+/// A channel for many as a machine: at most `CAP` messages, at most `SUBS` subscribers and at most `PUBS` publishers, which have numbers
+/// below `NAMES`, with requests at the numbers below `REQS`.
+pub type PubSubRun<
+    T,
+    W,
+    const CAP: usize,
+    const SUBS: usize,
+    const PUBS: usize,
+    const NAMES: usize,
+    const REQS: usize,
+    const K: usize,
+> = Requests<Events<PubSubState<T, W, CAP, SUBS, PUBS>, NAMES, K>, REQS, K>;
+
+/// The commands of a channel for many.
+pub type PubSubCommand<T, W> = Command<PubSubAsk<T>, W, PubSubCall<T>>;
+
+/// What a channel for many answers to a command, with the wakers that it hands out.
+pub type PubSubReply<T, W, const K: usize> = Reply<Answer<PubSubHeard<T>>, W, K>;
+
+/// Gives the commands to the channel, one after another, as `run` does.
+///
+/// Each answer is one that a log of at most `CAP` messages allows, with the numbers of its subscribers and publishers. No live request that
+/// last heard Pending would now be answered Ready, unless its waker was handed out in that poll or since. And no Pending poll that changes
+/// nothing hands out its own waker. Who leaves or retires ends its requests first.
+pub fn run_pubsub<
+    T: Clone,
+    W: Copy + Eq,
+    const CAP: usize,
+    const SUBS: usize,
+    const PUBS: usize,
+    const NAMES: usize,
+    const REQS: usize,
+    const K: usize,
+>(
+    alloc: Global,
+    machine: &mut PubSubRun<T, W, CAP, SUBS, PUBS, NAMES, REQS, K>,
+    commands: Vec<PubSubCommand<T, W>>,
+) -> Result<Vec<PubSubReply<T, W, K>>, AllocError>
+    ensures run { IfOk result (λ replies. GoodRun (requests_meaning (pubsub_rules T.is_clone T.is_infallible CAP PUBS) (pubsub_wakings W.eq SUBS PUBS) W.eq K) (record { core = topic_of machine.old.state.state machine.old.state.tables; requests = machine.old.requests }) machine.old.state.state.lists commands.items replies.items (record { core = topic_of machine.new.state.state machine.new.state.tables; requests = machine.new.requests }) machine.new.state.state.lists) }
+    ensures refused { OnErr result (machine.new ≡ machine.old) }
+{
+    run(alloc, machine, commands)
+}

@@ -1,0 +1,119 @@
+//! The words of publishers and subscribers.
+ghost use Rattle.std.specs.Prelude.{OnOk, ◌++◌, codes};
+ghost use Rattle.std.specs.Io.KnownBytes.{Appends};
+ghost use Rattle.esync_script.specs.PubSub.{read_text};
+
+use esync_pubsub::pubsub::machine::{PubSubAsk, PubSubCall, PubSubHeard};
+use esync_pubsub::pubsub::{Error, TryPublishError, WaitResult};
+use esync_words::printing::print_option;
+use esync_words::vocabulary::Vocabulary;
+use esync_words::words::Words;
+use std::io::{self, Write};
+
+/// The words of a channel of values for many.
+pub struct PubSubWords {}
+
+impl Vocabulary for PubSubWords {
+    type Ask = PubSubAsk<u32>;
+
+    type Call = PubSubCall<u32>;
+
+    type Heard = PubSubHeard<u32>;
+
+    ghost use Rattle.esync_script.specs.PubSub.{pubsub_asks, pubsub_calls, pubsub_text};
+
+    ghost asks = { pubsub_asks };
+
+    ghost calls = { pubsub_calls };
+
+    ghost text = { pubsub_text };
+
+    fn ask(name: &str, words: Words<'_>) -> Option<PubSubAsk<u32>> {
+        match name {
+            "publish" => {
+                let (p, value) = words.number_and_value()?;
+                Some(PubSubAsk::Publish(p as usize, value))
+            }
+            "message" => Some(PubSubAsk::Message(words.number()? as usize)),
+            "message-pure" => Some(PubSubAsk::MessagePure(words.number()? as usize)),
+            "stream" => Some(PubSubAsk::Stream(words.number()? as usize)),
+            _ => None,
+        }
+    }
+
+    fn call(name: &str, words: Words<'_>) -> Option<PubSubCall<u32>> {
+        match name {
+            "join" => Some(PubSubCall::Join(words.number()? as usize)),
+            "leave" => Some(PubSubCall::Leave(words.number()? as usize)),
+            "publisher" => Some(PubSubCall::Publisher(words.number()? as usize)),
+            "retire" => Some(PubSubCall::Retire(words.number()? as usize)),
+            "try-publish" => {
+                let (p, value) = words.number_and_value()?;
+                Some(PubSubCall::TryPublish(p as usize, value))
+            }
+            "immediate" => Some(PubSubCall::Immediate(words.value()?)),
+            "next" => Some(PubSubCall::Next(words.number()? as usize)),
+            "next-pure" => Some(PubSubCall::NextPure(words.number()? as usize)),
+            "available" => Some(PubSubCall::Available(words.number()? as usize)),
+            "clear" => words.nothing().map(|_| PubSubCall::Clear),
+            "len" => words.nothing().map(|_| PubSubCall::Len),
+            "free" => words.nothing().map(|_| PubSubCall::FreeCapacity),
+            _ => None,
+        }
+    }
+
+    fn print<W: Write>(heard: &PubSubHeard<u32>, output: &mut W) -> io::Result<()> {
+        match heard {
+            PubSubHeard::Published(Ok(())) => write!(output, "Ready"),
+            PubSubHeard::Published(Err(error)) => {
+                write!(output, "Ready(Err(Exhausted({})))", error.0)
+            }
+            PubSubHeard::Read(answer) => print_ready(answer, output),
+            PubSubHeard::ReadPure(value) => write!(output, "Ready({value})"),
+            PubSubHeard::Streamed(Some(value)) => write!(output, "Ready(Some({value}))"),
+            PubSubHeard::Streamed(None) => write!(output, "Ready(None)"),
+            PubSubHeard::Came(Ok(())) => write!(output, "Ok"),
+            PubSubHeard::Came(Err(Error::MaximumSubscribersReached)) => {
+                write!(output, "Err(MaximumSubscribersReached)")
+            }
+            PubSubHeard::Came(Err(Error::MaximumPublishersReached)) => {
+                write!(output, "Err(MaximumPublishersReached)")
+            }
+            PubSubHeard::TriedPublish(Ok(())) => write!(output, "Ok"),
+            PubSubHeard::TriedPublish(Err(TryPublishError::Full(value))) => {
+                write!(output, "Err(Full({value}))")
+            }
+            PubSubHeard::TriedPublish(Err(TryPublishError::Exhausted(value))) => {
+                write!(output, "Err(Exhausted({value}))")
+            }
+            PubSubHeard::PublishedAtOnce(Ok(())) => write!(output, "Ok"),
+            PubSubHeard::PublishedAtOnce(Err(error)) => {
+                write!(output, "Err(Exhausted({}))", error.0)
+            }
+            PubSubHeard::Tried(Some(answer)) => print_read(answer, output),
+            PubSubHeard::Tried(None) => write!(output, "None"),
+            PubSubHeard::TriedPure(found) => print_option(found.map(u64::from), output),
+            PubSubHeard::Unread(count) => write!(output, "{count}"),
+            PubSubHeard::Number(number) => write!(output, "{number}"),
+        }
+    }
+}
+
+// Prints what was read.
+fn print_read<W: Write>(answer: &WaitResult<u32>, output: &mut W) -> io::Result<()>
+    ensures { OnOk result (Appends (W.contents output.old) (W.contents output.new) (read_text answer.now)) }
+{
+    match answer {
+        WaitResult::Lagged(count) => write!(output, "Lagged({count})"),
+        WaitResult::Message(value) => write!(output, "Message({value})"),
+    }
+}
+
+// Prints what a poll read.
+fn print_ready<W: Write>(answer: &WaitResult<u32>, output: &mut W) -> io::Result<()>
+    ensures { OnOk result (Appends (W.contents output.old) (W.contents output.new) (codes "Ready(" ++ read_text answer.now ++ codes ")")) }
+{
+    write!(output, "Ready(")?;
+    print_read(answer, output)?;
+    write!(output, ")")
+}

@@ -1,0 +1,155 @@
+//! The words of a watch.
+ghost use Rattle.std.specs.Prelude.{◌≡◌};
+ghost use Rattle.esync_script.specs.Watch.{watch_asks, watch_reads};
+
+use esync_cells::watch::machine::{Await, Reading, WatchCall, WatchHeard};
+use esync_cells::watch::{Change, Judge};
+use esync_words::printing::print_option;
+use esync_words::vocabulary::Vocabulary;
+use esync_words::words::Words;
+use std::io::{self, Write};
+
+/// Adds this much to a value, modulo 2^32. Where there is no value, or nothing to add, it does nothing and says so.
+#[derive(Clone, Copy, Debug, PartialEq, Eq)]
+pub struct Adds {
+    pub amount: u32,
+}
+
+impl Change<u32> for Adds {
+    ghost use Rattle.esync_script.specs.Watch.{added, adds, adds_tells};
+
+    ghost changed = { λ c v. added c.amount v };
+
+    ghost tells = { λ c v. adds c.amount v };
+
+    fn apply(&self, value: &mut Option<u32>) -> bool {
+        let Some(present) = *value else {
+            return false;
+        };
+        if self.amount == 0 {
+            return false;
+        }
+        *value = Some(present.wrapping_add(self.amount));
+        true
+    }
+
+    ghost a_change_tells = { λ c v told. adds_tells c.amount v told };
+}
+
+/// A value below the limit passes.
+#[derive(Clone, Copy, Debug, PartialEq, Eq)]
+pub struct Below {
+    pub limit: u32,
+}
+
+impl Judge<u32> for Below {
+    ghost use Rattle.std.specs.Prelude.{nat_lt};
+
+    ghost passes = { λ c v. nat_lt v c.limit };
+
+    fn holds(&self, value: &u32) -> bool {
+        *value < self.limit
+    }
+}
+
+/// The words of a watch of values.
+pub struct WatchWords {}
+
+// What a receiver asks.
+fn read_ask(name: &str, words: Words<'_>) -> Option<Await<Below>>
+    ensures { result ≡ watch_asks name.now words.entry }
+{
+    match name {
+        "get" => Some(Await {
+            receiver: words.number()? as usize,
+            read: Reading::Get,
+        }),
+        "changed" => Some(Await {
+            receiver: words.number()? as usize,
+            read: Reading::Changed,
+        }),
+        "get-below" => {
+            let (h, limit) = words.number_and_value()?;
+            Some(Await {
+                receiver: h as usize,
+                read: Reading::GetAnd(Below { limit }),
+            })
+        }
+        "changed-below" => {
+            let (h, limit) = words.number_and_value()?;
+            Some(Await {
+                receiver: h as usize,
+                read: Reading::ChangedAnd(Below { limit }),
+            })
+        }
+        _ => None,
+    }
+}
+
+// What a receiver tries to read.
+fn read_call(name: &str, words: Words<'_>) -> Option<WatchCall<u32, Adds, Below>>
+    ensures { result ≡ watch_reads name.now words.entry }
+{
+    match read_ask(name, words) {
+        Some(ask) => Some(WatchCall::Read(ask.receiver, ask.read)),
+        None => None,
+    }
+}
+
+impl Vocabulary for WatchWords {
+    type Ask = Await<Below>;
+
+    type Call = WatchCall<u32, Adds, Below>;
+
+    type Heard = WatchHeard<u32>;
+
+    ghost use Rattle.esync_script.specs.Watch.{watch_asks, watch_calls, watch_text};
+
+    ghost asks = { watch_asks };
+
+    ghost calls = { watch_calls };
+
+    ghost text = { watch_text };
+
+    fn ask(name: &str, words: Words<'_>) -> Option<Await<Below>> {
+        read_ask(name, words)
+    }
+
+    fn call(name: &str, words: Words<'_>) -> Option<WatchCall<u32, Adds, Below>> {
+        match name {
+            "receiver" => Some(WatchCall::Receiver(words.number()? as usize)),
+            "anon" => Some(WatchCall::Anon(words.number()? as usize)),
+            "leave" => Some(WatchCall::Leave(words.number()? as usize)),
+            "clear" => words.nothing().map(|_| WatchCall::Clear),
+            "send" => Some(WatchCall::Send(words.value()?)),
+            "modify" => {
+                let amount = words.value()?;
+                Some(WatchCall::Modify(Adds { amount }))
+            }
+            "modify-if" => {
+                let amount = words.value()?;
+                Some(WatchCall::ModifyIf(Adds { amount }))
+            }
+            "try-get" => words.nothing().map(|_| WatchCall::TryGet),
+            "id" => words.nothing().map(|_| WatchCall::Id),
+            "contains" => words.nothing().map(|_| WatchCall::Contains),
+            _ => read_call(name, words),
+        }
+    }
+
+    fn print<W: Write>(heard: &WatchHeard<u32>, output: &mut W) -> io::Result<()> {
+        match heard {
+            WatchHeard::Waited(value) => write!(output, "Ready({value})"),
+            WatchHeard::Counted(true) => write!(output, "Ok"),
+            WatchHeard::Counted(false) => write!(output, "None"),
+            WatchHeard::Sent(Ok(())) => write!(output, "Ok"),
+            WatchHeard::Sent(Err(error)) => write!(output, "Err(Exhausted({}))", error.0),
+            WatchHeard::Modified(Ok(())) => write!(output, "Ok"),
+            WatchHeard::Modified(Err(_)) => write!(output, "Err(Exhausted)"),
+            WatchHeard::Found(found) => print_option(found.map(u64::from), output),
+            WatchHeard::Version(version) => write!(output, "{version}"),
+            WatchHeard::HasValue(true) => write!(output, "true"),
+            WatchHeard::HasValue(false) => write!(output, "false"),
+        }
+    }
+}

@@ -1,0 +1,81 @@
+//! The words of a zero-copy channel.
+ghost use Rattle.std.specs.Prelude.{◌≡◌, OnOk};
+ghost use Rattle.std.specs.Io.KnownBytes.{Appends};
+ghost use Rattle.esync_script.specs.Zerocopy.{lent_text};
+
+use esync_words::vocabulary::Vocabulary;
+use esync_words::words::Words;
+use esync_zerocopy::zerocopy_channel::machine::{Lent, ZeroCall, ZeroHeard};
+use esync_zerocopy::zerocopy_channel::{Side, SlotLent};
+use std::io::{self, Write};
+
+// Prints the number of a slot, and the value that a receiver is shown.
+fn print_lent<W: Write>(lent: &Lent<u32>, output: &mut W) -> io::Result<()>
+    ensures { OnOk result (Appends (W.contents output.old) (W.contents output.new) (lent_text lent.now)) }
+{
+    match lent {
+        Lent::Spare(number) => write!(output, "({number})"),
+        Lent::Held(number, value) => write!(output, "({number},{value})"),
+    }
+}
+
+/// The words of a zero-copy channel.
+pub struct ZeroWords {}
+
+impl Vocabulary for ZeroWords {
+    type Ask = Side;
+
+    type Call = ZeroCall<u32>;
+
+    type Heard = ZeroHeard<u32>;
+
+    ghost use Rattle.esync_script.specs.Zerocopy.{zero_asks, zero_calls, zero_text};
+
+    ghost asks = { zero_asks };
+
+    ghost calls = { zero_calls };
+
+    ghost text = { zero_text };
+
+    fn ask(name: &str, words: Words<'_>) -> Option<Side> {
+        match name {
+            "send" => words.nothing().map(|_| Side::Sender),
+            "receive" => words.nothing().map(|_| Side::Receiver),
+            _ => None,
+        }
+    }
+
+    fn call(name: &str, words: Words<'_>) -> Option<ZeroCall<u32>> {
+        match name {
+            "try-send" => words.nothing().map(|_| ZeroCall::Try(Side::Sender)),
+            "try-receive" => words.nothing().map(|_| ZeroCall::Try(Side::Receiver)),
+            "write" => Some(ZeroCall::Write(words.value()?)),
+            "done-send" => words.nothing().map(|_| ZeroCall::Done(Side::Sender)),
+            "done-receive" => words.nothing().map(|_| ZeroCall::Done(Side::Receiver)),
+            "end-send" => words.nothing().map(|_| ZeroCall::EndLoan(Side::Sender)),
+            "end-receive" => words.nothing().map(|_| ZeroCall::EndLoan(Side::Receiver)),
+            "clear-send" => words.nothing().map(|_| ZeroCall::Clear(Side::Sender)),
+            "clear-receive" => words.nothing().map(|_| ZeroCall::Clear(Side::Receiver)),
+            "len" => words.nothing().map(|_| ZeroCall::Len),
+            "free" => words.nothing().map(|_| ZeroCall::FreeCapacity),
+            _ => None,
+        }
+    }
+
+    fn print<W: Write>(heard: &ZeroHeard<u32>, output: &mut W) -> io::Result<()> {
+        match heard {
+            ZeroHeard::Lends(lent) => {
+                write!(output, "Ready")?;
+                print_lent(lent, output)
+            }
+            ZeroHeard::Tried(Some(lent)) => {
+                write!(output, "Some")?;
+                print_lent(lent, output)
+            }
+            ZeroHeard::Tried(None) => write!(output, "None"),
+            ZeroHeard::Cleared(Ok(())) => write!(output, "Ok"),
+            ZeroHeard::Cleared(Err(SlotLent)) => write!(output, "Err(SlotLent)"),
+            ZeroHeard::Count(count) => write!(output, "{count}"),
+        }
+    }
+}

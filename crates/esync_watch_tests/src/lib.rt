@@ -1,0 +1,7 @@
+//! Worked examples of senders and receivers of a shared watch.
+#![tactic(auto)]
+
+#[cfg(test)]
+mod reads;
+#[cfg(test)]
+mod receivers;

@@ -1,0 +1,65 @@
+use esync_cells::watch::{Rcv, Snd, Watch, WatchBehavior};
+use esync_notes::{Notes, woken};
+use std::process::Abort;
+
+/// A watch with places for so many receivers.
+pub type Places<H, const N: usize> = Watch<u32, u64, H, N, N>;
+
+/// A receiver of a watch that has room for it.
+pub fn receives<'a, B: WatchBehavior>(rt: &impl Abort, receiver: Option<Rcv<'a, B>>) -> Rcv<'a, B> {
+    match receiver {
+        Some(receiver) => receiver,
+        None => rt.abort(),
+    }
+}
+
+/// The value is sent.
+pub fn sends<B: WatchBehavior<Value = u32>>(rt: &impl Abort, sender: &Snd<'_, B>, value: u32) {
+    assert!(rt; sender.send(value) == Ok(()));
+}
+
+#[test]
+fn contains_value(rt: HostRuntime) {
+    let notes = Notes::new(&rt);
+    let watch: Places<_, 2> = Watch::new(&notes);
+    let receiver = receives(&rt, watch.receiver());
+    let anonymous = watch.anon_receiver();
+    let sender = watch.sender();
+    assert!(rt; !receiver.contains_value());
+    assert!(rt; !anonymous.contains_value());
+    assert!(rt; !sender.contains_value());
+    sends(&rt, &sender, 10);
+    assert!(rt; receiver.contains_value());
+    assert!(rt; anonymous.contains_value());
+    assert!(rt; sender.contains_value());
+    sender.clear();
+    assert!(rt; !sender.contains_value());
+}
+
+#[test]
+fn a_first_value_is_no_news(rt: HostRuntime) {
+    let notes = Notes::new(&rt);
+    let watch: Places<_, 1> = Watch::new_with(7, &notes);
+    let mut receiver = receives(&rt, watch.receiver());
+    assert!(rt; receiver.try_changed() == Ok(None));
+    assert!(rt; receiver.try_get() == Ok(Some(7)));
+    assert_eq!(rt; watch.get_msg_id(), 0);
+}
+
+#[test]
+fn a_cleared_value_is_no_news(rt: HostRuntime) {
+    let notes = Notes::new(&rt);
+    let watch: Places<_, 1> = Watch::new(&notes);
+    let mut receiver = receives(&rt, watch.receiver());
+    let sender = watch.sender();
+    sends(&rt, &sender, 25);
+    assert!(rt; receiver.try_changed_and(|x| *x < 5) == Ok(None));
+    assert!(rt; receiver.try_changed() == Ok(Some(25)));
+    sends(&rt, &sender, 1);
+    sender.clear();
+    assert!(rt; receiver.try_changed() == Ok(None));
+    sends(&rt, &sender, 2);
+    assert!(rt; receiver.try_changed() == Ok(Some(2)));
+    assert_eq!(rt; watch.get_msg_id(), 3);
+    woken!(&rt, &notes, &[]);
+}

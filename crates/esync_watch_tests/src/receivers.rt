@@ -1,0 +1,74 @@
+use crate::reads::{Places, receives, sends};
+use esync_cells::watch::Watch;
+use esync_notes::Notes;
+use std::process::Abort;
+
+#[test]
+fn clone_senders(rt: HostRuntime) {
+    let notes = Notes::new(&rt);
+    let watch: Places<_, 1> = Watch::new(&notes);
+    let first = watch.sender();
+    let Ok(second) = first.clone() else {
+        rt.abort()
+    };
+    let mut receiver = receives(&rt, watch.receiver()).as_dyn();
+    sends(&rt, &first, 10);
+    assert!(rt; receiver.try_changed() == Ok(Some(10)));
+    sends(&rt, &second, 20);
+    assert!(rt; receiver.try_changed() == Ok(Some(20)));
+}
+
+#[test]
+fn use_dynamics(rt: HostRuntime) {
+    let notes = Notes::new(&rt);
+    let watch: Places<_, 2> = Watch::new(&notes);
+    let mut anonymous = watch.dyn_anon_receiver();
+    let mut receiver = receives(&rt, watch.dyn_receiver());
+    let sender = watch.dyn_sender();
+    sends(&rt, &sender, 10);
+    assert!(rt; anonymous.try_changed() == Ok(Some(10)));
+    assert!(rt; receiver.try_changed() == Ok(Some(10)));
+    assert!(rt; receiver.try_changed() == Ok(None));
+}
+
+#[test]
+fn convert_to_dyn(rt: HostRuntime) {
+    let notes = Notes::new(&rt);
+    let watch: Places<_, 2> = Watch::new(&notes);
+    let mut anonymous = watch.anon_receiver().as_dyn();
+    let mut receiver = receives(&rt, watch.receiver()).as_dyn();
+    let sender = watch.sender().as_dyn();
+    sends(&rt, &sender, 10);
+    assert!(rt; anonymous.try_changed() == Ok(Some(10)));
+    assert!(rt; receiver.try_changed() == Ok(Some(10)));
+    assert!(rt; receiver.try_changed() == Ok(None));
+}
+
+#[test]
+fn dynamic_receiver_count(rt: HostRuntime) {
+    let notes = Notes::new(&rt);
+    let watch: Places<_, 2> = Watch::new(&notes);
+    let first = receives(&rt, watch.receiver());
+    let second = watch.receiver();
+    assert!(rt; second.is_some());
+    assert!(rt; watch.receiver().is_none());
+    let dynamic = first.as_dyn();
+    assert!(rt; watch.receiver().is_none());
+    drop(dynamic);
+    let third = watch.receiver();
+    assert!(rt; third.is_some());
+    assert!(rt; watch.receiver().is_none());
+}
+
+#[test]
+fn a_watch_without_places_has_anonymous_receivers_alone(rt: HostRuntime) {
+    let notes = Notes::new(&rt);
+    let watch: Places<_, 0> = Watch::new(&notes);
+    assert!(rt; watch.receiver().is_none());
+    let mut anonymous = watch.anon_receiver();
+    sends(&rt, &watch.sender(), 10);
+    assert!(rt; anonymous.try_get_and(|x| *x < 5) == Ok(None));
+    assert!(rt; anonymous.try_changed_and(|x| *x > 5) == Ok(Some(10)));
+    assert!(rt; anonymous.try_changed() == Ok(None));
+    assert!(rt; anonymous.try_get() == Ok(Some(10)));
+}

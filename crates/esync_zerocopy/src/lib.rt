@@ -1,0 +1,4 @@
+//! A channel whose messages are written and read where they stand.
+#![tactic(auto)]
+
+pub mod zerocopy_channel;

@@ -1,0 +1,248 @@
+//! A channel of slots that one side writes and the other reads where they stand.
+ghost use Rattle.std.specs.Prelude.{◌≡◌, ◌<◌, vec_len, slice_set, IfSome};
+ghost use Rattle.std.specs.Borrow.{LendsIf, sem, follows_if};
+
+use esync_base::waitqueue::{Context, Poll, Wakes};
+pub use shared::{
+    Channel, ReceiveSlot, Receiver, SendSlot, Sender, Slot, SlotLoan, ZeroReceive, ZeroRequest,
+    ZeroSend,
+};
+use std::marker::Model;
+use thiserror::Error;
+use turns::Turns;
+
+pub mod machine;
+mod shared;
+mod turns;
+
+/// One of the two sides of a channel.
+#[derive(Clone, Copy, Debug, PartialEq, Eq)]
+pub enum Side {
+    /// Who writes a spare slot and sends it.
+    Sender,
+    /// Who reads a held slot and gives it back.
+    Receiver,
+}
+
+/// The other side's slot is out.
+#[derive(Clone, Copy, Debug, PartialEq, Eq, Error)]
+#[error("the other side's slot is lent")]
+pub struct SlotLent;
+
+/// The state of a zero-copy channel: a row of slots, whose turn each of them is, and who waits for one.
+#[derive(Drop)]
+pub struct ChannelState<T, W> {
+    slots: Vec<T>,
+    turns: Turns<W>,
+}
+
+impl<T, W> Model for ChannelState<T, W> {
+    ghost use Rattle.std.specs.Prelude.{◌≡◌, length};
+    ghost use Rattle.esync_zerocopy.specs.Slots.{count};
+    ghost use Rattle.esync_zerocopy.specs.Lending.{Lending, lending_code};
+
+    ghost Value = { Lending T W };
+
+    ghost coded = { lending_code T.code W.code };
+
+    ghost view = { λ a. record { slots = record { sides = a.turns.sides; values = a.slots.items }; waiting = a.turns.waiting } };
+
+    ghost invariant = { λ a. length a.slots.items ≡ count a.turns.sides };
+}
+
+impl<T: Drop, W: Copy + Eq> ChannelState<T, W> {
+    ghost use Rattle.std.specs.Prelude.{◌≡◌, ◌<◌, ◌++◌, [], length, slice_get, is_ok, ◌↔◌, IsTrue, None, false};
+    ghost use Rattle.std.specs.Borrow.{LendsIf, sem, follows_if};
+    ghost use Rattle.esync_zerocopy.specs.Slots.{all_spare, count, other, before, is_out, with_out, done_by, cleared, cleared_if, waits_at, waiting_unless, wakes_unless, waiting_if_cleared, wakes_if_cleared};
+    ghost use Rattle.esync_zerocopy.specs.Lending.{first_value, lent_with, value_lent, value_polled, name_polled};
+    ghost use Rattle.esync_zerocopy.specs.contracts.zerocopy_channel.ChannelState.{the_row};
+
+    #[tactic(auto, using(crate::proofs::Rounds::length_numbers))]
+    /// A channel of these slots, all spare, and nobody who waits. There has to be a slot.
+    pub fn new(slots: Vec<T>) -> Self
+        requires { 0 < length slots.items }
+        ensures sides { result.slots.sides ≡ all_spare (length slots.items) }
+        ensures values { result.slots.values ≡ slots.items }
+        ensures senders { result.waiting.senders ≡ [] }
+        ensures receivers { result.waiting.receivers ≡ [] }
+    {
+        let capacity = slots.len();
+        ChannelState {
+            slots,
+            turns: Turns::new(capacity),
+        }
+    }
+
+    #[tactic(auto, using(crate::specs::LendingLaws::first_of_none))]
+    fn lend(&mut self, side: Side) -> Option<&mut T>
+        ensures* lends { sem 𝓛 (LendsIf (the_row T.row W.row) T.row self.entry result (λ w. record { slots = lent_with side self.old.slots w; waiting = self.old.waiting }) self.old) }
+        ensures value { value_lent result ≡ first_value (before side self.old.slots.sides) self.old.slots.values }
+        ensures none { value_lent result ≡ None → before side self.old.slots.sides ≡ [] }
+    {
+        let number = self.turns.lend(side)?;
+        self.slots.get_mut(number)
+    }
+
+    #[tactic(auto, using(crate::specs::LendingLaws::first_of_none))]
+    fn poll_lend<const K: usize>(
+        &mut self,
+        side: Side,
+        cx: &Context<W>,
+        wakes: &mut Wakes<W, K>,
+    ) -> Poll<&mut T>
+        requires { length wakes.old < K }
+        ensures* lends { sem 𝓛 (follows_if (the_row T.row W.row) T.row self.entry.ghost_name (name_polled result) (λ w. record { slots = lent_with side self.old.slots w; waiting = self.old.waiting }) (record { slots = self.old.slots; waiting = waiting_unless W.eq (value_polled result) side cx.now self.old.waiting })) }
+        ensures value { value_polled result ≡ first_value (before side self.old.slots.sides) self.old.slots.values }
+        ensures none { value_polled result ≡ None → before side self.old.slots.sides ≡ [] }
+        ensures wakes { wakes.new ≡ wakes.old ++ wakes_unless W.eq (value_polled result) side cx.now self.old.waiting }
+    {
+        match self.turns.poll_lend(side, cx, wakes) {
+            Some(number) => Poll::Ready(&mut self.slots[number]),
+            None => Poll::Pending,
+        }
+    }
+
+    /// Lends the next spare slot, to be written, if there is one. Until it is sent it is lent again, and what was written stays.
+    pub fn try_send(&mut self) -> Option<&mut T>
+        ensures* lends { sem 𝓛 (LendsIf (the_row T.row W.row) T.row self.entry result (λ w. record { slots = lent_with Side.Sender self.old.slots w; waiting = self.old.waiting }) self.old) }
+        ensures value { value_lent result ≡ first_value self.old.slots.sides.spare self.old.slots.values }
+        ensures none { value_lent result ≡ None → self.old.slots.sides.spare ≡ [] }
+    {
+        self.lend(Side::Sender)
+    }
+
+    /// The same. Where no slot is spare, the context's waker waits for one.
+    pub fn poll_send<const K: usize>(
+        &mut self,
+        cx: &Context<W>,
+        wakes: &mut Wakes<W, K>,
+    ) -> Poll<&mut T>
+        requires { length wakes.old < K }
+        ensures* lends { sem 𝓛 (follows_if (the_row T.row W.row) T.row self.entry.ghost_name (name_polled result) (λ w. record { slots = lent_with Side.Sender self.old.slots w; waiting = self.old.waiting }) (record { slots = self.old.slots; waiting = waiting_unless W.eq (value_polled result) Side.Sender cx.now self.old.waiting })) }
+        ensures value { value_polled result ≡ first_value self.old.slots.sides.spare self.old.slots.values }
+        ensures none { value_polled result ≡ None → self.old.slots.sides.spare ≡ [] }
+        ensures wakes { wakes.new ≡ wakes.old ++ wakes_unless W.eq (value_polled result) Side.Sender cx.now self.old.waiting }
+    {
+        self.poll_lend(Side::Sender, cx, wakes)
+    }
+
+    /// Sends the next spare slot, behind those that are held, and wakes who waits to receive. The channel must not be full.
+    pub fn send_done<const K: usize>(&mut self, wakes: &mut Wakes<W, K>)
+        requires room { length wakes.old < K }
+        requires not_full { 0 < length self.old.slots.sides.spare }
+        ensures slots { self.new.slots ≡ record self.old.slots { sides = done_by Side.Sender self.old.slots.sides } }
+        ensures waiting { self.new.waiting ≡ record self.old.waiting { receivers = [] } }
+        ensures wakes { wakes.new ≡ wakes.old ++ self.old.waiting.receivers }
+    {
+        self.turns.done(Side::Sender, wakes);
+    }
+
+    /// Lends the oldest held slot, to be read or written, if there is one. Until it is given back it is lent again.
+    pub fn try_receive(&mut self) -> Option<&mut T>
+        ensures* lends { sem 𝓛 (LendsIf (the_row T.row W.row) T.row self.entry result (λ w. record { slots = lent_with Side.Receiver self.old.slots w; waiting = self.old.waiting }) self.old) }
+        ensures value { value_lent result ≡ first_value self.old.slots.sides.held self.old.slots.values }
+        ensures none { value_lent result ≡ None → self.old.slots.sides.held ≡ [] }
+    {
+        self.lend(Side::Receiver)
+    }
+
+    /// The same. Where no slot is held, the context's waker waits for one.
+    pub fn poll_receive<const K: usize>(
+        &mut self,
+        cx: &Context<W>,
+        wakes: &mut Wakes<W, K>,
+    ) -> Poll<&mut T>
+        requires { length wakes.old < K }
+        ensures* lends { sem 𝓛 (follows_if (the_row T.row W.row) T.row self.entry.ghost_name (name_polled result) (λ w. record { slots = lent_with Side.Receiver self.old.slots w; waiting = self.old.waiting }) (record { slots = self.old.slots; waiting = waiting_unless W.eq (value_polled result) Side.Receiver cx.now self.old.waiting })) }
+        ensures value { value_polled result ≡ first_value self.old.slots.sides.held self.old.slots.values }
+        ensures none { value_polled result ≡ None → self.old.slots.sides.held ≡ [] }
+        ensures wakes { wakes.new ≡ wakes.old ++ wakes_unless W.eq (value_polled result) Side.Receiver cx.now self.old.waiting }
+    {
+        self.poll_lend(Side::Receiver, cx, wakes)
+    }
+
+    /// Gives the oldest held slot back, behind those that are spare, and wakes who waits to send. The channel must not be empty.
+    pub fn receive_done<const K: usize>(&mut self, wakes: &mut Wakes<W, K>)
+        requires room { length wakes.old < K }
+        requires not_empty { 0 < length self.old.slots.sides.held }
+        ensures slots { self.new.slots ≡ record self.old.slots { sides = done_by Side.Receiver self.old.slots.sides } }
+        ensures waiting { self.new.waiting ≡ record self.old.waiting { senders = [] } }
+        ensures wakes { wakes.new ≡ wakes.old ++ self.old.waiting.senders }
+    {
+        self.turns.done(Side::Receiver, wakes);
+    }
+
+    /// The number of the slot that the side is lent next, or has lent, if there is one.
+    pub fn next_slot(&self, side: Side) -> Option<usize>
+        ensures { result ≡ slice_get (before side self.now.slots.sides) 0 }
+    {
+        self.turns.next(side)
+    }
+
+    /// The side's slot is lent: it was neither sent or given back nor ended since.
+    pub fn is_lent(&self, side: Side) -> bool
+        ensures { result ≡ is_out side self.now.slots.sides }
+    {
+        self.turns.is_out(side)
+    }
+
+    /// Ends the loan of the side's slot, if it is lent. The slot stays where it is, and what was written stays.
+    pub fn end_loan(&mut self, side: Side)
+        ensures { self.new ≡ record { slots = record self.old.slots { sides = with_out side false self.old.slots.sides }; waiting = self.old.waiting } }
+    {
+        self.turns.end_loan(side);
+    }
+
+    #[tactic(auto, using(crate::proofs::Rounds::count_of_cleared))]
+    /// Makes all slots spare, the first one next, ends the side's own loan, and wakes who waits to send. The values stay. Where the
+    /// other side's slot is lent, that is refused, and nothing changes.
+    pub fn clear<const K: usize>(
+        &mut self,
+        side: Side,
+        wakes: &mut Wakes<W, K>,
+    ) -> Result<(), SlotLent>
+        requires { length wakes.old < K }
+        ensures answer { result ≡ cleared (is_out (other side) self.old.slots.sides) }
+        ensures slots { self.new.slots ≡ record self.old.slots { sides = cleared_if (is_ok result) self.old.slots.sides } }
+        ensures waiting { self.new.waiting ≡ waiting_if_cleared (is_ok result) self.old.waiting }
+        ensures wakes { wakes.new ≡ wakes.old ++ wakes_if_cleared (is_ok result) self.old.waiting }
+    {
+        self.turns.clear(side, wakes)
+    }
+
+    /// How many slots are held.
+    pub fn len(&self) -> usize
+        ensures { result ≡ length self.now.slots.sides.held }
+    {
+        self.turns.len()
+    }
+
+    /// No slot is held.
+    pub fn is_empty(&self) -> bool
+        ensures { IsTrue result ↔ (length self.now.slots.sides.held ≡ 0) }
+    {
+        self.turns.len() == 0
+    }
+
+    /// No slot is spare.
+    pub fn is_full(&self) -> bool
+        ensures { IsTrue result ↔ (length self.now.slots.sides.spare ≡ 0) }
+    {
+        self.turns.free_capacity() == 0
+    }
+
+    /// How many slots there are.
+    pub fn capacity(&self) -> usize
+        ensures value { result ≡ length self.now.slots.values }
+        ensures all { result ≡ count self.now.slots.sides }
+    {
+        self.turns.capacity()
+    }
+
+    /// How many slots are spare.
+    pub fn free_capacity(&self) -> usize
+        ensures { result ≡ length self.now.slots.sides.spare }
+    {
+        self.turns.free_capacity()
+    }
+}

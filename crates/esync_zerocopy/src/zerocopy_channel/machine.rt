@@ -1,0 +1,249 @@
+//! The zero-copy channel as a machine that takes commands.
+ghost use Rattle.std.specs.Prelude.{◌≡◌, [], IfOk, OnErr};
+ghost use Rattle.esync_machine.specs.Runs.{GoodRun};
+ghost use Rattle.esync_machine.specs.Object.{requests_meaning};
+ghost use Rattle.esync_zerocopy.specs.ZeroRules.{zero_rules, zero_wakings};
+
+use super::{ChannelState, Side, SlotLent};
+use esync_base::waitqueue::{Context, Poll, Wakes};
+use esync_machine::primitive::{Answer, Command, Primitive, Reach, Turn};
+use esync_machine::requests::Requests;
+use esync_machine::run::{Reply, run};
+use std::alloc::{AllocError, Global};
+
+/// A slot that a side is lent.
+#[derive(Clone, Copy, Debug, PartialEq, Eq)]
+pub enum Lent<T> {
+    /// The number of the slot that the sender can write.
+    Spare(usize),
+    /// The number of the slot that the receiver can read, and its value.
+    Held(usize, T),
+}
+
+/// The calls of a zero-copy channel beside its requests, which are of a side that waits for its next slot.
+#[derive(Clone, Copy, Debug, PartialEq, Eq)]
+pub enum ZeroCall<T> {
+    /// Lends the side's next slot, if there is one.
+    Try(Side),
+    /// Writes into the sender's lent slot.
+    Write(T),
+    /// Sends the sender's next slot, or gives the receiver's back.
+    Done(Side),
+    /// Ends the loan of the side's slot.
+    EndLoan(Side),
+    /// Makes all slots spare, unless the other side's is lent.
+    Clear(Side),
+    /// How many slots are held.
+    Len,
+    /// How many slots are spare.
+    FreeCapacity,
+}
+
+/// What a zero-copy channel answers.
+#[derive(Clone, Copy, Debug, PartialEq, Eq)]
+pub enum ZeroHeard<T> {
+    /// The slot that the request waited for.
+    Lends(Lent<T>),
+    /// The slot that a try is lent, if there is one.
+    Tried(Option<Lent<T>>),
+    /// Whether the channel was cleared.
+    Cleared(Result<(), SlotLent>),
+    /// How many slots there are of a kind.
+    Count(usize),
+}
+
+// What a side is told of the slot that it is lent.
+fn told<T: Copy>(side: Side, number: usize, value: T) -> Lent<T>
+    ensures sender { side ≡ Side.Sender → result ≡ Lent.Spare number }
+    ensures receiver { side ≡ Side.Receiver → result ≡ Lent.Held number value }
+{
+    match side {
+        Side::Sender => Lent::Spare(number),
+        Side::Receiver => Lent::Held(number, value),
+    }
+}
+
+impl<T: Copy, W: Copy + Eq> ChannelState<T, W> {
+    ghost use Rattle.std.specs.Prelude.{◌≡◌, ◌<◌, ◌++◌, [], None, length};
+    ghost use Rattle.esync_zerocopy.specs.Slots.{other, before, is_out, out_if, waiting_unless, wakes_unless};
+    ghost use Rattle.esync_zerocopy.specs.ZeroRules.{lent_to, Writes, IsDoneBy, EndsLoan, hands_out_at};
+    ghost use Rattle.esync_machine.specs.Wakings.{IsHanded, unless_refused};
+
+    #[tactic(auto, using(crate::specs::LendingLaws::first_kept))]
+    fn try_at(&mut self, side: Side) -> Option<Lent<T>>
+        ensures lent { result ≡ lent_to side self.old.slots }
+        ensures state { self.new ≡ record { slots = record { sides = out_if result side self.old.slots.sides; values = self.old.slots.values }; waiting = self.old.waiting } }
+    {
+        let number = self.next_slot(side)?;
+        let value = *self.lend(side)?;
+        Some(told(side, number, value))
+    }
+
+    #[tactic(auto, using(crate::specs::LendingLaws::first_kept))]
+    fn poll_at<const K: usize>(
+        &mut self,
+        side: Side,
+        waker: W,
+        wakes: &mut Wakes<W, K>,
+    ) -> Option<Lent<T>>
+        requires { length wakes.old < K }
+        ensures lent { result ≡ lent_to side self.old.slots }
+        ensures none { result ≡ None → before side self.old.slots.sides ≡ [] }
+        ensures slots { self.new.slots ≡ record { sides = out_if result side self.old.slots.sides; values = self.old.slots.values } }
+        ensures waiting { self.new.waiting ≡ waiting_unless W.eq result side waker self.old.waiting }
+        ensures wakes { wakes.new ≡ wakes.old ++ wakes_unless W.eq result side waker self.old.waiting }
+    {
+        let number = self.next_slot(side);
+        let value = match self.poll_lend(side, &Context::from_waker(waker), wakes) {
+            Poll::Ready(slot) => Some(*slot),
+            Poll::Pending => None,
+        };
+        Some(told(side, number?, value?))
+    }
+
+    fn write_at(&mut self, value: T) -> Answer<ZeroHeard<T>>
+        ensures allowed { Writes self.old.slots.sides.sending value self.old.slots result self.new.slots }
+        ensures waiting { self.new.waiting ≡ self.old.waiting }
+    {
+        if !self.is_lent(Side::Sender) {
+            return Answer::NoSuch;
+        }
+        if let Some(slot) = self.try_send() {
+            *slot = value;
+        }
+        Answer::Done
+    }
+
+    fn done_at<const K: usize>(
+        &mut self,
+        side: Side,
+        wakes: &mut Wakes<W, K>,
+    ) -> Answer<ZeroHeard<T>>
+        requires empty { wakes.old ≡ [] }
+        requires room { 0 < K }
+        ensures allowed { IsDoneBy (before side self.old.slots.sides) side self.old.slots result self.new.slots }
+        ensures handed { IsHanded (unless_refused result self.old.waiting (hands_out_at (other side) self.old.waiting)) wakes.new self.new.waiting }
+    {
+        if self.next_slot(side).is_none() {
+            return Answer::NoSuch;
+        }
+        match side {
+            Side::Sender => self.send_done(wakes),
+            Side::Receiver => self.receive_done(wakes),
+        }
+        Answer::Done
+    }
+
+    fn end_at(&mut self, side: Side) -> Answer<ZeroHeard<T>>
+        ensures allowed { EndsLoan (is_out side self.old.slots.sides) side self.old.slots result self.new.slots }
+        ensures waiting { self.new.waiting ≡ self.old.waiting }
+    {
+        if !self.is_lent(side) {
+            return Answer::NoSuch;
+        }
+        self.end_loan(side);
+        Answer::Done
+    }
+}
+
+impl<T: Copy, W: Copy + Eq, const K: usize> Primitive<K> for ChannelState<T, W> {
+    type Ask = Side;
+
+    type Held = Side;
+
+    type Call = ZeroCall<T>;
+
+    type Heard = ZeroHeard<T>;
+
+    type Waker = W;
+
+    ghost use Rattle.esync_zerocopy.specs.ZeroRules.{zero_rules, zero_wakings};
+    ghost use Rattle.esync_zerocopy.specs.ZeroLaws.{OwesSlot, zero_idle, zero_pending};
+    ghost use Rattle.esync_machine.specs.RulesLaws.{all_requests};
+
+    ghost rules = { zero_rules T };
+
+    ghost core = { λ m. m.slots };
+
+    ghost wakings = { zero_wakings W.eq };
+
+    ghost registrations = { λ m. m.waiting };
+
+    ghost most = { 1 };
+
+    ghost Owes = { λ m side w. OwesSlot W.eq m side w };
+
+    ghost Fits = { λ m side. Unit };
+
+    ghost Apart = { λ side side2. Unit };
+
+    fn begin(&self, ask: Side) -> Option<Side> {
+        Some(ask)
+    }
+
+    #[tactic(auto, using(crate::specs::ZeroLaws::waits_registered))]
+    fn poll(&mut self, held: Side, waker: W, wakes: &mut Wakes<W, K>) -> Turn<ZeroHeard<T>, Side> {
+        match self.poll_at(held, waker, wakes) {
+            Some(lent) => Turn::over(ZeroHeard::Lends(lent)),
+            None => Turn::waits(held),
+        }
+    }
+
+    fn end(&mut self, _held: Side, _wakes: &mut Wakes<W, K>) {}
+
+    fn reach(_call: &ZeroCall<T>) -> Reach {
+        Reach::Nobody
+    }
+
+    fn leaves(&self, _call: &ZeroCall<T>, _held: &Side) -> bool {
+        false
+    }
+
+    fn call(
+        &mut self,
+        call: ZeroCall<T>,
+        _place: &mut Option<Side>,
+        wakes: &mut Wakes<W, K>,
+    ) -> Answer<ZeroHeard<T>> {
+        match call {
+            ZeroCall::Try(side) => Answer::Gives(ZeroHeard::Tried(self.try_at(side))),
+            ZeroCall::Write(value) => self.write_at(value),
+            ZeroCall::Done(side) => self.done_at(side, wakes),
+            ZeroCall::EndLoan(side) => self.end_at(side),
+            ZeroCall::Clear(side) => Answer::Gives(ZeroHeard::Cleared(self.clear(side, wakes))),
+            ZeroCall::Len => Answer::Gives(ZeroHeard::Count(self.len())),
+            ZeroCall::FreeCapacity => Answer::Gives(ZeroHeard::Count(self.free_capacity())),
+        }
+    }
+
+    ghost idle = { λ m side w f o. zero_idle m.slots side o.0 };
+
+    ghost pending = { zero_pending };
+
+    ghost no_such = { λ o side a o2 p n k. absurd (n tt) };
+
+    ghost symmetric = { λ side side2 a. tt };
+
+    ghost no_requests = { all_requests (zero_rules T) (λ side. tt) (λ o o2 call p p2 a c. c.1) };
+}
+
+/// A zero-copy channel as a machine, with requests at the numbers below `REQS`.
+pub type ZeroRun<T, W, const REQS: usize, const K: usize> = Requests<ChannelState<T, W>, REQS, K>;
+
+/// The commands of a zero-copy channel.
+pub type ZeroCommand<T, W> = Command<Side, W, ZeroCall<T>>;
+
+/// What a zero-copy channel answers to a command, with the wakers that it hands out.
+pub type ZeroReply<T, W, const K: usize> = Reply<Answer<ZeroHeard<T>>, W, K>;
+
+/// Gives the commands to the channel, one after another, as `run` does: the answers are those of the slots, and no wake is lost.
+pub fn run_zerocopy<T: Copy, W: Copy + Eq, const REQS: usize, const K: usize>(
+    alloc: Global,
+    machine: &mut ZeroRun<T, W, REQS, K>,
+    commands: Vec<ZeroCommand<T, W>>,
+) -> Result<Vec<ZeroReply<T, W, K>>, AllocError>
+    ensures run { IfOk result (λ replies. GoodRun (requests_meaning (zero_rules T) (zero_wakings W.eq) W.eq K) (record { core = machine.old.state.slots; requests = machine.old.requests }) machine.old.state.waiting commands.items replies.items (record { core = machine.new.state.slots; requests = machine.new.requests }) machine.new.state.waiting) }
+    ensures refused { OnErr result (machine.new ≡ machine.old) }
+{
+    run(alloc, machine, commands)
+}

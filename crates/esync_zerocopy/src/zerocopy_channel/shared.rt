@@ -1,0 +1,400 @@
+//! A zero-copy channel that tasks on several threads share by reference, its handles, its loans and its futures.
+ghost use Rattle.std.specs.Prelude.{◌≡◌, ◌<◌, [], length, slice_get, OnSome, IsSome};
+ghost use Rattle.esync_zerocopy.specs.Slots.{all_spare, count, before, out_if, waiting_unless};
+ghost use Rattle.esync_zerocopy.specs.Turned.{wakes_of_turn, DoneIf};
+
+use super::turns::Turns;
+use super::{Side, SlotLent};
+use esync_base::shared::Shared;
+use esync_base::step;
+use esync_base::waitqueue::{Context, Hand, Poll, Wakes};
+use std::ops::{Deref, DerefMut};
+use std::sync;
+
+/// A slot for a message, whose value one side at a time takes, which never waits for it.
+#[derive(Drop)]
+pub struct Slot<T> {
+    value: sync::Mutex<T>,
+}
+
+impl<T> Slot<T> {
+    /// A slot of this value.
+    pub fn new(value: T) -> Self {
+        Slot {
+            value: sync::Mutex::new(value),
+        }
+    }
+
+    // Takes the value, unless another has it.
+    fn turn(&self) -> Option<sync::MutexGuard<'_, T>> {
+        self.value.try_lock()
+    }
+}
+
+// Takes the side's next slot out, and its value, where there is a slot and its value is there.
+fn try_turn<'a, T, W: Copy + Eq>(
+    slots: &'a [Slot<T>],
+    turns: &mut Turns<W>,
+    side: Side,
+) -> Option<sync::MutexGuard<'a, T>>
+    ensures state { turns.new ≡ record { sides = out_if result side turns.old.sides; waiting = turns.old.waiting } }
+    ensures slot { OnSome result (IsSome (slice_get (before side turns.old.sides) 0)) }
+{
+    let slot = slots.get(turns.next(side)?)?;
+    let value = slot.turn()?;
+    let _ = turns.lend(side);
+    Some(value)
+}
+
+// The same, or else waits for a slot. Where there is one and its value isn't there, it hands out the waker, so that the task polls
+// again.
+fn poll_turn<'a, T, W: Copy + Eq>(
+    slots: &'a [Slot<T>],
+    turns: &mut Turns<W>,
+    side: Side,
+    cx: &Context<W>,
+    wakes: &mut Wakes<W, 1>,
+) -> Option<sync::MutexGuard<'a, T>>
+    requires { wakes.old ≡ [] }
+    ensures sides { turns.new.sides ≡ out_if result side turns.old.sides }
+    ensures waiting { turns.new.waiting ≡ waiting_unless W.eq (slice_get (before side turns.old.sides) 0) side cx.now turns.old.waiting }
+    ensures wakes { wakes.new ≡ wakes_of_turn W.eq (slice_get (before side turns.old.sides) 0) result side cx.now turns.old.waiting }
+{
+    if let Some(value) = try_turn(slots, turns, side) {
+        return Some(value);
+    }
+    if turns.next(side).is_none() {
+        let _ = turns.poll_lend(side, cx, wakes);
+    } else {
+        wakes.push(cx.waker());
+    }
+    None
+}
+
+// The side is done with its next slot, if there is one.
+fn done_if<W: Copy + Eq>(turns: &mut Turns<W>, side: Side, wakes: &mut Wakes<W, 1>)
+    requires { wakes.old ≡ [] }
+    ensures { DoneIf (before side turns.old.sides) side turns.old turns.new wakes.new }
+{
+    if turns.next(side).is_some() {
+        turns.done(side, wakes);
+    }
+}
+
+// Makes all slots spare, whatever is out.
+fn reset<W: Copy + Eq>(turns: &mut Turns<W>, wakes: &mut Wakes<W, 1>)
+    requires { wakes.old ≡ [] }
+    ensures sides { turns.new.sides ≡ all_spare (count turns.old.sides) }
+    ensures waiting { turns.new.waiting ≡ record turns.old.waiting { senders = [] } }
+    ensures wakes { wakes.new ≡ turns.old.waiting.senders }
+{
+    turns.end_loan(Side::Receiver);
+    let _ = turns.clear(Side::Sender, wakes);
+}
+
+/// A channel of slots, which a sender and a receiver share by reference.
+///
+/// Its lock is held for the length of a state call alone. A loan has the slot's value to itself: it reads and writes it without a
+/// lock.
+#[derive(Drop)]
+pub struct Channel<T, W, H> {
+    slots: Vec<Slot<T>>,
+    turns: Shared<Turns<W>, W, H>,
+}
+
+impl<T, W: Copy + Eq, H: Hand<W>> Channel<T, W, H> {
+    /// A channel of these slots, all spare. There has to be a slot.
+    pub fn new(slots: Vec<Slot<T>>, hand: H) -> Self
+        requires { 0 < length slots.items }
+    {
+        let capacity = slots.len();
+        Channel {
+            slots,
+            turns: Shared::new(Turns::new(capacity), hand),
+        }
+    }
+
+    /// The two sides of the channel.
+    pub fn split(&mut self) -> (Sender<'_, T, W, H>, Receiver<'_, T, W, H>) {
+        let channel = &*self;
+        (Sender { channel }, Receiver { channel })
+    }
+
+    /// Makes all slots spare, and wakes who waits to send. Nobody has a loan, since the channel is borrowed whole.
+    pub fn clear(&mut self) {
+        step!(self.turns, |turns, wakes| reset(&mut turns, &mut wakes))
+    }
+
+    /// How many slots are held.
+    pub fn len(&self) -> usize {
+        self.turns.guard().len()
+    }
+
+    /// No slot is held.
+    pub fn is_empty(&self) -> bool {
+        self.len() == 0
+    }
+
+    /// No slot is spare.
+    pub fn is_full(&self) -> bool {
+        self.free_capacity() == 0
+    }
+
+    /// How many slots there are.
+    pub fn capacity(&self) -> usize {
+        self.slots.len()
+    }
+
+    /// How many slots are spare.
+    pub fn free_capacity(&self) -> usize {
+        self.turns.guard().free_capacity()
+    }
+
+    fn try_lend(&self, side: Side) -> Option<SlotLoan<'_, T, W, H>> {
+        let turn = try_turn(&self.slots, &mut self.turns.guard(), side);
+        match turn {
+            Some(value) => Some(SlotLoan {
+                channel: self,
+                side,
+                value,
+            }),
+            None => None,
+        }
+    }
+
+    fn poll_lend(&self, side: Side, cx: &Context<W>) -> Poll<SlotLoan<'_, T, W, H>> {
+        let turn = step!(
+            self.turns,
+            |turns, wakes| poll_turn(&self.slots, &mut turns, side, cx, &mut wakes)
+        );
+        match turn {
+            Some(value) => Poll::Ready(SlotLoan {
+                channel: self,
+                side,
+                value,
+            }),
+            None => Poll::Pending,
+        }
+    }
+
+    fn done(&self, side: Side) {
+        step!(
+            self.turns,
+            |turns, wakes| done_if(&mut turns, side, &mut wakes)
+        )
+    }
+
+    fn clear_by(&self, side: Side) -> Result<(), SlotLent> {
+        step!(self.turns, |turns, wakes| turns.clear(side, &mut wakes))
+    }
+}
+
+/// The side of a channel that writes.
+#[derive(Drop)]
+pub struct Sender<'a, T, W, H> {
+    channel: &'a Channel<T, W, H>,
+}
+
+impl<T, W: Copy + Eq, H: Hand<W>> Sender<'_, T, W, H> {
+    /// The same side, for as long as this one is borrowed.
+    pub fn borrow(&mut self) -> Sender<'_, T, W, H> {
+        Sender {
+            channel: self.channel,
+        }
+    }
+
+    /// Lends the next spare slot, if there is one now.
+    pub fn try_send(&mut self) -> Option<SendSlot<'_, T, W, H>> {
+        self.channel.try_lend(Side::Sender)
+    }
+
+    /// The same. Where no slot is spare, the context's waker waits for one.
+    pub fn poll_send(&mut self, cx: &Context<W>) -> Poll<SendSlot<'_, T, W, H>> {
+        self.channel.poll_lend(Side::Sender, cx)
+    }
+
+    /// Lends the next spare slot, when there is one.
+    pub fn send(&mut self) -> ZeroSend<'_, T, W, H> {
+        ZeroRequest {
+            channel: self.channel,
+            side: Side::Sender,
+        }
+    }
+
+    /// Sends the next spare slot as it is, if there is one, and wakes who waits to receive.
+    pub fn send_done(&mut self) {
+        self.channel.done(Side::Sender)
+    }
+
+    /// Makes all slots spare, and wakes who waits to send. Where the receiver's slot is lent, that is refused, and nothing changes.
+    pub fn clear(&mut self) -> Result<(), SlotLent> {
+        self.channel.clear_by(Side::Sender)
+    }
+
+    /// How many slots are held.
+    pub fn len(&self) -> usize {
+        self.channel.len()
+    }
+
+    /// No slot is held.
+    pub fn is_empty(&self) -> bool {
+        self.channel.is_empty()
+    }
+
+    /// No slot is spare.
+    pub fn is_full(&self) -> bool {
+        self.channel.is_full()
+    }
+
+    /// How many slots there are.
+    pub fn capacity(&self) -> usize {
+        self.channel.capacity()
+    }
+
+    /// How many slots are spare.
+    pub fn free_capacity(&self) -> usize {
+        self.channel.free_capacity()
+    }
+}
+
+/// The side of a channel that reads.
+#[derive(Drop)]
+pub struct Receiver<'a, T, W, H> {
+    channel: &'a Channel<T, W, H>,
+}
+
+impl<T, W: Copy + Eq, H: Hand<W>> Receiver<'_, T, W, H> {
+    /// The same side, for as long as this one is borrowed.
+    pub fn borrow(&mut self) -> Receiver<'_, T, W, H> {
+        Receiver {
+            channel: self.channel,
+        }
+    }
+
+    /// Lends the oldest held slot, if there is one now.
+    pub fn try_receive(&mut self) -> Option<ReceiveSlot<'_, T, W, H>> {
+        self.channel.try_lend(Side::Receiver)
+    }
+
+    /// The same. Where no slot is held, the context's waker waits for one.
+    pub fn poll_receive(&mut self, cx: &Context<W>) -> Poll<ReceiveSlot<'_, T, W, H>> {
+        self.channel.poll_lend(Side::Receiver, cx)
+    }
+
+    /// Lends the oldest held slot, when there is one.
+    pub fn receive(&mut self) -> ZeroReceive<'_, T, W, H> {
+        ZeroRequest {
+            channel: self.channel,
+            side: Side::Receiver,
+        }
+    }
+
+    /// Gives the oldest held slot back, if there is one, and wakes who waits to send.
+    pub fn receive_done(&mut self) {
+        self.channel.done(Side::Receiver)
+    }
+
+    /// Makes all slots spare, and wakes who waits to send. Where the sender's slot is lent, that is refused, and nothing changes.
+    pub fn clear(&mut self) -> Result<(), SlotLent> {
+        self.channel.clear_by(Side::Receiver)
+    }
+
+    /// How many slots are held.
+    pub fn len(&self) -> usize {
+        self.channel.len()
+    }
+
+    /// No slot is held.
+    pub fn is_empty(&self) -> bool {
+        self.channel.is_empty()
+    }
+
+    /// No slot is spare.
+    pub fn is_full(&self) -> bool {
+        self.channel.is_full()
+    }
+
+    /// How many slots there are.
+    pub fn capacity(&self) -> usize {
+        self.channel.capacity()
+    }
+
+    /// How many slots are spare.
+    pub fn free_capacity(&self) -> usize {
+        self.channel.free_capacity()
+    }
+}
+
+/// A request of a side for its next slot. It acts anew after it was ready; while the slot is lent, it waits and hands out its own
+/// waker.
+#[derive(Drop)]
+pub struct ZeroRequest<'a, T, W, H> {
+    channel: &'a Channel<T, W, H>,
+    side: Side,
+}
+
+/// A request to send: what `send` gives.
+pub type ZeroSend<'a, T, W, H> = ZeroRequest<'a, T, W, H>;
+
+/// A request to receive: what `receive` gives.
+pub type ZeroReceive<'a, T, W, H> = ZeroRequest<'a, T, W, H>;
+
+impl<'a, T, W: Copy + Eq, H: Hand<W>> ZeroRequest<'a, T, W, H> {
+    /// Lends the side's next slot, if there is one now. Otherwise the context's waker waits for one.
+    pub fn poll(&mut self, cx: &Context<W>) -> Poll<SlotLoan<'a, T, W, H>> {
+        self.channel.poll_lend(self.side, cx)
+    }
+}
+
+/// A slot that is lent to a side, with its value. Its end ends the loan alone: the slot stays the side's next one.
+pub struct SlotLoan<'a, T, W: Copy + Eq, H: Hand<W>> {
+    channel: &'a Channel<T, W, H>,
+    side: Side,
+    value: sync::MutexGuard<'a, T>,
+}
+
+/// A slot that the sender writes.
+pub type SendSlot<'a, T, W, H> = SlotLoan<'a, T, W, H>;
+
+/// A slot that the receiver reads.
+pub type ReceiveSlot<'a, T, W, H> = SlotLoan<'a, T, W, H>;
+
+impl<'a, T, W: Copy + Eq, H: Hand<W>> Drop for SlotLoan<'a, T, W, H> {
+    fn drop(self) {
+        let SlotLoan {
+            channel,
+            side,
+            value,
+        } = self;
+        drop(value);
+        channel.turns.guard().end_loan(side);
+    }
+}
+
+impl<'a, T, W: Copy + Eq, H: Hand<W>> SlotLoan<'a, T, W, H> {
+    /// The value.
+    pub fn get(&self) -> &T {
+        self.value.deref()
+    }
+
+    /// The value, to be written.
+    pub fn get_mut(&mut self) -> &mut T {
+        self.value.deref_mut()
+    }
+
+    /// Sends the slot, or gives it back, and wakes who waits on the other side.
+    pub fn done(self) {
+        let SlotLoan {
+            channel,
+            side,
+            value,
+        } = self;
+        drop(value);
+        channel.done(side);
+    }
+
+    /// Ends the loan, as a drop does.
+    pub fn end(self) {
+        drop(self);
+    }
+}

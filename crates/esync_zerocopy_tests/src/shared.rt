@@ -1,0 +1,125 @@
+use esync_base::waitqueue::{Context, Hand, Poll};
+use esync_notes::{Notes, woken};
+use esync_zerocopy::zerocopy_channel::{Channel, Slot, SlotLent, SlotLoan};
+use std::process::Abort;
+use std::test::Fail;
+
+fn ready<'a, H: Hand<u64>>(
+    rt: &impl Abort,
+    polled: Poll<SlotLoan<'a, u32, u64, H>>,
+) -> SlotLoan<'a, u32, u64, H> {
+    match polled {
+        Poll::Ready(slot) => slot,
+        Poll::Pending => rt.abort(),
+    }
+}
+
+fn pending<H: Hand<u64>>(rt: &impl Abort, polled: Poll<SlotLoan<'_, u32, u64, H>>) {
+    if let Poll::Ready(slot) = polled {
+        slot.end();
+        rt.abort()
+    }
+}
+
+fn lent<'a, H: Hand<u64>>(
+    rt: &impl Abort,
+    tried: Option<SlotLoan<'a, u32, u64, H>>,
+) -> SlotLoan<'a, u32, u64, H> {
+    match tried {
+        Some(slot) => slot,
+        None => rt.abort(),
+    }
+}
+
+#[test]
+fn clear_is_refused_under_a_loan(rt: HostRuntime) -> Result<(), Fail> {
+    let notes = Notes::new(&rt);
+    let mut channel = Channel::new(
+        vec![in rt.alloc(); Slot::new(8u32), Slot::new(9u32)]?,
+        &notes,
+    );
+    let (mut sender, mut receiver) = channel.split();
+    let mut slot = lent(&rt, sender.try_send());
+    assert_eq!(rt; *slot.get(), 8);
+    *slot.get_mut() = 5;
+    slot.done();
+    let received = lent(&rt, receiver.try_receive());
+    assert_eq!(rt; *received.get(), 5);
+    assert_eq!(rt; sender.clear(), Err(SlotLent));
+    received.done();
+    let slot = lent(&rt, sender.try_send());
+    assert_eq!(rt; *slot.get(), 9);
+    assert_eq!(rt; receiver.clear(), Err(SlotLent));
+    slot.end();
+    assert_eq!(rt; sender.clear(), Ok(()));
+    let slot = lent(&rt, sender.try_send());
+    assert_eq!(rt; *slot.get(), 5);
+    drop(slot);
+    assert_eq!(rt; receiver.clear(), Ok(()));
+    woken!(&rt, &notes, &[]);
+    Ok(())
+}
+
+#[test]
+fn a_slot_that_is_handed_on_wakes_who_waits_for_it(rt: HostRuntime) -> Result<(), Fail> {
+    let notes = Notes::new(&rt);
+    let (one, two) = (Context::from_waker(1), Context::from_waker(2));
+    let mut channel = Channel::new(vec![in rt.alloc(); Slot::new(4u32)]?, &notes);
+    assert_eq!(rt;
+        (channel.len(), channel.free_capacity(), channel.capacity()),
+        (0, 1, 1)
+    );
+    assert!(rt; channel.is_empty() && !channel.is_full());
+    let (mut sender, mut receiver) = channel.split();
+    pending(&rt, receiver.poll_receive(&one));
+    pending(&rt, receiver.receive().poll(&one));
+    woken!(&rt, &notes, &[]);
+    ready(&rt, sender.poll_send(&two)).done();
+    woken!(&rt, &notes, &[1]);
+    assert!(rt; sender.is_full() && !receiver.is_empty());
+    pending(&rt, sender.borrow().send().poll(&two));
+    woken!(&rt, &notes, &[]);
+    assert_eq!(rt;
+        *ready(&rt, receiver.borrow().receive().poll(&one)).get(),
+        4
+    );
+    woken!(&rt, &notes, &[]);
+    ready(&rt, receiver.poll_receive(&one)).done();
+    woken!(&rt, &notes, &[2]);
+    assert_eq!(rt; (receiver.len(), sender.len()), (0, 0));
+    assert_eq!(rt; (receiver.free_capacity(), sender.free_capacity()), (1, 1));
+    assert_eq!(rt; (receiver.capacity(), sender.capacity()), (1, 1));
+    Ok(())
+}
+
+#[test]
+fn a_side_is_done_with_the_slot_that_is_next(rt: HostRuntime) -> Result<(), Fail> {
+    let notes = Notes::new(&rt);
+    let cx = Context::from_waker(7);
+    let mut channel = Channel::new(
+        vec![in rt.alloc(); Slot::new(0u32), Slot::new(0u32)]?,
+        &notes,
+    );
+    let (mut sender, mut receiver) = channel.split();
+    let mut slot = lent(&rt, sender.try_send());
+    *slot.get_mut() = 3;
+    slot.end();
+    sender.send_done();
+    sender.send_done();
+    sender.send_done();
+    assert!(rt; receiver.is_full() && !sender.is_empty());
+    pending(&rt, sender.poll_send(&cx));
+    assert_eq!(rt; *lent(&rt, receiver.try_receive()).get(), 3);
+    receiver.receive_done();
+    woken!(&rt, &notes, &[7]);
+    receiver.receive_done();
+    receiver.receive_done();
+    assert!(rt; receiver.try_receive().is_none());
+    sender.send_done();
+    sender.send_done();
+    pending(&rt, sender.poll_send(&cx));
+    channel.clear();
+    woken!(&rt, &notes, &[7]);
+    assert_eq!(rt; channel.len(), 0);
+    Ok(())
+}
