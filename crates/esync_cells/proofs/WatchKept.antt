@@ -15,7 +15,7 @@ use Rattle.esync_machine.specs.declared.primitive.Answer.TheVariants.{Done, Pend
 use Rattle.esync_cells.specs.Watch.{Watching, Answers, found, seen_after, last_version, sent, woken_by, sent_if, woken_if}
 use Rattle.esync_cells.specs.Receivers.{Followed, is_counted, version_of, seen_at, is_free, with_seen, with_seen_if}
 use Rattle.esync_cells.specs.ReceiversLaws.{at_marked, counted_elsewhere}
-use Rattle.esync_cells.specs.WatchRules.{Watch, watch_of, sought, marks, with_read, with_receiver, Polls, PollsAs, Calls, Joins, JoinsAnon, Leaves, Puts, Tried, Reads, reach, leaves, watch_rules, watch_wakings, sent_hands, IsReceiving, OwesNews}
+use Rattle.esync_cells.specs.WatchRules.{Watch, watch_of, sought, marks, with_read, with_receiver, Polls, PollsAs, Calls, Joins, JoinsAnon, Leaves, Puts, Tried, Reads, reach, leaves, watch_rules, watch_wakings, sent_hands, answer_hands, IsReceiving, OwesNews}
 use Rattle.esync_cells.specs.declared.watch.machine.Seen.{Seen}
 use Rattle.esync_cells.specs.declared.watch.machine.Reading.{Reading}
 use Rattle.esync_cells.specs.declared.watch.machine.Reading.TheVariants.{Get, Changed, GetAnd, ChangedAnd}
@@ -61,6 +61,14 @@ hands_none (Gives x) g = refl
 
 pub handed_none : {A G W : Type 0} (a : Answer A) (g g2 : G) (wakes : List W) → wakes ≡ [] → g2 ≡ g → IsHanded (unless_refused a g (nothing g)) wakes g2
 handed_none a g g2 wakes none same = rw (hands_none a g) (none, same)
+
+-- a step that hands out what its answer tells, also where it was refused
+pub handed_as : {T W : Type 0} (tells : Bool) (a : Answer (WatchHeard T)) (waiters wakes waiters2 : List W) → IsHanded (answer_hands tells a waiters) wakes waiters2 → IsHanded (unless_refused a waiters (answer_hands tells a waiters)) wakes waiters2
+handed_as tells Done waiters wakes waiters2 h = h
+handed_as tells Pending waiters wakes waiters2 h = h
+handed_as tells NoSuch waiters wakes waiters2 h = h
+handed_as tells NoMemory waiters wakes waiters2 h = h
+handed_as tells (Gives x) waiters wakes waiters2 h = h
 
 not_newer : (version : ℕ) → nat_lt version version ≡ false
 not_newer version = grind (arith, nat_tests)
@@ -240,6 +248,29 @@ marked_object {T} {W} s s2 q h version l m2 same seen is =
 -- the same after one that shows nothing
 pub waiting_object : {T W : Type 0} (s s2 : Watching T W) (q : List (Option Seen)) (l : List W) → s2 ≡ record s { waiters = l } → watch_of (record { state = s2; receivers = q }) ≡ watch_of (record { state = s; receivers = q })
 waiting_object {T} {W} s s2 q l same = ap (λ (x : Watching T W). watch_of (record { state = x; receivers = q })) same
+
+-- the object without its value
+pub cleared_object : {T W : Type 0} (s s2 : Watching T W) (q : List (Option Seen)) → s2 ≡ record s { value = None } → watch_of (record { state = s2; receivers = q }) ≡ record (watch_of (record { state = s; receivers = q })) { value = None }
+cleared_object {T} {W} s s2 q same = ap (λ (x : Watching T W). watch_of (record { state = x; receivers = q })) same
+
+-- the object after a step on its table alone, whatever is counted
+pub table_object : {T W : Type 0} (s s2 : Watching T W) (n : ℕ) (q q2 q3 : List (Option Seen)) → s2 ≡ record s { receivers = n } → q2 ≡ q3 → watch_of (record { state = s2; receivers = q2 }) ≡ record (watch_of (record { state = s; receivers = q })) { receivers = q3 }
+table_object {T} {W} s s2 n q q2 q3 same is =
+    ap (λ (x : Watching T W). watch_of (record { state = x; receivers = q2 })) same
+    ∙ ap (λ r. record { value = s.value; version = s.version; receivers = r }) is
+
+-- the object once a receiver has seen a version
+pub read_object : {T W : Type 0} (m m2 : Followed T W) (s : Watching T W) (q : List (Option Seen)) (h version seen : ℕ) → record { state = s; receivers = q } ≡ m → m2 ≡ record m { receivers = with_seen h version m.receivers } → version ≡ seen → watch_of m2 ≡ with_read h seen (watch_of (record { state = s; receivers = q }))
+read_object {T} {W} m m2 s q h version seen view is same =
+    ap watch_of is
+    ∙ ap (λ (x : Followed T W). with_read h version (watch_of x)) (sym view)
+    ∙ ap (λ n. with_read h n (watch_of (record { state = s; receivers = q }))) same
+
+-- the watch once a receiver of its table has seen a version
+pub marked_watch : {T W : Type 0} (m : Followed T W) (s : Watching T W) (h version : ℕ) (q q2 : List (Option Seen)) (seen : Seen) → record { state = s; receivers = q } ≡ m → at_number q h ≡ Some seen → q2 ≡ slice_set q h (Some (record seen { version = version })) → record { state = s; receivers = q2 } ≡ record m { receivers = with_seen h version m.receivers }
+marked_watch {T} {W} m s h version q q2 seen view there is =
+    ap (λ r. record { state = s; receivers = r }) (is ∙ sym (ap (λ p. with_seen_if h version p q) there))
+    ∙ ap (λ (x : Followed T W). record x { receivers = with_seen h version x.receivers }) view
 
 -- requests of a watch are never told apart
 pub IsApart-any : {H : Type 0} (p : Option H) (other : H) → IsApart (λ h k. Unit {0}) p other

@@ -1,6 +1,8 @@
-use Rattle.std.proofs.Common.{sym, ap, ◌∙◌, rules, subst, ◌≤◌}
-use Rattle.esync_cells.specs.Receivers.{is_counted}
-use Rattle.esync_cells.specs.ReceiversLaws.{one_counted, counts_left}
+use Rattle.std.proofs.Common.{refl, sym, ap, ◌∙◌, rules, subst, ◌≤◌, ◌<◌}
+use Rattle.esync_cells.specs.Receivers.{Followed, is_counted}
+use Rattle.esync_cells.specs.ReceiversLaws.{one_counted, counts_left, in_table}
+use Rattle.esync_cells.specs.Watch.{Watching}
+use Rattle.esync_cells.proofs.WatchKept.{table_object}
 use Rattle.esync_cells.proofs.watch.machine.Watched.leave.Goals as goal
 
 pub drop_counted-requires : goal.drop_counted-requires
@@ -10,3 +12,14 @@ drop_counted-requires g c =
 pub invariant_of-self : goal.invariant_of-self
 invariant_of-self g c =
     counts_left g.row.NAMES c.self.inside.state.receivers c.args.h c.self.inside.receivers c.put.new.self c.self.invariant c.in-Some.receiver c.drop_counted.new.state.receivers (sym c.get.ensures ∙ c.in-Some.is) c.put.ensures c.drop_counted.ensures.count
+
+pub put-requires : goal.put-requires
+put-requires g c =
+    (search rules, subst (λ n. c.args.h < n) c.self.invariant.0 (in_table c.args.h c.self.inside.receivers c.in-Some.receiver (sym c.get.ensures ∙ c.in-Some.is)))
+
+pub returns-clause-allowed : goal.returns-clause-allowed
+returns-clause-allowed g c =
+    rw (← c.self.view_is, ← c.get.ensures, c.in-Some.is) (refl, table_object c.self.inside.state c.drop_counted.new.state _ c.self.inside.receivers c.put.new.self _ c.drop_counted.ensures.state c.put.ensures)
+
+pub returns-clause-waiters : goal.returns-clause-waiters
+returns-clause-waiters g c = ap (λ (s : Watching _ _). s.waiters) c.drop_counted.ensures.state ∙ ap (λ (s : Followed _ _). s.state.waiters) c.self.view_is

@@ -1,5 +1,8 @@
-use Rattle.std.proofs.Common.{◌≤◌, ◌+◌, refl, None, Some, sym, ap, subst, ◌∙◌, rules, arith}
+use Rattle.std.proofs.Common.{◌≤◌, ◌+◌, ◌++◌, [], refl, None, Some, sym, ap, subst, ◌∙◌, rules, arith}
 use Rattle.std.specs.Prelude.{Ok, Err, length}
+use Rattle.esync_base.specs.Registration.{displaced}
+use Rattle.esync_cells.specs.Watch.{Watching}
+use Rattle.esync_cells.specs.Receivers.{Followed}
 use Rattle.esync_cells.proofs.WatchKept.{marked_object, waiting_object}
 use Rattle.esync_cells.proofs.watch.machine.Watched.turn.Goals as goal
 
@@ -35,3 +38,24 @@ returns-in-Err-clause-allowed g c =
     let answer = rw (seen, is) at c.poll_reading.ensures.answer in
     let object = waiting_object s c.poll_reading.new.state c.self.inside.receivers _ c.poll_reading.ensures.state in
     rw (← c.self.view_is) (Err _, answer, (refl, object, refl))
+
+pub returns-in-Ok-Ready-clause-exact : goal.returns-in-Ok-Ready-clause-exact
+returns-in-Ok-Ready-clause-exact g c =
+    let is = c.in-Ok-Ready.is ∙ ap Ok c.in-Ok-Ready.field-0-is in
+    let wakes = rw is at c.poll_reading.ensures.wakes in
+    let state = rw is at c.poll_reading.ensures.state in
+    rw (← c.self.view_is, c.over.ensures.answer) (wakes ∙ ap (λ l. l ++ []) c.requires.empty, ap (λ (m : Followed _ _). m.state.waiters) c.mark.ensures ∙ ap (λ (s : Watching _ _). s.waiters) state)
+
+pub returns-in-Ok-Pending-clause-exact : goal.returns-in-Ok-Pending-clause-exact
+returns-in-Ok-Pending-clause-exact g c =
+    let is = c.in-Ok-Pending.is ∙ ap Ok c.in-Ok-Pending.field-0-is in
+    let wakes = rw is at c.poll_reading.ensures.wakes in
+    let state = rw is at c.poll_reading.ensures.state in
+    rw (← c.self.view_is, c.waits.ensures.answer) (wakes ∙ ap (λ l. l ++ displaced g.W.PartialEq.eq g.row.N c.self.inside.state.waiters c.args.cx.now) c.requires.empty, ap (λ (s : Watching _ _). s.waiters) state)
+
+pub returns-in-Err-clause-exact : goal.returns-in-Err-clause-exact
+returns-in-Err-clause-exact g c =
+    let is = c.in-Err.is in
+    let wakes = rw is at c.poll_reading.ensures.wakes in
+    let state = rw is at c.poll_reading.ensures.state in
+    rw (← c.self.view_is) (wakes ∙ ap (λ l. l ++ []) c.requires.empty, ap (λ (s : Watching _ _). s.waiters) state)
