@@ -1,7 +1,11 @@
-use Rattle.std.proofs.Common.{sym, ap, ◌∙◌}
+use Rattle.std.proofs.Common.{◌<◌, true, nat_lt, refl, sym, ap, subst, ◌∙◌, rules}
+use Rattle.esync_machine.specs.declared.primitive.Answer.TheVariants.{Gives}
 use Rattle.esync_cells.specs.Watch.{Watching, counted}
-use Rattle.esync_cells.specs.Receivers.{Followed, is_free}
-use Rattle.esync_cells.specs.ReceiversLaws.{counts_joined}
+use Rattle.esync_cells.specs.Receivers.{Followed, count, is_free}
+use Rattle.esync_cells.specs.ReceiversLaws.{counts_joined, free_place}
+use Rattle.esync_cells.specs.WatchRules.{Joins, watch_of}
+use Rattle.esync_cells.specs.declared.watch.machine.WatchHeard.TheVariants.{Counted}
+use Rattle.esync_cells.proofs.WatchKept.{table_object}
 use Rattle.esync_cells.proofs.watch.machine.Watched.join.Goals as goal
 
 pub invariant_of-self-2 : goal.invariant_of-self-2
@@ -9,3 +13,22 @@ invariant_of-self-2 g c =
     let free = ap (λ (s : Followed _ _). is_free c.args.h s.receivers) c.self.view_is ∙ sym c.is_free.ensures ∙ c.if-not-is_free.false in
     let is = counts_joined g.row.NAMES c.self.inside.state.receivers c.args.h c.self.inside.receivers c.put.new.self c.self.invariant _ free c.put.ensures in
     (is.0, ap (λ (s : Watching _ _). s.receivers) c.add_receiver.ensures.state ∙ ap (λ b. counted b c.self.inside.state.receivers) c.if-not-add_receiver.false ∙ is.1)
+
+pub put-requires : goal.put-requires
+put-requires g c =
+    let free = ap (λ (s : Followed _ _). is_free c.args.h s.receivers) c.self.view_is ∙ sym c.is_free.ensures ∙ c.if-not-is_free.false in
+    (search rules, subst (λ n. c.args.h < n) c.self.invariant.0 (free_place g.row.NAMES c.self.inside.state.receivers c.args.h c.self.inside.receivers c.self.inside.receivers c.self.invariant free).0)
+
+pub returns-clause-allowed : goal.returns-clause-allowed
+returns-clause-allowed g c =
+    let s = c.self.inside.state in
+    let q = c.self.inside.receivers in
+    let free = ap (λ (s : Followed _ _). is_free c.args.h s.receivers) c.self.view_is ∙ sym c.is_free.ensures ∙ c.if-not-is_free.false in
+    let room = sym (c.add_receiver.ensures.answer ∙ ap (λ n. nat_lt n g.row.N) c.self.invariant.1) ∙ c.if-not-add_receiver.false in
+    let old = watch_of (record { state = s; receivers = q }) in
+    let new = watch_of (record { state = c.add_receiver.new.self; receivers = c.put.new.self }) in
+    let object = table_object s c.add_receiver.new.self _ q c.put.new.self _ c.add_receiver.ensures.state c.put.ensures in
+    rw (← c.self.view_is) (subst (λ b. Joins b (nat_lt (count q) g.row.N) c.args.h old (Gives (Counted true)) new) (sym free) (subst (λ b. Joins true b c.args.h old (Gives (Counted true)) new) (sym room) (refl, object)))
+
+pub returns-clause-waiters : goal.returns-clause-waiters
+returns-clause-waiters g c = ap (λ (s : Watching _ _). s.waiters) c.add_receiver.ensures.state ∙ ap (λ (s : Followed _ _). s.state.waiters) c.self.view_is

@@ -1,6 +1,13 @@
+use Rattle.std.proofs.Common.{refl}
 use Rattle.esync_cells.specs.WatchRules.{watch_of}
 use Rattle.esync_cells.proofs.WatchKept.{called_kept}
 use Rattle.esync_cells.proofs.watch.machine.WatchedPrimitive.call.Goals as goal
+
+pub returns-clause-allowed : goal.returns-clause-allowed
+returns-clause-allowed g c = (c.perform.ensures.allowed, refl)
+
+pub returns-clause-exact : goal.returns-clause-exact
+returns-clause-exact g c = c.perform.ensures.exact
 
 pub returns-clause-kept : goal.returns-clause-kept
 returns-clause-kept g c other v fits apart stays owed =

@@ -3,6 +3,12 @@ use Rattle.esync_cells.specs.WatchRules.{watch_of}
 use Rattle.esync_cells.proofs.WatchKept.{polled_kept, polled_quiet, polled_registered, IsApart-any}
 use Rattle.esync_cells.proofs.watch.machine.WatchedPrimitive.poll.Goals as goal
 
+pub returns-clause-allowed : goal.returns-clause-allowed
+returns-clause-allowed g c = c.turn.ensures.allowed
+
+pub returns-clause-exact : goal.returns-clause-exact
+returns-clause-exact g c = rw c.from_waker.ensures at c.turn.ensures.exact
+
 pub returns-clause-quiet : goal.returns-clause-quiet
 returns-clause-quiet g c own pending same stays among =
     let old = c.args.self.now in
