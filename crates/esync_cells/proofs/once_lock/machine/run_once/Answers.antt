@@ -15,9 +15,3 @@ returns-clause-set g c =
     (λ replies. StaysSet c.args.commands.items replies.items)
     (λ replies run. stays_set (once_wakings g.row.T.Denot g.row.W.Denot) g.W.PartialEq.eq g.row.K _ _ _ _ c.args.commands.items replies.items run)
     c.run.ensures.run
-
-pub returns-clause-run : goal.returns-clause-run
-returns-clause-run g c = c.run.ensures.run
-
-pub returns-clause-refused : goal.returns-clause-refused
-returns-clause-refused g c = c.run.ensures.refused

@@ -68,12 +68,3 @@ returns-in-Contains-clause-allowed g c = rw (c.in-Contains.is, ← c.self-in-Con
 
 pub returns-in-Contains-clause-exact : goal.returns-in-Contains-clause-exact
 returns-in-Contains-clause-exact g c = rw c.in-Contains.is (c.requires.empty, refl)
-
-pub send-requires : goal.send-requires
-send-requires g c = (search rules, (search rules, (c.requires.empty, c.requires.room)))
-
-pub modify-requires : goal.modify-requires
-modify-requires g c = (search rules, (search rules, (c.requires.empty, c.requires.room)))
-
-pub modify_if-requires : goal.modify_if-requires
-modify_if-requires g c = (search rules, (search rules, (c.requires.empty, c.requires.room)))
