@@ -253,10 +253,6 @@ waiting_object {T} {W} s s2 q l same = ap (λ (x : Watching T W). watch_of (reco
 pub cleared_object : {T W : Type 0} (s s2 : Watching T W) (q : List (Option Seen)) → s2 ≡ record s { value = None } → watch_of (record { state = s2; receivers = q }) ≡ record (watch_of (record { state = s; receivers = q })) { value = None }
 cleared_object {T} {W} s s2 q same = ap (λ (x : Watching T W). watch_of (record { state = x; receivers = q })) same
 
--- the watch whose waiters are changed so
-pub registered_state : {T W : Type 0} (s m : Watching T W) (l : List W) (f : List W → List W) → s ≡ m → l ≡ f s.waiters → record s { waiters = l } ≡ record m { waiters = f m.waiters }
-registered_state {T} {W} s m l f view is = ap (λ x. record s { waiters = x }) is ∙ ap (λ (x : Watching T W). record x { waiters = f x.waiters }) view
-
 -- the object after a step on its table alone, whatever is counted
 pub table_object : {T W : Type 0} (s s2 : Watching T W) (n : ℕ) (q q2 q3 : List (Option Seen)) → s2 ≡ record s { receivers = n } → q2 ≡ q3 → watch_of (record { state = s2; receivers = q2 }) ≡ record (watch_of (record { state = s; receivers = q })) { receivers = q3 }
 table_object {T} {W} s s2 n q q2 q3 same is =
