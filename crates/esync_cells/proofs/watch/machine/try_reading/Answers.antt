@@ -1,3 +1,4 @@
+use Rattle.std.proofs.Common.{rules}
 use Rattle.esync_cells.proofs.watch.machine.try_reading.Goals as goal
 
 pub returns-in-Get-clause-answer : goal.returns-in-Get-clause-answer
@@ -16,7 +17,7 @@ pub returns-in-GetAnd-clause-answer : goal.returns-in-GetAnd-clause-answer
 returns-in-GetAnd-clause-answer g c = rw c.in-GetAnd.is c.try_get_and.ensures.answer
 
 pub returns-in-GetAnd-clause-seen : goal.returns-in-GetAnd-clause-seen
-returns-in-GetAnd-clause-seen g c = rw c.in-GetAnd.is c.try_get_and.ensures.seen
+returns-in-GetAnd-clause-seen g c = rw c.in-GetAnd.is (search rules)
 
 pub returns-in-ChangedAnd-clause-answer : goal.returns-in-ChangedAnd-clause-answer
 returns-in-ChangedAnd-clause-answer g c = rw c.in-ChangedAnd.is c.try_changed_and.ensures.answer
