@@ -1,6 +1,8 @@
-use Rattle.std.proofs.Common.{rules, refl, ap}
+use Rattle.std.proofs.Common.{◌++◌, rules, refl, ap, ◌∙◌}
+use Rattle.esync_machine.specs.declared.primitive.Answer.TheVariants.{Gives}
 use Rattle.esync_pubsub.specs.Log.{is_live}
 use Rattle.esync_pubsub.specs.PubSubRules.{topic_of}
+use Rattle.esync_pubsub.specs.declared.pubsub.machine.PubSubHeard.TheVariants.{Number}
 use Rattle.esync_pubsub.proofs.Calls.{nobody_handed, at_once_live, tried_named_live, next_named_live, next_pure_named_live}
 use Rattle.esync_pubsub.proofs.Named.{named_same}
 use Rattle.esync_pubsub.proofs.Turns.{here_by, subs_room, pubs_room}
@@ -61,3 +63,96 @@ returns-in-NextPure-clause-named g c =
 pub returns-in-Clear-clause-named : goal.returns-in-Clear-clause-named
 returns-in-Clear-clause-named g c =
     named_same g.row.CAP g.row.PUBS g.row.NAMES c.args.self.now c.clear.new.self c.args.tables.now.subscribers c.args.tables.now.publishers c.requires.named (ap (λ x. x.publishers) c.clear.ensures.state) (λ q. ap (λ x. is_live q x.log) c.clear.ensures.state)
+
+pub returns-in-Join-clause-allowed : goal.returns-in-Join-clause-allowed
+returns-in-Join-clause-allowed g c = rw c.in-Join.is c.join_named.ensures.allowed
+
+pub returns-in-Join-clause-named : goal.returns-in-Join-clause-named
+returns-in-Join-clause-named g c = c.join_named.ensures.named
+
+pub returns-in-Leave-clause-allowed : goal.returns-in-Leave-clause-allowed
+returns-in-Leave-clause-allowed g c = rw c.in-Leave.is c.leave_named.ensures.allowed
+
+pub returns-in-Leave-clause-exact : goal.returns-in-Leave-clause-exact
+returns-in-Leave-clause-exact g c = rw c.in-Leave.is c.leave_named.ensures.exact
+
+pub returns-in-Leave-clause-named : goal.returns-in-Leave-clause-named
+returns-in-Leave-clause-named g c = c.leave_named.ensures.named
+
+pub returns-in-Publisher-clause-allowed : goal.returns-in-Publisher-clause-allowed
+returns-in-Publisher-clause-allowed g c = rw c.in-Publisher.is c.add_named.ensures.allowed
+
+pub returns-in-Publisher-clause-named : goal.returns-in-Publisher-clause-named
+returns-in-Publisher-clause-named g c = c.add_named.ensures.named
+
+pub returns-in-Retire-clause-allowed : goal.returns-in-Retire-clause-allowed
+returns-in-Retire-clause-allowed g c = rw c.in-Retire.is c.retire_named.ensures.allowed
+
+pub returns-in-Retire-clause-named : goal.returns-in-Retire-clause-named
+returns-in-Retire-clause-named g c = c.retire_named.ensures.named
+
+pub returns-in-TryPublish-clause-allowed : goal.returns-in-TryPublish-clause-allowed
+returns-in-TryPublish-clause-allowed g c = rw c.in-TryPublish.is c.try_publish_named.ensures.allowed
+
+pub returns-in-TryPublish-clause-exact : goal.returns-in-TryPublish-clause-exact
+returns-in-TryPublish-clause-exact g c = rw c.in-TryPublish.is c.try_publish_named.ensures.exact
+
+pub returns-in-Immediate-clause-allowed : goal.returns-in-Immediate-clause-allowed
+returns-in-Immediate-clause-allowed g c = rw c.in-Immediate.is (c.publish_at_once.ensures.allowed, refl)
+
+pub returns-in-Immediate-clause-exact : goal.returns-in-Immediate-clause-exact
+returns-in-Immediate-clause-exact g c = rw c.in-Immediate.is c.publish_at_once.ensures.exact
+
+pub returns-in-Next-clause-allowed : goal.returns-in-Next-clause-allowed
+returns-in-Next-clause-allowed g c = rw c.in-Next.is c.next_named.ensures.allowed
+
+pub returns-in-Next-clause-exact : goal.returns-in-Next-clause-exact
+returns-in-Next-clause-exact g c = rw c.in-Next.is c.next_named.ensures.exact
+
+pub returns-in-NextPure-clause-allowed : goal.returns-in-NextPure-clause-allowed
+returns-in-NextPure-clause-allowed g c = rw c.in-NextPure.is c.next_pure_named.ensures.allowed
+
+pub returns-in-NextPure-clause-exact : goal.returns-in-NextPure-clause-exact
+returns-in-NextPure-clause-exact g c = rw c.in-NextPure.is c.next_pure_named.ensures.exact
+
+pub returns-in-Available-clause-allowed : goal.returns-in-Available-clause-allowed
+returns-in-Available-clause-allowed g c = rw c.in-Available.is c.available_named.ensures
+
+pub returns-in-Available-clause-named : goal.returns-in-Available-clause-named
+returns-in-Available-clause-named g c = c.requires.named
+
+pub returns-in-Clear-clause-allowed : goal.returns-in-Clear-clause-allowed
+returns-in-Clear-clause-allowed g c = rw c.in-Clear.is (refl, ap (λ x. topic_of x c.args.tables.now) c.clear.ensures.state)
+
+pub returns-in-Clear-clause-exact : goal.returns-in-Clear-clause-exact
+returns-in-Clear-clause-exact g c = rw c.in-Clear.is (c.clear.ensures.wakes ∙ ap (λ ws. ws ++ c.args.self.now.lists.publishers) c.requires.empty, ap (λ x. x.lists) c.clear.ensures.state)
+
+pub returns-in-Len-clause-allowed : goal.returns-in-Len-clause-allowed
+returns-in-Len-clause-allowed g c = rw c.in-Len.is (ap (λ n. Gives (Number n)) c.len.ensures.value, refl)
+
+pub returns-in-Len-clause-exact : goal.returns-in-Len-clause-exact
+returns-in-Len-clause-exact g c = rw c.in-Len.is (c.requires.empty, refl)
+
+pub returns-in-Len-clause-named : goal.returns-in-Len-clause-named
+returns-in-Len-clause-named g c = c.requires.named
+
+pub returns-in-FreeCapacity-clause-allowed : goal.returns-in-FreeCapacity-clause-allowed
+returns-in-FreeCapacity-clause-allowed g c = rw c.in-FreeCapacity.is (c.free_capacity.result, refl, c.free_capacity.ensures, refl)
+
+pub returns-in-FreeCapacity-clause-exact : goal.returns-in-FreeCapacity-clause-exact
+returns-in-FreeCapacity-clause-exact g c = rw c.in-FreeCapacity.is (c.requires.empty, refl)
+
+pub returns-in-FreeCapacity-clause-named : goal.returns-in-FreeCapacity-clause-named
+returns-in-FreeCapacity-clause-named g c = c.requires.named
+
+pub join_named-requires : goal.join_named-requires
+join_named-requires g c = (search rules, (search rules, c.requires.named))
+
+pub add_named-requires : goal.add_named-requires
+add_named-requires g c = (search rules, (search rules, c.requires.named))
+
+pub retire_named-requires : goal.retire_named-requires
+retire_named-requires g c = (search rules, (search rules, c.requires.named))
+
+pub available_named-requires : goal.available_named-requires
+available_named-requires g c = (search rules, (search rules, c.requires.named))
