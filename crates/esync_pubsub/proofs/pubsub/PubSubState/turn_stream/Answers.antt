@@ -1,4 +1,4 @@
-use Rattle.std.proofs.Common.{ap}
+use Rattle.std.proofs.Common.{rules, ap, ◌∙◌}
 use Rattle.esync_base.specs.declared.waitqueue.Poll.TheVariants.{Pending, Ready}
 use Rattle.esync_pubsub.proofs.Reading.{stream_below, refused_below, stream_handed, alone}
 use Rattle.esync_pubsub.proofs.pubsub.PubSubState.turn_stream.Goals as goal
@@ -26,3 +26,30 @@ pub returns-in-Err-clause-allowed : goal.returns-in-Err-clause-allowed
 returns-in-Err-clause-allowed g c =
     let h = c.in-Err.ensures.refused in
     rw c.refused.ensures.answer (refused_below g.T.Clone.is_infallible c.args.id.now _ c.args.self.now.log c.numbered.ensures h, h, ap (λ x. x.log) c.in-Err.ensures.unchanged)
+
+pub poll_next-requires : goal.poll_next-requires
+poll_next-requires g c = (search rules, (search rules, (c.requires.live, (c.requires.subscribers, (c.requires.publishers, c.requires.one)))))
+
+pub returns-in-Ok-Ready-clause-place : goal.returns-in-Ok-Ready-clause-place
+returns-in-Ok-Ready-clause-place g c = rw c.over.ensures.answer c.over.ensures.place
+
+pub returns-in-Ok-Ready-clause-publishers : goal.returns-in-Ok-Ready-clause-publishers
+returns-in-Ok-Ready-clause-publishers g c = ap (λ x. x.publishers) c.in-Ok-Ready.ensures.rest
+
+pub returns-in-Ok-Pending-clause-allowed : goal.returns-in-Ok-Pending-clause-allowed
+returns-in-Ok-Pending-clause-allowed g c = rw c.waits.ensures.answer (rw c.in-Ok-Pending.field-0-is at c.in-Ok-Pending.ensures.ok)
+
+pub returns-in-Ok-Pending-clause-place : goal.returns-in-Ok-Pending-clause-place
+returns-in-Ok-Pending-clause-place g c = rw c.waits.ensures.answer c.waits.ensures.place
+
+pub returns-in-Ok-Pending-clause-publishers : goal.returns-in-Ok-Pending-clause-publishers
+returns-in-Ok-Pending-clause-publishers g c = ap (λ x. x.publishers) c.in-Ok-Pending.ensures.rest
+
+pub returns-in-Err-clause-exact : goal.returns-in-Err-clause-exact
+returns-in-Err-clause-exact g c = rw c.refused.ensures.answer (c.in-Err.ensures.unwoken ∙ c.requires.empty, ap (λ x. x.lists) c.in-Err.ensures.unchanged)
+
+pub returns-in-Err-clause-place : goal.returns-in-Err-clause-place
+returns-in-Err-clause-place g c = rw c.refused.ensures.answer c.refused.ensures.place
+
+pub returns-in-Err-clause-publishers : goal.returns-in-Err-clause-publishers
+returns-in-Err-clause-publishers g c = ap (λ x. x.publishers) c.in-Err.ensures.unchanged
