@@ -1,4 +1,4 @@
-use Rattle.std.proofs.Common.{None, ap}
+use Rattle.std.proofs.Common.{None, ap, rules, ◌∙◌}
 use Rattle.esync_pubsub.proofs.Reading.{read_below, refused_below, read_handed, alone}
 use Rattle.esync_pubsub.proofs.pubsub.PubSubState.try_next.Goals as goal
 
@@ -10,3 +10,15 @@ returns-in-Ok-clause-exact g c = read_handed g.W.PartialEq.eq g.row.SUBS g.row.P
 
 pub returns-in-Err-clause-allowed : goal.returns-in-Err-clause-allowed
 returns-in-Err-clause-allowed g c = (refused_below g.T.Clone.is_infallible c.args.id.now _ c.args.self.now.log c.numbered.ensures c.in-Err.ensures.refused, c.in-Err.ensures.refused, ap (λ x. x.log) c.in-Err.ensures.unchanged)
+
+pub try_next_message-requires : goal.try_next_message-requires
+try_next_message-requires g c = (search rules, (search rules, (c.requires.live, c.requires.publishers)))
+
+pub returns-in-Ok-clause-publishers : goal.returns-in-Ok-clause-publishers
+returns-in-Ok-clause-publishers g c = ap (λ x. x.publishers) c.in-Ok.ensures.rest
+
+pub returns-in-Err-clause-exact : goal.returns-in-Err-clause-exact
+returns-in-Err-clause-exact g c = (c.in-Err.ensures.unwoken ∙ c.requires.empty, ap (λ x. x.lists) c.in-Err.ensures.unchanged)
+
+pub returns-in-Err-clause-publishers : goal.returns-in-Err-clause-publishers
+returns-in-Err-clause-publishers g c = ap (λ x. x.publishers) c.in-Err.ensures.unchanged
