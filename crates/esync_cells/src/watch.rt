@@ -209,7 +209,7 @@ impl<T: Drop, W: Copy + Eq, const N: usize> WatchState<T, W, N> {
         self.value.is_some()
     }
 
-    /// The version of the latest value: how often one was sent.
+    /// The version of the latest value: the first version, and one more for each that was sent.
     pub fn get_msg_id(&self) -> u64
         ensures { result ≡ self.now.version }
     {

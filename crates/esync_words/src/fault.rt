@@ -4,12 +4,14 @@ ghost use Rattle.std.specs.Prelude.{◌≡◌};
 use std::error::Error;
 use std::{fmt, io};
 
+/// Why a script was not read to its end.
 #[derive(Clone, Copy, Debug, PartialEq, Eq)]
 pub enum Fault {
     /// The line of this number is no command.
     NotACommand(u64),
     /// A read or a write failed.
     InputOutput,
+    /// Memory was refused.
     OutOfMemory,
 }
 

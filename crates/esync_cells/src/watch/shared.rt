@@ -403,7 +403,7 @@ impl<S: WatchValue<K, Waker = W>, W: Copy + Eq, H: Hand<W>, const K: usize> Shar
         self.anon_receiver()
     }
 
-    /// The version of the latest value: how often one was sent.
+    /// The version of the latest value: the first version, and one more for each that was sent.
     pub fn get_msg_id(&self) -> u64 {
         self.inner.guard().get_msg_id()
     }
