@@ -44,7 +44,7 @@ module _ {T : Type 0} where
   place_other o log2 r q t n = ap number_of (at_set_other o.subscribers r t q n)
 
   -- whoever the command names, or nothing changes
-  where_done : (b : Bool) (o : Topic T) (Does : Type 0) (a : Answer (PubSubHeard T)) (o2 : Topic T) → Where b o Does a o2 → ((b ≡ true) × Does) ⊎ ((a ≡ NoSuch) × (o2 ≡ o))
+  pub where_done : (b : Bool) (o : Topic T) (Does : Type 0) (a : Answer (PubSubHeard T)) (o2 : Topic T) → Where b o Does a o2 → ((b ≡ true) × Does) ⊎ ((a ≡ NoSuch) × (o2 ≡ o))
   where_done true o Does a o2 h = inl (refl, h)
   where_done false o Does a o2 h = inr h
 

@@ -112,7 +112,7 @@ module _ {T : Type 0} where
   caught_goes true place log e here = (let l : position place log < oldest log = grind (arith, nat_tests) in goes_moved place (oldest log) log here (λ s. omega (arith, l)))
   caught_goes false place log e here = goes_same place log log refl
 
-  caught_held : (b : Bool) (place : ℕ) (log : Log T) → (caught_if b place log).held ≡ log.held
+  pub caught_held : (b : Bool) (place : ℕ) (log : Log T) → (caught_if b place log).held ≡ log.held
   caught_held true place log = refl
   caught_held false place log = refl
 

@@ -8,3 +8,5 @@ pub mod Named
 pub mod Calls
 pub mod Reading
 pub mod Machine
+pub mod Unread
+pub mod Order

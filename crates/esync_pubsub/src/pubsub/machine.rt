@@ -7,6 +7,7 @@ ghost use Rattle.esync_machine.specs.Runs.{GoodRun};
 ghost use Rattle.esync_machine.specs.Wakings.{IsHanded, unless_refused};
 ghost use Rattle.esync_pubsub.specs.Events.{AreNamed};
 ghost use Rattle.esync_pubsub.specs.Log.{Log, is_live, position, left};
+ghost use Rattle.esync_pubsub.specs.Order.{ReadsInOrder};
 ghost use Rattle.esync_pubsub.specs.PubSub.{PubSub, fresh, frees};
 ghost use Rattle.esync_pubsub.specs.PubSubRules.{topic_of, is_free, is_subscriber, is_publisher, is_of_subscriber, is_of_publisher, leaves, place_at, names_it, departed, most_wakes, Where, WithLog, Comes, Counts, TriesPublish, AtOnce, Tries, TriesPure, Calls, Polls, room_hands, immediate_of, immediate_hands, call_hands, reach, rest_of, publish_of, read_of, pure_of, stream_of, publish_hands, read_hands, pure_hands, stream_hands, poll_hands, pubsub_rules, pubsub_wakings, PollsPublish, PollsMessage, PollsPure, PollsStream, PollsLog};
 
@@ -786,6 +787,24 @@ impl<S: PubSubSteps<NAMES, K>, const NAMES: usize, const K: usize> Events<S, NAM
     }
 }
 
+impl<
+    T: Clone,
+    W: Copy + Eq,
+    const CAP: usize,
+    const SUBS: usize,
+    const PUBS: usize,
+    const NAMES: usize,
+    const K: usize,
+> Events<PubSubState<T, W, CAP, SUBS, PUBS>, NAMES, K> {
+    // The numbers name all subscribers, and no more messages are held than were published. This says so, and does nothing.
+    fn named(&self)
+        ensures named { AreNamed CAP PUBS NAMES self.now.state self.now.tables }
+        ensures numbered { length self.now.state.log.held ≤ self.now.state.log.next }
+    {
+        self.state.numbered();
+    }
+}
+
 impl<S: PubSubSteps<NAMES, K>, const NAMES: usize, const K: usize> Primitive<K>
     for Events<S, NAMES, K> {
     type Ask = PubSubAsk<S::Message>;
@@ -909,6 +928,8 @@ pub type PubSubReply<T, W, const K: usize> = Reply<Answer<PubSubHeard<T>>, W, K>
 /// Each answer is one that a log of at most `CAP` messages allows, with the numbers of its subscribers and publishers. No live request that
 /// last heard Pending would now be answered Ready, unless its waker was handed out in that poll or since. And no Pending poll that changes
 /// nothing hands out its own waker. Who leaves or retires ends its requests first.
+///
+/// What a subscriber reads and what it passes over, from its coming on, is what was published since then, in order, up to its position.
 pub fn run_pubsub<
     T: Clone,
     W: Copy + Eq,
@@ -924,7 +945,9 @@ pub fn run_pubsub<
     commands: Vec<PubSubCommand<T, W>>,
 ) -> Result<Vec<PubSubReply<T, W, K>>, AllocError>
     ensures run { IfOk result (λ replies. GoodRun (requests_meaning (pubsub_rules T.is_clone T.is_infallible CAP PUBS) (pubsub_wakings W.eq SUBS PUBS) W.eq K) (record { core = topic_of machine.old.state.state machine.old.state.tables; requests = machine.old.requests }) machine.old.state.state.lists commands.items replies.items (record { core = topic_of machine.new.state.state machine.new.state.tables; requests = machine.new.requests }) machine.new.state.state.lists) }
+    ensures order { IfOk result (λ replies. machine.old.requests ≡ replicate REQS None → (s : ℕ) → ReadsInOrder T.is_clone s commands.items replies.items (topic_of machine.new.state.state machine.new.state.tables)) }
     ensures refused { OnErr result (machine.new ≡ machine.old) }
 {
+    machine.state().named();
     run(alloc, machine, commands)
 }

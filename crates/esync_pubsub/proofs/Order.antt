@@ -1,0 +1,476 @@
+-- A subscriber reads what was published since it came, in order.
+use Rattle.std.proofs.Common.{◌≡◌, ℕ, zero, suc, ◌+◌, ◌-◌, ◌<◌, ◌≤◌, ◌==◌, Bool, true, false, List, [], ◌∷◌, ◌++◌, length, drop, replicate, Option, Some, None, inl, inr, refl, sym, ap, ◌∙◌, subst, arith}
+use Rattle.std.specs.Prelude.{is_some, nat_lt, slice_get, slice_set, slice_index_or, if◌then◌else◌, IfSome, Result, Ok, Err}
+use Rattle.std.specs.List.{list_any}
+use Rattle.std.proofs.lemmas.List.{length_push, length-replicate, drop_all, get_or-set_same, get_or-set_other}
+use Rattle.esync_base.specs.ListedLaws.{true_or_false, same_or_not, same_number, equal_number}
+use Rattle.esync_base.specs.declared.waitqueue.Poll.TheVariants.{Pending as NotYet, Ready}
+use Rattle.esync_machine.specs.AccountLaws.{of_any_kind, ask_of-started, ask_of-other, KeepsEach, keeps_each, told_requests}
+use Rattle.esync_machine.specs.Account.{ask_of}
+use Rattle.esync_machine.specs.Runs.{GoodRun}
+use Rattle.esync_machine.specs.Numbers.{at_number}
+use Rattle.esync_machine.specs.NumbersLaws.{nothing_there, at_set_here, at_set_other}
+use Rattle.esync_machine.specs.Object.{Object, requests_meaning}
+use Rattle.esync_machine.specs.Rules.{Rules}
+use Rattle.esync_machine.specs.Wakings.{Wakings}
+use Rattle.esync_machine.specs.declared.run.Reply.{Reply}
+use Rattle.esync_machine.specs.declared.primitive.Answer.{Answer}
+use Rattle.esync_machine.specs.declared.primitive.Answer.TheVariants.{Done, Pending, NoSuch, NoMemory, Gives}
+use Rattle.esync_machine.specs.declared.primitive.Reach.TheVariants.{Number as AtNumber}
+use Rattle.esync_machine.specs.declared.primitive.Command.{Command}
+use Rattle.esync_machine.specs.declared.primitive.Command.TheVariants.{Start, Poll, End, Call}
+use Rattle.esync_pubsub.specs.Events.{Tables, AreNamed}
+use Rattle.esync_pubsub.specs.Log.{Log, oldest, number_of, has_subscribers, is_live, position, published, with_room, moved, settled, without, left, cleared, lags, caught, found, gap, Accepts, Joins, Publishes, PublishesAtOnce, Reads, ReadsOn}
+use Rattle.esync_pubsub.specs.PubSub.{PubSub, Subscribes}
+use Rattle.esync_pubsub.specs.PubSubRules.{Topic, topic_of, place_at, is_subscriber, is_free, is_publisher, is_of_subscriber, names_it, reach, rest_of, departed, Where, WithLog, Begins, IsBelow, PollsLog, Polls, Comes, Counts, TriesPublish, AtOnce, Tries, TriesPure, Calls, pubsub_rules}
+use Rattle.esync_pubsub.specs.Order.{Reading, Told, Account, and, published_by_poll, published_by_call, reading_of, pure_reading_of, read_by_poll, read_by_call, more, told_by_call, after, AreUnread, Follow, HasRead, ReadsInOrder}
+use Rattle.esync_pubsub.specs.declared.pubsub.TryPublishError.{TryPublishError}
+use Rattle.esync_pubsub.specs.declared.pubsub.TryPublishError.TheVariants.{Full, Exhausted}
+use Rattle.esync_pubsub.specs.declared.pubsub.Error.TheVariants.{MaximumSubscribersReached, MaximumPublishersReached}
+use Rattle.esync_pubsub.specs.declared.pubsub.Exhausted.{Exhausted as NoNumber}
+use Rattle.esync_pubsub.specs.declared.pubsub.WaitResult.{WaitResult}
+use Rattle.esync_pubsub.specs.declared.pubsub.WaitResult.TheVariants.{Lagged, Message as Given}
+use Rattle.esync_pubsub.specs.declared.pubsub.machine.PubSubAsk.{PubSubAsk}
+use Rattle.esync_pubsub.specs.declared.pubsub.machine.PubSubAsk.TheVariants.{Publish, Message, MessagePure, Stream}
+use Rattle.esync_pubsub.specs.declared.pubsub.machine.PubSubCall.{PubSubCall}
+use Rattle.esync_pubsub.specs.declared.pubsub.machine.PubSubCall.TheVariants.{Join, Leave, Publisher, Retire, TryPublish, Immediate, Next, NextPure, Available, Clear, Len, FreeCapacity}
+use Rattle.esync_pubsub.specs.declared.pubsub.machine.PubSubHeard.{PubSubHeard}
+use Rattle.esync_pubsub.specs.declared.pubsub.machine.PubSubHeard.TheVariants.{Published, Read, ReadPure, Streamed, Came, TriedPublish, PublishedAtOnce, Tried, TriedPure}
+use Rattle.esync_pubsub.proofs.Calls.{where_done}
+use Rattle.esync_pubsub.proofs.Kept.{GoesOn, read_goes, pure_goes, left_live, join_here, join_live}
+use Rattle.esync_pubsub.proofs.Logged.{place_below, free_below, free_there, some_number}
+use Rattle.esync_pubsub.proofs.Named.{free_is, named_new, named_same, named_join, named_leave}
+use Rattle.esync_pubsub.proofs.Unread.{IsEnd, end_same, end_none, end_settled, end_room, IsNumbered, numbered_end, unread_end, unread_published, Tells, read_tells, pure_tells, stream_tells, read_end, pure_end, follow_published, follow_reading}
+
+-- one who is live is somebody
+somebody : (ps : List (Option ℕ)) (i : ℕ) → is_some (slice_index_or ps i None) ≡ true → list_any is_some ps ≡ true
+somebody [] i e = absurd cc
+somebody (Some p ∷ ps) i e = refl
+somebody (None ∷ ps) zero e = absurd cc
+somebody (None ∷ ps) (suc i) e = somebody ps i e
+
+module _ {T : Type 0} (C : T → T → Type 0) (names s : ℕ) where
+  -- the log, and whom the numbers name
+  abbrev seen : Topic T → PubSub T (Unit {0})
+  seen o = record { log = o.log; publishers = 0; lists = record { subscribers = []; publishers = [] } }
+
+  abbrev nobody : List (Option (Unit {0}))
+  nobody = replicate names None
+
+  -- what holds of every channel
+  pub record IsWhole (o : Topic T) : Type 0 where
+    named : AreNamed 1 0 names (seen o) (record { subscribers = o.subscribers; publishers = nobody })
+    numbered : IsNumbered o.log
+
+  pub whole_of : {W : Type 0} (most pubs : ℕ) (p : PubSub T W) (t : Tables) → AreNamed most pubs names p t → IsNumbered p.log → IsWhole (topic_of p t)
+  whole_of most pubs p t m n = record {
+    named = record {
+      room = omega arith;
+      at_most = omega arith;
+      subscribers = m.subscribers;
+      publishers = length-replicate names None;
+      live = m.live;
+      apart = m.apart;
+      named = m.named;
+      counted = (named_new {T = T} {W = Unit {0}} 1 0 names 0 0 (omega arith)).counted;
+    };
+    numbered = n;
+  }
+
+  -- what is told of the subscriber
+  record Stands (o : Topic T) (told : Option (Told T)) : Type 0 where
+    whole : IsWhole o
+    reads : IfSome told (λ k. HasRead C s o k)
+
+  -- a message that is published, and a reading, of the subscriber at the place
+  abbrev Grows : Option T → Option (Reading T) → ℕ → Log T → Log T → Type 0
+  Grows m x q log log2 =
+      (unread : List T) → AreUnread q log unread → (unread2 : List T) × AreUnread q log2 unread2 × ((p : List T) (xs : List (Reading T)) → Follow C p xs unread → Follow C (and p m) (and xs x) unread2)
+
+  -- a step of the log in which this message is published, and that is told to the subscriber
+  record Steps (m : Option T) (x : Option (Reading T)) (o : Topic T) (log2 : Log T) : Type 0 where
+    live : (q : ℕ) → is_live q log2 ≡ is_live q o.log
+    numbered : IsNumbered log2
+    grows : is_subscriber s o ≡ true → Grows m x (place_at s o) o.log log2
+
+  whole_log : (o o2 : Topic T) → IsWhole o → o2.subscribers ≡ o.subscribers → ((q : ℕ) → is_live q o2.log ≡ is_live q o.log) → IsNumbered o2.log → IsWhole o2
+  whole_log o o2 w e live n = record {
+    named = subst (λ ns. AreNamed 1 0 names (seen o2) (record { subscribers = ns; publishers = nobody })) (sym e) (named_same 1 0 names (seen o) (seen o2) o.subscribers nobody w.named refl live);
+    numbered = n;
+  }
+
+  reads_log : (o o2 : Topic T) (m : Option T) (x : Option (Reading T)) (told : Option (Told T)) → o2.subscribers ≡ o.subscribers → Steps m x o o2.log → IfSome told (λ k. HasRead C s o k) → IfSome (more m x told) (λ k. HasRead C s o2 k)
+  reads_log o o2 m x None e t h = tt
+  reads_log o o2 m x (Some k) e t h = (let g = t.grows h.here h.unread h.rest in record {
+    here = ap (λ ns. is_some (at_number ns s)) e ∙ h.here;
+    unread = g.0;
+    follow = g.2 k.published k.readings h.follow;
+    rest = subst (λ ns. AreUnread (number_of (at_number ns s)) o2.log g.0) (sym e) g.1;
+  })
+
+  stands_log : (o o2 : Topic T) (m : Option T) (x : Option (Reading T)) (told : Option (Told T)) → o2.subscribers ≡ o.subscribers → Steps m x o o2.log → Stands o told → Stands o2 (more m x told)
+  stands_log o o2 m x told e t h = record { whole = whole_log o o2 h.whole e t.live t.numbered; reads = reads_log o o2 m x told e t h.reads }
+
+  -- nothing is published, and nothing told
+  grows_none : (q : ℕ) (log log2 : Log T) → IsNumbered log → log2.next ≡ log.next → position q log2 ≡ position q log → IsEnd log.held log2.held → Grows None None q log log2
+  grows_none q log log2 n next there e unread u = (unread, unread_end q log log2 unread n next there e u, λ p xs f. f)
+
+  module _ (o : Topic T) (w : IsWhole o) where
+    steps_same : (log2 : Log T) → log2 ≡ o.log → Steps None None o log2
+    steps_same log2 e =
+        let k : Steps None None o o.log = record {
+          live = λ q. refl;
+          numbered = w.numbered;
+          grows = λ here unread u. (unread, u, λ p xs f. f);
+        } in
+        subst (λ x. Steps None None o x) (sym e) k
+
+    steps_quiet : (b : Bool) (log2 : Log T) → log2 ≡ o.log → Steps None (if b then None else None) o log2
+    steps_quiet true log2 e = steps_same log2 e
+    steps_quiet false log2 e = steps_same log2 e
+
+    live_at : (t : ℕ) → is_subscriber t o ≡ true → is_live (place_at t o) o.log ≡ true
+    live_at t e = w.named.live t (place_at t o) (some_number (at_number o.subscribers t) e)
+
+    apart_at : (t : ℕ) → is_subscriber t o ≡ true → is_subscriber s o ≡ true → (s ≡ t → ⊥) → place_at s o ≡ place_at t o → ⊥
+    apart_at t e here n p = n (w.named.apart s t (place_at s o) (some_number (at_number o.subscribers s) here) (some_number (at_number o.subscribers t) e ∙ ap Some (sym p)))
+
+    -- a message is accepted, once others made room
+    accepted : (m : T) (log1 log2 : Log T) → log1.positions ≡ o.log.positions → log1.next ≡ o.log.next → IsEnd o.log.held log1.held → (b : Bool) → has_subscribers o.log ≡ b → Accepts b o.log log2 (published m log1) → Steps (Some m) None o log2
+    accepted m log1 log2 ps next e true h a =
+        let n : IsNumbered log1 = numbered_end o.log log1 w.numbered next e in
+        let k : Steps (Some m) None o (published m log1) = record {
+          live = λ q. ap (λ x. is_some (slice_index_or x q None)) ps;
+          numbered = (let l = length_push log1.held m in omega (arith, l, n));
+          grows = λ here unread u. (
+            unread ++ m ∷ [],
+            unread_published (place_at s o) log1 unread m n (unread_end (place_at s o) o.log log1 unread w.numbered next (ap (λ x. number_of (slice_index_or x (place_at s o) None)) ps) e u),
+            λ p xs f. follow_published C p unread xs m f,
+          );
+        } in
+        subst (λ x. Steps (Some m) None o x) (sym a.1) k
+    accepted m log1 log2 ps next e false h a = record {
+      live = λ q. ap (λ x. is_live q x) a;
+      numbered = subst (λ x. IsNumbered x) (sym a) w.numbered;
+      grows = λ here unread u. absurd (let i : has_subscribers o.log ≡ true = somebody o.log.positions (place_at s o) (live_at s here) in let j = sym h ∙ i in cc);
+    }
+
+    steps_published : (cap : ℕ) (m : T) (log2 : Log T) → Publishes cap m o.log (Ok tt) log2 → Steps (Some m) None o log2
+    steps_published cap m log2 h = accepted m o.log log2 refl refl (end_same o.log.held o.log.held refl) (has_subscribers o.log) refl h.1
+
+    steps_at_once : (cap : ℕ) (m : T) (log2 : Log T) → PublishesAtOnce cap m o.log (Ok tt) log2 → Steps (Some m) None o log2
+    steps_at_once cap m log2 h = accepted m (with_room cap o.log) log2 refl refl (end_room (nat_lt (length o.log.held) cap) o.log.held) (has_subscribers o.log) refl h
+
+    -- the subscriber t reads
+    steps_read : (t : ℕ) (x : Reading T) (log2 : Log T) → is_subscriber t o ≡ true → GoesOn (place_at t o) o.log log2 → IsEnd o.log.held log2.held → ((unread : List T) → AreUnread (place_at t o) o.log unread → Tells C x (place_at t o) log2 unread) → (b : Bool) → (s == t) ≡ b → Steps None (if b then Some x else None) o log2
+    steps_read t x log2 e g held tells true i = record {
+      live = g.live;
+      numbered = numbered_end o.log log2 w.numbered g.next held;
+      grows = λ here. subst (λ r. Grows None (Some x) (place_at r o) o.log log2) (sym (same_number s t i)) (λ unread u. (let k = tells unread u in (_, k.rest, λ p xs f. follow_reading C p unread xs x k.over k.most k.skips k.given f)));
+    }
+    steps_read t x log2 e g held tells false i = record {
+      live = g.live;
+      numbered = numbered_end o.log log2 w.numbered g.next held;
+      grows = λ here. grows_none (place_at s o) o.log log2 w.numbered g.next (g.others (place_at s o) (apart_at t e here (λ j. (let k = equal_number s t j in let l = sym k ∙ i in cc)))) held;
+    }
+
+    module _ (t : ℕ) (e : is_subscriber t o ≡ true) (log2 : Log T) where
+      reads : (answer : WaitResult T) → IsBelow (Some answer) (position (place_at t o) o.log) o.log → Reads C (place_at t o) o.log (Some answer) log2 → Steps None (if s == t then Some (reading_of answer) else None) o log2
+      reads answer b r =
+          steps_read t (reading_of answer) log2 e (read_goes C (place_at t o) o.log (Some answer) log2 (live_at t e) b r) (read_end C (place_at t o) o.log log2 (Some answer) r) (λ unread u. read_tells C (place_at t o) o.log log2 unread w.numbered (live_at t e) u answer r) (s == t) refl
+
+      reads_on : (answer : Option T) → IsBelow answer (position (place_at t o) (caught (place_at t o) o.log)) o.log → ReadsOn C (place_at t o) o.log answer log2 → Steps None (if s == t then Some (pure_reading_of answer) else None) o log2
+      reads_on answer b r =
+          steps_read t (pure_reading_of answer) log2 e (pure_goes C (place_at t o) o.log answer log2 (live_at t e) b r) (pure_end C (place_at t o) o.log log2 answer r) (λ unread u. pure_tells C (place_at t o) o.log log2 unread w.numbered (live_at t e) u answer r) (s == t) refl
+
+      gap_below : (b : Bool) (k : ℕ) → Reads C (place_at t o) o.log (gap b k) log2 → IsBelow (gap {T = T} b k) (position (place_at t o) o.log) o.log
+      gap_below true k r = omega (arith, r.0)
+      gap_below false k r = tt
+
+      streams : Reads C (place_at t o) o.log (gap (lags (place_at t o) o.log) (oldest o.log - position (place_at t o) o.log)) log2 → Steps None (if s == t then Some (pure_reading_of None) else None) o log2
+      streams r =
+          let q = place_at t o in
+          let x = gap {T = T} (lags q o.log) (oldest o.log - position q o.log) in
+          steps_read t (pure_reading_of None) log2 e (read_goes C q o.log x log2 (live_at t e) (gap_below (lags q o.log) (oldest o.log - position q o.log) r) r) (read_end C q o.log log2 x r) (λ unread u. stream_tells C q o.log log2 unread w.numbered (live_at t e) u r) (s == t) refl
+
+    -- a poll of a request
+    polled : (I : T → Type 0) (cap : ℕ) (ask : PubSubAsk T) (a : Answer (PubSubHeard T)) (log2 : Log T) → names_it ask o ≡ true → PollsLog C I cap o ask a log2 → Steps (published_by_poll (Some ask) a) (read_by_poll s (Some ask) a) o log2
+    polled I cap (Publish p message) Pending log2 f h = steps_same log2 h.3
+    polled I cap (Publish p message) (Gives (Published (Ok done))) log2 f h = steps_published cap message log2 h
+    polled I cap (Publish p message) (Gives (Published (Err refused))) log2 f h = steps_same log2 h.4
+    polled I cap (Publish p message) a log2 f h = absurd h
+    polled I cap (Message t) Pending log2 f h = steps_quiet (s == t) log2 h.1
+    polled I cap (Message t) (Gives (Read answer)) log2 f h = reads t f log2 answer h.0 h.1
+    polled I cap (Message t) NoMemory log2 f h = steps_quiet (s == t) log2 h.2
+    polled I cap (Message t) a log2 f h = absurd h
+    polled I cap (MessagePure t) Pending log2 f h = reads_on t f log2 None tt h
+    polled I cap (MessagePure t) (Gives (ReadPure answer)) log2 f h = reads_on t f log2 (Some answer) h.0 h.1
+    polled I cap (MessagePure t) NoMemory log2 f h = steps_quiet (s == t) log2 h.2
+    polled I cap (MessagePure t) a log2 f h = absurd h
+    polled I cap (Stream t) Pending log2 f h = streams t f log2 h
+    polled I cap (Stream t) (Gives (Streamed None)) log2 f h = absurd h.1
+    polled I cap (Stream t) (Gives (Streamed (Some v))) log2 f h = reads t f log2 (Given v) h.0 h.1
+    polled I cap (Stream t) NoMemory log2 f h = steps_quiet (s == t) log2 h.2
+    polled I cap (Stream t) a log2 f h = absurd h
+
+    tries_publish : (cap p : ℕ) (message : T) (a : Answer (PubSubHeard T)) (log2 : Log T) → TriesPublish cap message o.log a log2 → Steps (published_by_call (TryPublish p message) a) None o log2
+    tries_publish cap p message (Gives (TriedPublish (Ok done))) log2 h = steps_published cap message log2 h
+    tries_publish cap p message (Gives (TriedPublish (Err (Full back)))) log2 h = steps_same log2 h.3
+    tries_publish cap p message (Gives (TriedPublish (Err (Exhausted back)))) log2 h = steps_same log2 h.4
+    tries_publish cap p message a log2 h = absurd h
+
+    at_once : (cap : ℕ) (message : T) (a : Answer (PubSubHeard T)) (log2 : Log T) → AtOnce cap message o.log a log2 → Steps (published_by_call (Immediate message) a) None o log2
+    at_once cap message (Gives (PublishedAtOnce (Ok done))) log2 h = steps_at_once cap message log2 h
+    at_once cap message (Gives (PublishedAtOnce (Err refused))) log2 h = steps_same log2 h.3
+    at_once cap message a log2 h = absurd h
+
+    tries : (I : T → Type 0) (t : ℕ) → is_subscriber t o ≡ true → (a : Answer (PubSubHeard T)) (log2 : Log T) → Tries C I (place_at t o) o.log a log2 → Steps None (read_by_call s (Next t) a) o log2
+    tries I t e (Gives (Tried None)) log2 h = steps_same log2 h.1.1
+    tries I t e (Gives (Tried (Some answer))) log2 h = reads t e log2 answer h.0 h.1
+    tries I t e NoMemory log2 h = steps_same log2 h.2
+    tries I t e a log2 h = absurd h
+
+    tries_pure : (I : T → Type 0) (t : ℕ) → is_subscriber t o ≡ true → (a : Answer (PubSubHeard T)) (log2 : Log T) → TriesPure C I (place_at t o) o.log a log2 → Steps None (read_by_call s (NextPure t) a) o log2
+    tries_pure I t e (Gives (TriedPure answer)) log2 h = reads_on t e log2 answer h.0 h.1
+    tries_pure I t e NoMemory log2 h = steps_same log2 h.2
+    tries_pure I t e a log2 h = absurd h
+
+    steps_clear : Steps None None o (cleared o.log)
+    steps_clear = record {
+      live = λ q. refl;
+      numbered = omega arith;
+      grows = λ here. grows_none (place_at s o) o.log (cleared o.log) w.numbered refl refl (end_none o.log.held);
+    }
+
+    -- a step that changes neither the log nor whom the numbers name
+    stands_same : (o2 : Topic T) (told : Option (Told T)) → o2.log ≡ o.log → o2.subscribers ≡ o.subscribers → Stands o told → Stands o2 (more None None told)
+    stands_same o2 told e f h = stands_log o o2 None None told f (steps_same o2.log e) h
+
+    -- a subscriber comes under a free number
+    module _ (t place : ℕ) (free : is_free t o.subscribers ≡ true) (log2 : Log T) (j : Joins o.log (Some place) log2) where
+      abbrev joined : Topic T
+      joined = record { log = log2; subscribers = slice_set o.subscribers t (Some place); publishers = o.publishers }
+
+      joined_next : log2.next ≡ o.log.next
+      joined_next = ap (λ x. x.next) j.1
+
+      joined_held : log2.held ≡ o.log.held
+      joined_held = ap (λ x. x.held) j.1
+
+      joined_whole : IsWhole joined
+      joined_whole = record {
+        named = named_join 1 0 names (seen o) (seen joined) o.subscribers nobody w.named t place j free refl;
+        numbered = numbered_end o.log log2 w.numbered joined_next (end_same o.log.held log2.held joined_held);
+      }
+
+      -- it has nothing to read yet
+      joined_unread : AreUnread place log2 []
+      joined_unread = subst (λ x. AreUnread place x []) (sym j.1) (
+        let there : position place (moved place o.log.next o.log) ≡ o.log.next = ap number_of (get_or-set_same o.log.positions place (Some o.log.next) None (free_below o.log.positions place j.0.free)) in
+        let n = w.numbered in
+        record {
+          count = omega (arith, there);
+          held = ap (λ p. drop (p - oldest o.log) o.log.held) there ∙ drop_all (o.log.next - oldest o.log) o.log.held (omega (arith, n)) ∙ sym (drop_all (oldest o.log - position place (moved place o.log.next o.log)) [] (omega arith));
+        })
+
+      joined_reads : (told : Option (Told T)) → IfSome told (λ k. HasRead C s o k) → (b : Bool) → (s == t) ≡ b → IfSome (if b then Some (record { published = []; readings = [] }) else told) (λ k. HasRead C s joined k)
+      joined_reads told h true e =
+          let here : at_number (slice_set o.subscribers t (Some place)) s ≡ Some place = subst (λ r. at_number (slice_set o.subscribers t (Some place)) r ≡ Some place) (sym (same_number s t e)) (at_set_here o.subscribers t None (Some place) (free_is (slice_get o.subscribers t) free)) in
+          record {
+            here = ap is_some here;
+            unread = [];
+            follow = refl;
+            rest = subst (λ q. AreUnread (number_of q) log2 []) (sym here) joined_unread;
+          }
+      joined_reads None h false e = tt
+      joined_reads (Some k) h false e =
+          let same : at_number (slice_set o.subscribers t (Some place)) s ≡ at_number o.subscribers s = at_set_other o.subscribers t s (Some place) (λ i. (let l = equal_number s t (sym i) in let m = sym l ∙ e in cc)) in
+          let q = place_at s o in
+          let other : q ≡ place → ⊥ = λ i. (let a : is_live q o.log ≡ true = live_at s h.here in let b : is_live place o.log ≡ false = ap is_some (free_there o.log.positions place j.0.free) in let c : is_live place o.log ≡ true = subst (λ x. is_live x o.log ≡ true) i a in cc) in
+          let there : position q log2 ≡ position q o.log = ap (λ x. position q x) j.1 ∙ ap number_of (get_or-set_other o.log.positions place q (Some o.log.next) None other) in
+          record {
+            here = ap is_some same ∙ h.here;
+            unread = h.unread;
+            follow = h.follow;
+            rest = subst (λ q. AreUnread (number_of q) log2 h.unread) (sym same) (unread_end q o.log log2 h.unread w.numbered joined_next there (end_same o.log.held log2.held joined_held) h.rest);
+          }
+
+    -- a subscriber leaves
+    module _ (t : ℕ) (e : is_subscriber t o ≡ true) where
+      left_whole : IsWhole (departed t o)
+      left_whole = record {
+        named = named_leave 1 0 names (seen o) (seen (departed t o)) o.subscribers nobody w.named t (place_at t o) (some_number (at_number o.subscribers t) e) refl refl;
+        numbered = numbered_end o.log (departed t o).log w.numbered refl (end_settled (oldest o.log) (without (place_at t o) o.log).positions o.log.held);
+      }
+
+      left_reads : (told : Option (Told T)) → IfSome told (λ k. HasRead C s o k) → (b : Bool) → (s == t) ≡ b → IfSome (if b then None else told) (λ k. HasRead C s (departed t o) k)
+      left_reads told h true i = tt
+      left_reads None h false i = tt
+      left_reads (Some k) h false i =
+          let ne : s ≡ t → ⊥ = λ j. (let l = equal_number s t j in let m = sym l ∙ i in cc) in
+          let same : at_number (slice_set o.subscribers t None) s ≡ at_number o.subscribers s = at_set_other o.subscribers t s None (λ j. ne (sym j)) in
+          let q = place_at s o in
+          let there : position q (left (place_at t o) o.log) ≡ position q o.log = ap number_of (get_or-set_other o.log.positions (place_at t o) q None None (apart_at t e h.here ne)) in
+          record {
+            here = ap is_some same ∙ h.here;
+            unread = h.unread;
+            follow = h.follow;
+            rest = subst (λ q. AreUnread (number_of q) (left (place_at t o) o.log) h.unread) (sym same) (unread_end q o.log (left (place_at t o) o.log) h.unread w.numbered refl there (end_settled (oldest o.log) (without (place_at t o) o.log).positions o.log.held) h.rest);
+          }
+
+  more_none : (told : Option (Told T)) → more None None told ≡ told
+  more_none None = refl
+  more_none (Some k) = refl
+
+  abbrev unheard : Option (Reading T)
+  unheard = None
+
+  either_none : (b : Bool) → (if b then unheard else unheard) ≡ unheard
+  either_none true = refl
+  either_none false = refl
+
+  no_poll : (ask : Option (PubSubAsk T)) → (published_by_poll ask NoSuch ≡ None) × (read_by_poll s ask NoSuch ≡ None)
+  no_poll None = (refl, refl)
+  no_poll (Some (Publish p message)) = (refl, refl)
+  no_poll (Some (Message t)) = (refl, either_none (s == t))
+  no_poll (Some (MessagePure t)) = (refl, either_none (s == t))
+  no_poll (Some (Stream t)) = (refl, either_none (s == t))
+
+  no_call : (told : Option (Told T)) (call : PubSubCall T) → told_by_call s told call NoSuch ≡ more None None told
+  no_call told (Join t) = refl
+  no_call told (Leave t) = refl
+  no_call told (Publisher p) = refl
+  no_call told (Retire p) = refl
+  no_call told (TryPublish p message) = refl
+  no_call told (Immediate message) = refl
+  no_call told (Next t) = refl
+  no_call told (NextPure t) = refl
+  no_call told (Available t) = refl
+  no_call told Clear = refl
+  no_call told Len = refl
+  no_call told FreeCapacity = refl
+
+  module _ (I : T → Type 0) (cap pubs : ℕ) (W : Type 0) where
+    abbrev rules : Rules (PubSubAsk T) (PubSubAsk T) (PubSubCall T) (PubSubHeard T)
+    rules = pubsub_rules C I cap pubs
+
+    abbrev On : Topic T → Account T → Type 0
+    On o k = Stands o k.told
+
+    -- the account has what the request is for
+    abbrev IsKnown : Account T → ℕ → PubSubAsk T → Type 0
+    IsKnown k r ask = ask_of k.asked r ≡ Some ask
+
+    told_as : (k : Account T) (told : Option (Told T)) → told ≡ k.told → record { asked = k.asked; told = told } ≡ k
+    told_as k told e = ap (λ x. record { asked = k.asked; told = x }) e
+
+    refused : (k : Account T) (c : Command (PubSubAsk T) W (PubSubCall T)) → after s k c NoSuch ≡ k
+    refused k (Start r ask) = refl
+    refused k (Poll r w) = (let n = no_poll (ask_of k.asked r) in told_as k _ (ap (λ m. more m (read_by_poll s (ask_of k.asked r) NoSuch) k.told) n.0 ∙ ap (λ x. more None x k.told) n.1 ∙ more_none k.told))
+    refused k (End r) = refl
+    refused k (Call call) = told_as k _ (no_call k.told call ∙ more_none k.told)
+
+    -- nothing changed
+    by_refused : (o o2 : Topic T) (k : Account T) (c : Command (PubSubAsk T) W (PubSubCall T)) (a : Answer (PubSubHeard T)) → On o k → a ≡ NoSuch → o2 ≡ o → On o2 (after s k c a)
+    by_refused o o2 k c a h e f = subst (λ x. On o2 (after s k c x)) (sym e) (subst (λ x. On x (after s k c NoSuch)) (sym f) (subst (λ x. On o x) (sym (refused k c)) h))
+
+    began : (b : Bool) (ask h : PubSubAsk T) → Begins b ask (Some h) → Some h ≡ Some ask
+    began true ask h e = e
+    began false ask h e = cc
+
+    rest_known : (k : Account T) (r : ℕ) (ask : PubSubAsk T) (a : Answer (PubSubHeard T)) → IsKnown k r ask → IfSome (rest_of ask a) (λ x. IsKnown k r x)
+    rest_known k r ask Done known = known
+    rest_known k r ask Pending known = known
+    rest_known k r ask NoSuch known = known
+    rest_known k r ask NoMemory known = known
+    rest_known k r ask (Gives heard) known = tt
+
+    module _ (o o2 : Topic T) (k : Account T) (on : On o k) where
+      on_polled : (r : ℕ) (v : W) (ask : PubSubAsk T) (a : Answer (PubSubHeard T)) (p : Option (PubSubAsk T)) → IsKnown k r ask → Polls C I cap o ask a o2 p → On o2 (after s k (Poll r v) a)
+      on_polled r v ask a p known h = elim (where_done (names_it ask o) o (PollsLog C I cap o ask a o2.log × WithLog o o2) a o2 h.0) [
+        | inl d ↦ subst (λ x. Stands o2 (more (published_by_poll x a) (read_by_poll s x a) k.told)) (sym known) (stands_log o o2 (published_by_poll (Some ask) a) (read_by_poll s (Some ask) a) k.told (ap (λ x. x.subscribers) d.1.1) (polled o on.whole I cap ask a o2.log d.0 d.1.0) on)
+        | inr n ↦ by_refused o o2 k (Poll r v) a on n.0 n.1
+      ]
+
+      came : (t : ℕ) (a : Answer (PubSubHeard T)) → is_free t o.subscribers ≡ true → Comes t o a o2 → Stands o2 (told_by_call s k.told (Join t) a)
+      came t (Gives (Came (Ok done))) f h = subst (λ x. Stands x (told_by_call s k.told (Join t) (Gives (Came (Ok done))))) (sym h.2) (record {
+        whole = joined_whole o on.whole t h.0 f o2.log h.1;
+        reads = joined_reads o on.whole t h.0 f o2.log h.1 k.told on.reads (s == t) refl;
+      })
+      came t (Gives (Came (Err MaximumSubscribersReached))) f h = stands_same o on.whole o2 k.told h.0.1 (ap (λ x. x.subscribers) h.1) on
+      came t (Gives (Came (Err MaximumPublishersReached))) f h = absurd h.0
+      came t a f h = absurd h
+
+      counted : (p : ℕ) (a : Answer (PubSubHeard T)) → Counts pubs p o a o2 → Stands o2 (told_by_call s k.told (Publisher p) a)
+      counted p (Gives (Came (Ok done))) h = stands_same o on.whole o2 k.told (ap (λ x. x.log) h.1) (ap (λ x. x.subscribers) h.1) on
+      counted p (Gives (Came (Err MaximumPublishersReached))) h = stands_same o on.whole o2 k.told (ap (λ x. x.log) h.1) (ap (λ x. x.subscribers) h.1) on
+      counted p a h = absurd h
+
+      module _ (a : Answer (PubSubHeard T)) where
+        by_done : (call : PubSubCall T) → a ≡ Done → Stands o2 (told_by_call s k.told call Done) → Stands o2 (told_by_call s k.told call a)
+        by_done call e h = subst (λ x. Stands o2 (told_by_call s k.told call x)) (sym e) h
+
+        called : (call : PubSubCall T) → Calls C I cap pubs o call a o2 → On o2 (after s {W = W} k (Call call) a)
+        called (Join t) h = elim (where_done (is_free t o.subscribers) o (Comes t o a o2) a o2 h) [
+          | inl d ↦ came t a d.0 d.1
+          | inr n ↦ by_refused o o2 k (Call (Join t)) a on n.0 n.1
+        ]
+        called (Leave t) h = elim (where_done (is_subscriber t o) o ((a ≡ Done) × (o2 ≡ departed t o)) a o2 h) [
+          | inl d ↦ by_done (Leave t) d.1.0 (subst (λ x. Stands x (told_by_call s k.told (Leave t) Done)) (sym d.1.1) (record {
+            whole = left_whole o on.whole t d.0;
+            reads = left_reads o on.whole t d.0 k.told on.reads (s == t) refl;
+          }))
+          | inr n ↦ by_refused o o2 k (Call (Leave t)) a on n.0 n.1
+        ]
+        called (Publisher p) h = elim (where_done (is_free p o.publishers) o (Counts pubs p o a o2) a o2 h) [
+          | inl d ↦ counted p a d.1
+          | inr n ↦ by_refused o o2 k (Call (Publisher p)) a on n.0 n.1
+        ]
+        called (Retire p) h = elim (where_done (is_publisher p o) o ((a ≡ Done) × (o2 ≡ record o { publishers = slice_set o.publishers p None })) a o2 h) [
+          | inl d ↦ by_done (Retire p) d.1.0 (stands_same o on.whole o2 k.told (ap (λ x. x.log) d.1.1) (ap (λ x. x.subscribers) d.1.1) on)
+          | inr n ↦ by_refused o o2 k (Call (Retire p)) a on n.0 n.1
+        ]
+        called (TryPublish p message) h = elim (where_done (is_publisher p o) o (TriesPublish cap message o.log a o2.log × WithLog o o2) a o2 h) [
+          | inl d ↦ stands_log o o2 (published_by_call (TryPublish p message) a) None k.told (ap (λ x. x.subscribers) d.1.1) (tries_publish o on.whole cap p message a o2.log d.1.0) on
+          | inr n ↦ by_refused o o2 k (Call (TryPublish p message)) a on n.0 n.1
+        ]
+        called (Immediate message) h = stands_log o o2 (published_by_call (Immediate message) a) None k.told (ap (λ x. x.subscribers) h.1) (at_once o on.whole cap message a o2.log h.0) on
+        called (Next t) h = elim (where_done (is_subscriber t o) o (Tries C I (place_at t o) o.log a o2.log × WithLog o o2) a o2 h) [
+          | inl d ↦ stands_log o o2 None (read_by_call s (Next t) a) k.told (ap (λ x. x.subscribers) d.1.1) (tries o on.whole I t d.0 a o2.log d.1.0) on
+          | inr n ↦ by_refused o o2 k (Call (Next t)) a on n.0 n.1
+        ]
+        called (NextPure t) h = elim (where_done (is_subscriber t o) o (TriesPure C I (place_at t o) o.log a o2.log × WithLog o o2) a o2 h) [
+          | inl d ↦ stands_log o o2 None (read_by_call s (NextPure t) a) k.told (ap (λ x. x.subscribers) d.1.1) (tries_pure o on.whole I t d.0 a o2.log d.1.0) on
+          | inr n ↦ by_refused o o2 k (Call (NextPure t)) a on n.0 n.1
+        ]
+        called (Available t) h = elim (where_done (is_subscriber t o) o _ a o2 h) [
+          | inl d ↦ stands_same o on.whole o2 k.told (ap (λ x. x.log) d.1.1) (ap (λ x. x.subscribers) d.1.1) on
+          | inr n ↦ by_refused o o2 k (Call (Available t)) a on n.0 n.1
+        ]
+        called Clear h = by_done Clear h.0 (subst (λ x. Stands x (more None None k.told)) (sym h.1) (stands_log o (record o { log = cleared o.log }) None None k.told refl (steps_clear o on.whole) on))
+        called Len h = stands_same o on.whole o2 k.told (ap (λ x. x.log) h.1) (ap (λ x. x.subscribers) h.1) on
+        called FreeCapacity h = stands_same o on.whole o2 k.told (ap (λ x. x.log) h.3) (ap (λ x. x.subscribers) h.3) on
+
+    -- calls concern no number
+    no_number : (call : PubSubCall T) (r : ℕ) → reach call ≡ AtNumber r → ⊥
+    no_number (Leave t) r e = cc
+    no_number (Retire p) r e = cc
+    no_number call r e = cc
+
+    keeps : KeepsEach rules (λ c. Unit {0}) (after s {W = W}) On IsKnown
+    keeps = record {
+      refused = refused;
+      starts = λ o k r ask h begins on. (on, ask_of-started k.asked r ask ∙ sym (began (names_it ask o) ask h begins));
+      polls = λ o o2 k r v ask a p h on known. (on_polled o o2 k on r v ask a p known h, subst (λ q. IfSome q (λ x. IsKnown k r x)) (sym h.1) (rest_known k r ask a known));
+      ends = λ o o2 k r ask e on known. subst (λ x. Stands x k.told) (sym e) on;
+      calls = λ o o2 k call r p p2 a reach h on known. absurd (no_number call r reach);
+      alone = λ o o2 k call p a none h on. called o o2 k on a call h.0;
+      others = λ k c a r ask ne known. ask_of-other rules k.asked c a r ne ∙ known;
+    }
+
+    pub in_order : (H : Wakings (Topic T) (PubSubAsk T) (PubSubCall T) (PubSubHeard T) W) (eq : W → W → Bool) (K REQS : ℕ) (o o2 : Object (Topic T) (PubSubAsk T)) (g g2 : H.Registered) (cs : List (Command (PubSubAsk T) W (PubSubCall T))) (as' : List (Reply (Answer (PubSubHeard T)) W K)) → GoodRun (requests_meaning rules H eq K) o g cs as' o2 g2 → o.requests ≡ replicate REQS None → IsWhole o.core → ReadsInOrder C s cs as' o2.core
+    in_order H eq K REQS o o2 g g2 cs as' run free whole =
+        (told_requests rules (λ c. Unit {0}) (after s) H eq K (keeps_each rules (λ c. Unit {0}) (after s) keeps) o o2 g g2 (record { asked = []; told = None }) cs as' (of_any_kind cs) run (record {
+          core = record { whole = whole; reads = tt };
+          here = λ r ask e. absurd (nothing_there REQS r ask (subst (λ q. at_number q r ≡ Some ask) free e));
+        })).core.reads

@@ -1,0 +1,146 @@
+-- A subscriber reads what was published since it came, in order, but for what it passed over: told of the commands and their answers alone.
+use Rattle.std.specs.Prelude.{◌≡◌, ℕ, ◌+◌, ◌-◌, ◌≤◌, ◌==◌, ◌⊎◌, true, List, [], ◌∷◌, ◌++◌, length, drop, Option, Some, None, IfSome, Ok, if◌then◌else◌}
+use Rattle.esync_machine.specs.Account.{account, ask_of, asked_after}
+use Rattle.esync_machine.specs.declared.run.Reply.{Reply}
+use Rattle.esync_machine.specs.declared.primitive.Answer.{Answer}
+use Rattle.esync_machine.specs.declared.primitive.Answer.TheVariants.{Done, Pending, Gives}
+use Rattle.esync_machine.specs.declared.primitive.Command.{Command}
+use Rattle.esync_machine.specs.declared.primitive.Command.TheVariants.{Start, Poll, End, Call}
+use Rattle.esync_pubsub.specs.Log.{Log, oldest, position}
+use Rattle.esync_pubsub.specs.PubSubRules.{Topic, place_at, is_subscriber, is_of_subscriber}
+use Rattle.esync_pubsub.specs.declared.pubsub.WaitResult.{WaitResult}
+use Rattle.esync_pubsub.specs.declared.pubsub.WaitResult.TheVariants.{Lagged, Message as Given}
+use Rattle.esync_pubsub.specs.declared.pubsub.machine.PubSubAsk.{PubSubAsk}
+use Rattle.esync_pubsub.specs.declared.pubsub.machine.PubSubAsk.TheVariants.{Publish, Message, MessagePure, Stream}
+use Rattle.esync_pubsub.specs.declared.pubsub.machine.PubSubCall.{PubSubCall}
+use Rattle.esync_pubsub.specs.declared.pubsub.machine.PubSubCall.TheVariants.{Join, Leave, TryPublish, Immediate, Next, NextPure}
+use Rattle.esync_pubsub.specs.declared.pubsub.machine.PubSubHeard.{PubSubHeard}
+use Rattle.esync_pubsub.specs.declared.pubsub.machine.PubSubHeard.TheVariants.{Published, Read, ReadPure, Streamed, Came, TriedPublish, PublishedAtOnce, Tried, TriedPure}
+
+-- what an answer tells a subscriber: how many messages it passed over, where that is told, and which one it was given behind them
+pub record Reading (T : Type 0) : Type 0 where
+  pub skipped : Option ℕ
+  pub given : Option T
+
+-- what is known of a subscriber since it came
+pub record Told (T : Type 0) : Type 0 where
+  -- the messages that were published, in order
+  pub published : List T
+  -- what it was told, in order
+  pub readings : List (Reading T)
+
+-- what is known from the commands and answers, for one subscriber
+pub record Account (T : Type 0) : Type 0 where
+  -- what each request was started for
+  pub asked : List (ℕ × PubSubAsk T)
+  -- nothing where the subscriber did not come, or left
+  pub told : Option (Told T)
+
+-- with one more behind the others, if there is one
+abbrev pub and : {A : Type 0} → List A → Option A → List A
+and xs None = xs
+and xs (Some x) = xs ++ x ∷ []
+
+-- so many messages are passed over
+abbrev pub Skips : Option ℕ → ℕ → Type 0
+Skips None k = Unit {0}
+Skips (Some n) k = k ≡ n
+
+module _ {T : Type 0} where
+  -- the message that was published by a poll of a request for this
+  abbrev pub published_by_poll : Option (PubSubAsk T) → Answer (PubSubHeard T) → Option T
+  published_by_poll (Some (Publish p message)) (Gives (Published (Ok done))) = Some message
+  published_by_poll _ _ = None
+
+  -- and by a call
+  abbrev pub published_by_call : PubSubCall T → Answer (PubSubHeard T) → Option T
+  published_by_call (TryPublish p message) (Gives (TriedPublish (Ok done))) = Some message
+  published_by_call (Immediate message) (Gives (PublishedAtOnce (Ok done))) = Some message
+  published_by_call _ _ = None
+
+  -- a read tells how many messages are gone, or gives the next one
+  abbrev pub reading_of : WaitResult T → Reading T
+  reading_of (Lagged k) = record { skipped = Some k; given = None }
+  reading_of (Given message) = record { skipped = Some 0; given = Some message }
+
+  -- a pure read passes over those that are gone, and doesn't tell how many
+  abbrev pub pure_reading_of : Option T → Reading T
+  pure_reading_of given = record { skipped = None; given = given }
+
+  -- what a poll of a request tells its subscriber: a stream that is Pending may have passed over what is gone
+  abbrev pub heard_by_poll : PubSubAsk T → Answer (PubSubHeard T) → Option (Reading T)
+  heard_by_poll (Message t) (Gives (Read answer)) = Some (reading_of answer)
+  heard_by_poll (MessagePure t) (Gives (ReadPure message)) = Some (pure_reading_of (Some message))
+  heard_by_poll (MessagePure t) Pending = Some (pure_reading_of None)
+  heard_by_poll (Stream t) (Gives (Streamed (Some message))) = Some (reading_of (Given message))
+  heard_by_poll (Stream t) Pending = Some (pure_reading_of None)
+  heard_by_poll _ _ = None
+
+  -- with a message that was published, and a reading
+  abbrev pub more : Option T → Option (Reading T) → Option (Told T) → Option (Told T)
+  more message reading None = None
+  more message reading (Some k) = Some (record { published = and k.published message; readings = and k.readings reading })
+
+  -- what is told to the subscriber with the number s
+  module _ (s : ℕ) where
+    abbrev pub read_by_poll : Option (PubSubAsk T) → Answer (PubSubHeard T) → Option (Reading T)
+    read_by_poll None a = None
+    read_by_poll (Some ask) a = if is_of_subscriber s ask then heard_by_poll ask a else None
+
+    abbrev pub read_by_call : PubSubCall T → Answer (PubSubHeard T) → Option (Reading T)
+    read_by_call (Next t) (Gives (Tried (Some answer))) = if s == t then Some (reading_of answer) else None
+    read_by_call (NextPure t) (Gives (TriedPure given)) = if s == t then Some (pure_reading_of given) else None
+    read_by_call _ _ = None
+
+    -- who comes knows of nothing, and who leaves is gone
+    abbrev pub told_by_call : Option (Told T) → PubSubCall T → Answer (PubSubHeard T) → Option (Told T)
+    told_by_call told (Join t) (Gives (Came (Ok done))) = if s == t then Some (record { published = []; readings = [] }) else told
+    told_by_call told (Leave t) Done = if s == t then None else told
+    told_by_call told call a = more (published_by_call call a) (read_by_call call a) told
+
+    abbrev pub told_after : {W : Type 0} → Account T → Command (PubSubAsk T) W (PubSubCall T) → Answer (PubSubHeard T) → Option (Told T)
+    told_after k (Start r ask) a = k.told
+    told_after k (Poll r w) a = more (published_by_poll (ask_of k.asked r) a) (read_by_poll (ask_of k.asked r) a) k.told
+    told_after k (End r) a = k.told
+    told_after k (Call call) a = told_by_call k.told call a
+
+    abbrev pub after : {W : Type 0} → Account T → Command (PubSubAsk T) W (PubSubCall T) → Answer (PubSubHeard T) → Account T
+    after k c a = record { asked = asked_after k.asked c a; told = told_after k c a }
+
+  -- those behind the one that is given
+  abbrev pub behind : Option T → List T → List T
+  behind None messages = messages
+  behind (Some message) messages = drop 1 messages
+
+  -- the messages from the position at the place on: so many up to the next number, of which those that are held are the last
+  pub record AreUnread (place : ℕ) (log : Log T) (unread : List T) : Type 0 where
+    pub count : position place log + length unread ≡ log.next
+    pub held : drop (position place log - oldest log) log.held ≡ drop (oldest log - position place log) unread
+
+  module _ (IsClone : T → T → Type 0) where
+    -- the message in front is given itself, or as a clone
+    abbrev pub IsGiven : Option T → List T → Type 0
+    IsGiven None messages = Unit {0}
+    IsGiven (Some given) [] = ⊥
+    IsGiven (Some given) (message ∷ messages) = (given ≡ message) ⊎ IsClone message given
+
+    -- of the messages that were published, the readings tell of the first ones, in order, and the others are unread
+    abbrev pub Follow : List T → List (Reading T) → List T → Type 0
+    Follow published [] unread = unread ≡ published
+    Follow published (x ∷ readings) unread =
+        (k : ℕ) × (k ≤ length published) × Skips x.skipped k × IsGiven x.given (drop k published) × Follow (behind x.given (drop k published)) readings unread
+
+    -- the subscriber is here, and has read up to its position
+    pub record HasRead (s : ℕ) (o : Topic T) (k : Told T) : Type 0 where
+      pub here : is_subscriber s o ≡ true
+      -- the messages that it has neither read nor passed over
+      pub unread : List T
+      pub follow : Follow k.published k.readings unread
+      pub rest : AreUnread (place_at s o) o.log unread
+
+    -- of a channel without requests at first, and this one at last: what the subscriber with the number s was given since it came, each
+    -- message itself or a clone, and what it passed over, are in order what was published since then, up to its position
+    abbrev pub ReadsInOrder : {W : Type 0} {K : ℕ} → ℕ → List (Command (PubSubAsk T) W (PubSubCall T)) → List (Reply (Answer (PubSubHeard T)) W K) → Topic T → Type 0
+    ReadsInOrder s commands replies o2 =
+        let k = account (λ k c a. after s k c a.answer) (record { asked = []; told = None }) commands replies in
+        IfSome k.told (λ t. HasRead s o2 t)
