@@ -49,17 +49,17 @@ somebody (Some p ∷ ps) i e = refl
 somebody (None ∷ ps) zero e = absurd cc
 somebody (None ∷ ps) (suc i) e = somebody ps i e
 
-module _ {T : Type 0} (C : T → T → Type 0) (names s : ℕ) where
-  -- the log, and whom the numbers name
-  abbrev seen : Topic T → PubSub T (Unit {0})
-  seen o = record { log = o.log; publishers = 0; lists = record { subscribers = []; publishers = [] } }
+-- the log, without who waits, and no publishers: what the numbers of the subscribers are told of
+abbrev seen : {T : Type 0} → Topic T → PubSub T (Unit {0})
+seen o = record { log = o.log; publishers = 0; lists = record { subscribers = []; publishers = [] } }
 
-  abbrev nobody : List (Option (Unit {0}))
-  nobody = replicate names None
+abbrev nobody : ℕ → List (Option (Unit {0}))
+nobody names = replicate names None
 
+module _ {T : Type 0} (names : ℕ) where
   -- what holds of every channel
   pub record IsWhole (o : Topic T) : Type 0 where
-    named : AreNamed 1 0 names (seen o) (record { subscribers = o.subscribers; publishers = nobody })
+    named : AreNamed 1 0 names (seen o) (record { subscribers = o.subscribers; publishers = nobody names })
     numbered : IsNumbered o.log
 
   pub whole_of : {W : Type 0} (most pubs : ℕ) (p : PubSub T W) (t : Tables) → AreNamed most pubs names p t → IsNumbered p.log → IsWhole (topic_of p t)
@@ -77,9 +77,16 @@ module _ {T : Type 0} (C : T → T → Type 0) (names s : ℕ) where
     numbered = n;
   }
 
+  whole_log : (o o2 : Topic T) → IsWhole o → o2.subscribers ≡ o.subscribers → ((q : ℕ) → is_live q o2.log ≡ is_live q o.log) → IsNumbered o2.log → IsWhole o2
+  whole_log o o2 w e live n = record {
+    named = subst (λ ns. AreNamed 1 0 names (seen o2) (record { subscribers = ns; publishers = nobody names })) (sym e) (named_same 1 0 names (seen o) (seen o2) o.subscribers (nobody names) w.named refl live);
+    numbered = n;
+  }
+
+module _ {T : Type 0} (C : T → T → Type 0) (names s : ℕ) where
   -- what is told of the subscriber
   record Stands (o : Topic T) (told : Option (Told T)) : Type 0 where
-    whole : IsWhole o
+    whole : IsWhole names o
     reads : IfSome told (λ k. HasRead C s o k)
 
   -- a message that is published, and a reading, of the subscriber at the place
@@ -93,12 +100,6 @@ module _ {T : Type 0} (C : T → T → Type 0) (names s : ℕ) where
     numbered : IsNumbered log2
     grows : is_subscriber s o ≡ true → Grows m x (place_at s o) o.log log2
 
-  whole_log : (o o2 : Topic T) → IsWhole o → o2.subscribers ≡ o.subscribers → ((q : ℕ) → is_live q o2.log ≡ is_live q o.log) → IsNumbered o2.log → IsWhole o2
-  whole_log o o2 w e live n = record {
-    named = subst (λ ns. AreNamed 1 0 names (seen o2) (record { subscribers = ns; publishers = nobody })) (sym e) (named_same 1 0 names (seen o) (seen o2) o.subscribers nobody w.named refl live);
-    numbered = n;
-  }
-
   reads_log : (o o2 : Topic T) (m : Option T) (x : Option (Reading T)) (told : Option (Told T)) → o2.subscribers ≡ o.subscribers → Steps m x o o2.log → IfSome told (λ k. HasRead C s o k) → IfSome (more m x told) (λ k. HasRead C s o2 k)
   reads_log o o2 m x None e t h = tt
   reads_log o o2 m x (Some k) e t h = (let g = t.grows h.here h.unread h.rest in record {
@@ -109,13 +110,13 @@ module _ {T : Type 0} (C : T → T → Type 0) (names s : ℕ) where
   })
 
   stands_log : (o o2 : Topic T) (m : Option T) (x : Option (Reading T)) (told : Option (Told T)) → o2.subscribers ≡ o.subscribers → Steps m x o o2.log → Stands o told → Stands o2 (more m x told)
-  stands_log o o2 m x told e t h = record { whole = whole_log o o2 h.whole e t.live t.numbered; reads = reads_log o o2 m x told e t h.reads }
+  stands_log o o2 m x told e t h = record { whole = whole_log names o o2 h.whole e t.live t.numbered; reads = reads_log o o2 m x told e t h.reads }
 
   -- nothing is published, and nothing told
   grows_none : (q : ℕ) (log log2 : Log T) → IsNumbered log → log2.next ≡ log.next → position q log2 ≡ position q log → IsEnd log.held log2.held → Grows None None q log log2
   grows_none q log log2 n next there e unread u = (unread, unread_end q log log2 unread n next there e u, λ p xs f. f)
 
-  module _ (o : Topic T) (w : IsWhole o) where
+  module _ (o : Topic T) (w : IsWhole names o) where
     steps_same : (log2 : Log T) → log2 ≡ o.log → Steps None None o log2
     steps_same log2 e =
         let k : Steps None None o o.log = record {
@@ -257,21 +258,21 @@ module _ {T : Type 0} (C : T → T → Type 0) (names s : ℕ) where
       joined_held : log2.held ≡ o.log.held
       joined_held = ap (λ x. x.held) j.1
 
-      joined_whole : IsWhole joined
+      joined_whole : IsWhole names joined
       joined_whole = record {
-        named = named_join 1 0 names (seen o) (seen joined) o.subscribers nobody w.named t place j free refl;
+        named = named_join 1 0 names (seen o) (seen joined) o.subscribers (nobody names) w.named t place j free refl;
         numbered = numbered_end o.log log2 w.numbered joined_next (end_same o.log.held log2.held joined_held);
       }
 
       -- it has nothing to read yet
       joined_unread : AreUnread place log2 []
       joined_unread = subst (λ x. AreUnread place x []) (sym j.1) (
-        let there : position place (moved place o.log.next o.log) ≡ o.log.next = ap number_of (get_or-set_same o.log.positions place (Some o.log.next) None (free_below o.log.positions place j.0.free)) in
-        let n = w.numbered in
-        record {
-          count = omega (arith, there);
-          held = ap (λ p. drop (p - oldest o.log) o.log.held) there ∙ drop_all (o.log.next - oldest o.log) o.log.held (omega (arith, n)) ∙ sym (drop_all (oldest o.log - position place (moved place o.log.next o.log)) [] (omega arith));
-        })
+          let there : position place (moved place o.log.next o.log) ≡ o.log.next = ap number_of (get_or-set_same o.log.positions place (Some o.log.next) None (free_below o.log.positions place j.0.free)) in
+          let n = w.numbered in
+          record {
+            count = omega (arith, there);
+            held = ap (λ p. drop (p - oldest o.log) o.log.held) there ∙ drop_all (o.log.next - oldest o.log) o.log.held (omega (arith, n)) ∙ sym (drop_all (oldest o.log - position place (moved place o.log.next o.log)) [] (omega arith));
+          })
 
       joined_reads : (told : Option (Told T)) → IfSome told (λ k. HasRead C s o k) → (b : Bool) → (s == t) ≡ b → IfSome (if b then Some (record { published = []; readings = [] }) else told) (λ k. HasRead C s joined k)
       joined_reads told h true e =
@@ -297,9 +298,9 @@ module _ {T : Type 0} (C : T → T → Type 0) (names s : ℕ) where
 
     -- a subscriber leaves
     module _ (t : ℕ) (e : is_subscriber t o ≡ true) where
-      left_whole : IsWhole (departed t o)
+      left_whole : IsWhole names (departed t o)
       left_whole = record {
-        named = named_leave 1 0 names (seen o) (seen (departed t o)) o.subscribers nobody w.named t (place_at t o) (some_number (at_number o.subscribers t) e) refl refl;
+        named = named_leave 1 0 names (seen o) (seen (departed t o)) o.subscribers (nobody names) w.named t (place_at t o) (some_number (at_number o.subscribers t) e) refl refl;
         numbered = numbered_end o.log (departed t o).log w.numbered refl (end_settled (oldest o.log) (without (place_at t o) o.log).positions o.log.held);
       }
 
@@ -468,7 +469,7 @@ module _ {T : Type 0} (C : T → T → Type 0) (names s : ℕ) where
       others = λ k c a r ask ne known. ask_of-other rules k.asked c a r ne ∙ known;
     }
 
-    pub in_order : (H : Wakings (Topic T) (PubSubAsk T) (PubSubCall T) (PubSubHeard T) W) (eq : W → W → Bool) (K REQS : ℕ) (o o2 : Object (Topic T) (PubSubAsk T)) (g g2 : H.Registered) (cs : List (Command (PubSubAsk T) W (PubSubCall T))) (as' : List (Reply (Answer (PubSubHeard T)) W K)) → GoodRun (requests_meaning rules H eq K) o g cs as' o2 g2 → o.requests ≡ replicate REQS None → IsWhole o.core → ReadsInOrder C s cs as' o2.core
+    pub in_order : (H : Wakings (Topic T) (PubSubAsk T) (PubSubCall T) (PubSubHeard T) W) (eq : W → W → Bool) (K REQS : ℕ) (o o2 : Object (Topic T) (PubSubAsk T)) (g g2 : H.Registered) (cs : List (Command (PubSubAsk T) W (PubSubCall T))) (as' : List (Reply (Answer (PubSubHeard T)) W K)) → GoodRun (requests_meaning rules H eq K) o g cs as' o2 g2 → o.requests ≡ replicate REQS None → IsWhole names o.core → ReadsInOrder C s cs as' o2.core
     in_order H eq K REQS o o2 g g2 cs as' run free whole =
         (told_requests rules (λ c. Unit {0}) (after s) H eq K (keeps_each rules (λ c. Unit {0}) (after s) keeps) o o2 g g2 (record { asked = []; told = None }) cs as' (of_any_kind cs) run (record {
           core = record { whole = whole; reads = tt };

@@ -194,8 +194,7 @@ module _ {T : Type 0} where
     follow_published published unread [] m f = ap (λ l. l ++ m ∷ []) f
     follow_published published unread (x ∷ readings) m (k, most, skips, given, rest) =
         let d : drop k (published ++ m ∷ []) ≡ drop k published ++ m ∷ [] = drop-append-le k published (m ∷ []) most in
-        let g = given_more x.given (drop k published) m given in
-        (
+        let g = given_more x.given (drop k published) m given in (
           k,
           (let p = length_push published m in omega (arith, p, most)),
           skips,
