@@ -1,16 +1,16 @@
 -- A subscriber reads what was published since it came, in order.
-use Rattle.std.proofs.Common.{◌≡◌, ℕ, zero, suc, ◌+◌, ◌-◌, ◌<◌, ◌≤◌, ◌==◌, Bool, true, false, List, [], ◌∷◌, ◌++◌, length, drop, replicate, Option, Some, None, inl, inr, refl, sym, ap, ◌∙◌, subst, arith}
-use Rattle.std.specs.Prelude.{is_some, nat_lt, slice_get, slice_set, slice_index_or, if◌then◌else◌, IfSome, Result, Ok, Err}
+use Rattle.std.proofs.Common.{◌≡◌, ℕ, zero, suc, ◌-◌, ◌==◌, Bool, true, false, List, [], ◌∷◌, ◌++◌, length, drop, replicate, Option, Some, None, inl, inr, refl, sym, ap, ◌∙◌, subst, arith}
+use Rattle.std.specs.Prelude.{is_some, nat_lt, slice_get, slice_set, slice_index_or, if◌then◌else◌, IfSome, Ok, Err}
 use Rattle.std.specs.List.{list_any}
 use Rattle.std.proofs.lemmas.List.{length_push, length-replicate, drop_all, get_or-set_same, get_or-set_other}
-use Rattle.esync_base.specs.ListedLaws.{true_or_false, same_or_not, same_number, equal_number}
-use Rattle.esync_base.specs.declared.waitqueue.Poll.TheVariants.{Pending as NotYet, Ready}
-use Rattle.esync_machine.specs.AccountLaws.{of_any_kind, ask_of-started, ask_of-other, KeepsEach, keeps_each, told_requests}
+use Rattle.esync_base.specs.ListedLaws.{same_number, equal_number}
+use Rattle.esync_machine.specs.AccountLaws.{of_any_kind, ask_of-started, ask_of-other, KeepsEach, keeps_each, told_requests, law_requests, IsTold, HasLaw}
 use Rattle.esync_machine.specs.Account.{ask_of}
 use Rattle.esync_machine.specs.Runs.{GoodRun}
 use Rattle.esync_machine.specs.Numbers.{at_number}
-use Rattle.esync_machine.specs.NumbersLaws.{nothing_there, at_set_here, at_set_other}
+use Rattle.esync_machine.specs.NumbersLaws.{nothing_there, at_of, at_set_here, at_set_other}
 use Rattle.esync_machine.specs.Object.{Object, requests_meaning}
+use Rattle.esync_machine.specs.ObjectLaws.{EachStep}
 use Rattle.esync_machine.specs.Rules.{Rules}
 use Rattle.esync_machine.specs.Wakings.{Wakings}
 use Rattle.esync_machine.specs.declared.run.Reply.{Reply}
@@ -19,26 +19,24 @@ use Rattle.esync_machine.specs.declared.primitive.Answer.TheVariants.{Done, Pend
 use Rattle.esync_machine.specs.declared.primitive.Reach.TheVariants.{Number as AtNumber}
 use Rattle.esync_machine.specs.declared.primitive.Command.{Command}
 use Rattle.esync_machine.specs.declared.primitive.Command.TheVariants.{Start, Poll, End, Call}
-use Rattle.esync_pubsub.specs.Events.{Tables, AreNamed}
-use Rattle.esync_pubsub.specs.Log.{Log, oldest, number_of, has_subscribers, is_live, position, published, with_room, moved, settled, without, left, cleared, lags, caught, found, gap, Accepts, Joins, Publishes, PublishesAtOnce, Reads, ReadsOn}
-use Rattle.esync_pubsub.specs.PubSub.{PubSub, Subscribes}
-use Rattle.esync_pubsub.specs.PubSubRules.{Topic, topic_of, place_at, is_subscriber, is_free, is_publisher, is_of_subscriber, names_it, reach, rest_of, departed, Where, WithLog, Begins, IsBelow, PollsLog, Polls, Comes, Counts, TriesPublish, AtOnce, Tries, TriesPure, Calls, pubsub_rules}
-use Rattle.esync_pubsub.specs.Order.{Reading, Told, Account, and, published_by_poll, published_by_call, reading_of, pure_reading_of, read_by_poll, read_by_call, more, told_by_call, after, AreUnread, Follow, HasRead, ReadsInOrder}
-use Rattle.esync_pubsub.specs.declared.pubsub.TryPublishError.{TryPublishError}
+use Rattle.esync_pubsub.specs.Events.{Eventing, AreNamed}
+use Rattle.esync_pubsub.specs.Log.{Log, oldest, number_of, has_subscribers, is_live, position, published, with_room, moved, without, left, cleared, lags, caught, gap, Accepts, Joins, Publishes, PublishesAtOnce, Reads, ReadsOn}
+use Rattle.esync_pubsub.specs.PubSub.{PubSub}
+use Rattle.esync_pubsub.specs.PubSubRules.{Topic, topic_of, place_at, is_subscriber, is_free, is_publisher, names_it, reach, rest_of, departed, WithLog, Begins, IsBelow, PollsLog, Polls, Comes, Counts, TriesPublish, AtOnce, Tries, TriesPure, Calls, pubsub_rules}
+use Rattle.esync_pubsub.specs.Order.{Reading, Told, Account, and, published_by_poll, published_by_call, reading_of, pure_reading_of, read_by_poll, read_by_call, more, told_by_call, after, AreUnread, Follow, HasRead, ReadsInOrder, unread_by_poll, unread_by_call, unread_told, HasUnread, CountsUnread}
 use Rattle.esync_pubsub.specs.declared.pubsub.TryPublishError.TheVariants.{Full, Exhausted}
 use Rattle.esync_pubsub.specs.declared.pubsub.Error.TheVariants.{MaximumSubscribersReached, MaximumPublishersReached}
-use Rattle.esync_pubsub.specs.declared.pubsub.Exhausted.{Exhausted as NoNumber}
 use Rattle.esync_pubsub.specs.declared.pubsub.WaitResult.{WaitResult}
-use Rattle.esync_pubsub.specs.declared.pubsub.WaitResult.TheVariants.{Lagged, Message as Given}
+use Rattle.esync_pubsub.specs.declared.pubsub.WaitResult.TheVariants.{Message as Given}
 use Rattle.esync_pubsub.specs.declared.pubsub.machine.PubSubAsk.{PubSubAsk}
 use Rattle.esync_pubsub.specs.declared.pubsub.machine.PubSubAsk.TheVariants.{Publish, Message, MessagePure, Stream}
 use Rattle.esync_pubsub.specs.declared.pubsub.machine.PubSubCall.{PubSubCall}
 use Rattle.esync_pubsub.specs.declared.pubsub.machine.PubSubCall.TheVariants.{Join, Leave, Publisher, Retire, TryPublish, Immediate, Next, NextPure, Available, Clear, Len, FreeCapacity}
 use Rattle.esync_pubsub.specs.declared.pubsub.machine.PubSubHeard.{PubSubHeard}
-use Rattle.esync_pubsub.specs.declared.pubsub.machine.PubSubHeard.TheVariants.{Published, Read, ReadPure, Streamed, Came, TriedPublish, PublishedAtOnce, Tried, TriedPure}
+use Rattle.esync_pubsub.specs.declared.pubsub.machine.PubSubHeard.TheVariants.{Published, Read, ReadPure, Streamed, Came, TriedPublish, PublishedAtOnce, Tried, TriedPure, Unread}
 use Rattle.esync_pubsub.proofs.Calls.{where_done}
-use Rattle.esync_pubsub.proofs.Kept.{GoesOn, read_goes, pure_goes, left_live, join_here, join_live}
-use Rattle.esync_pubsub.proofs.Logged.{place_below, free_below, free_there, some_number}
+use Rattle.esync_pubsub.proofs.Kept.{GoesOn, read_goes, pure_goes}
+use Rattle.esync_pubsub.proofs.Logged.{free_below, free_there, some_number}
 use Rattle.esync_pubsub.proofs.Named.{free_is, named_new, named_same, named_join, named_leave}
 use Rattle.esync_pubsub.proofs.Unread.{IsEnd, end_same, end_none, end_settled, end_room, IsNumbered, numbered_end, unread_end, unread_published, Tells, read_tells, pure_tells, stream_tells, read_end, pure_end, follow_published, follow_reading}
 
@@ -62,8 +60,9 @@ module _ {T : Type 0} (names : ℕ) where
     named : AreNamed 1 0 names (seen o) (record { subscribers = o.subscribers; publishers = nobody names })
     numbered : IsNumbered o.log
 
-  pub whole_of : {W : Type 0} (most pubs : ℕ) (p : PubSub T W) (t : Tables) → AreNamed most pubs names p t → IsNumbered p.log → IsWhole (topic_of p t)
-  whole_of most pubs p t m n = record {
+  -- a machine's state, lent
+  pub whole_of : {W : Type 0} (most pubs : ℕ) (lent e : Eventing (PubSub T W)) → lent ≡ e → AreNamed most pubs names lent.state lent.tables → IsNumbered lent.state.log → IsWhole (topic_of e.state e.tables)
+  whole_of {W} most pubs lent e same m n = subst (λ (x : Eventing (PubSub T W)). IsWhole (topic_of x.state x.tables)) same (record {
     named = record {
       room = omega arith;
       at_most = omega arith;
@@ -75,7 +74,7 @@ module _ {T : Type 0} (names : ℕ) where
       counted = (named_new {T = T} {W = Unit {0}} 1 0 names 0 0 (omega arith)).counted;
     };
     numbered = n;
-  }
+  })
 
   whole_log : (o o2 : Topic T) → IsWhole o → o2.subscribers ≡ o.subscribers → ((q : ℕ) → is_live q o2.log ≡ is_live q o.log) → IsNumbered o2.log → IsWhole o2
   whole_log o o2 w e live n = record {
@@ -469,9 +468,74 @@ module _ {T : Type 0} (C : T → T → Type 0) (names s : ℕ) where
       others = λ k c a r ask ne known. ask_of-other rules k.asked c a r ne ∙ known;
     }
 
-    pub in_order : (H : Wakings (Topic T) (PubSubAsk T) (PubSubCall T) (PubSubHeard T) W) (eq : W → W → Bool) (K REQS : ℕ) (o o2 : Object (Topic T) (PubSubAsk T)) (g g2 : H.Registered) (cs : List (Command (PubSubAsk T) W (PubSubCall T))) (as' : List (Reply (Answer (PubSubHeard T)) W K)) → GoodRun (requests_meaning rules H eq K) o g cs as' o2 g2 → o.requests ≡ replicate REQS None → IsWhole names o.core → ReadsInOrder C s cs as' o2.core
-    in_order H eq K REQS o o2 g g2 cs as' run free whole =
-        (told_requests rules (λ c. Unit {0}) (after s) H eq K (keeps_each rules (λ c. Unit {0}) (after s) keeps) o o2 g g2 (record { asked = []; told = None }) cs as' (of_any_kind cs) run (record {
-          core = record { whole = whole; reads = tt };
-          here = λ r ask e. absurd (nothing_there REQS r ask (subst (λ q. at_number q r ≡ Some ask) free e));
-        })).core.reads
+    -- what is told of how many are unread is so
+    abbrev IsSo : Option ℕ → Option (Told T) → Type 0
+    IsSo m told = IfSome m (λ n. IfSome told (λ k. HasUnread C n k))
+
+    so_if : (told : Option (Told T)) (n : ℕ) (b : Bool) → (b ≡ true → IfSome told (λ k. HasUnread C n k)) → IsSo (if b then Some n else None) told
+    so_if told n true h = h refl
+    so_if told n false h = tt
+
+    module _ (o o2 : Topic T) (k : Account T) (on : On o k) where
+      so_many : (told : Option (Told T)) → IfSome told (λ k. HasRead C s o k) → (n : ℕ) → n ≡ o.log.next - position (place_at s o) o.log → IfSome told (λ k. HasUnread C n k)
+      so_many None h n e = tt
+      so_many (Some k) h n e = (let c = h.rest.count in (h.unread, h.follow, omega (arith, c, e)))
+
+      so_by : (t n : ℕ) → n ≡ o.log.next - position (place_at t o) o.log → IsSo (if s == t then Some n else None) k.told
+      so_by t n e = so_if k.told n (s == t) (λ b. so_many k.told on.reads n (subst (λ r. n ≡ o.log.next - position (place_at r o) o.log) (sym (same_number s t b)) e))
+
+      polled_so : (ask : PubSubAsk T) (a : Answer (PubSubHeard T)) (p : Option (PubSubAsk T)) → Polls C I cap o ask a o2 p → IsSo (unread_by_poll s (Some ask) a) k.told
+      polled_so (Message t) Pending p h = elim (where_done (is_subscriber t o) o (PollsLog C I cap o (Message t) Pending o2.log × WithLog o o2) Pending o2 h.0) [
+        | inl d ↦ so_by t 0 (let e = d.1.0.0 in omega (arith, e))
+        | inr n ↦ absurd (let e = n.0 in cc)
+      ]
+      polled_so ask a p h = tt
+
+      called_so : (call : PubSubCall T) (a : Answer (PubSubHeard T)) → Calls C I cap pubs o call a o2 → IsSo (unread_by_call s call a) k.told
+      called_so (Available t) (Gives (Unread n)) h = elim (where_done (is_subscriber t o) o _ (Gives (Unread n)) o2 h) [
+        | inl d ↦ so_by t n (let e = d.1.0 in cc)
+        | inr r ↦ absurd (let e = r.0 in cc)
+      ]
+      called_so (Next t) (Gives (Tried None)) h = elim (where_done (is_subscriber t o) o (Tries C I (place_at t o) o.log (Gives (Tried None)) o2.log × WithLog o o2) (Gives (Tried None)) o2 h) [
+        | inl d ↦ so_by t 0 (let e = d.1.0.1.0 in omega (arith, e))
+        | inr r ↦ absurd (let e = r.0 in cc)
+      ]
+      called_so call a h = tt
+
+    nothing_polled : (told : Option (Told T)) (ask : Option (PubSubAsk T)) → IsSo (unread_by_poll s ask NoSuch) told
+    nothing_polled told (Some (Message t)) = tt
+    nothing_polled told ask = tt
+
+    nothing_called : (told : Option (Told T)) (call : PubSubCall T) → IsSo (unread_by_call s call NoSuch) told
+    nothing_called told (Next t) = tt
+    nothing_called told call = tt
+
+    nothing_told : (k : Account T) (c : Command (PubSubAsk T) W (PubSubCall T)) → IsSo (unread_told s k c NoSuch) k.told
+    nothing_told k (Start r ask) = tt
+    nothing_told k (Poll r w) = nothing_polled k.told (ask_of k.asked r)
+    nothing_told k (End r) = tt
+    nothing_told k (Call call) = nothing_called k.told call
+
+    so : EachStep rules (HasLaw rules (λ c. Unit {0}) (after s {W = W}) (IsTold rules (λ c. Unit {0}) (after s {W = W}) On IsKnown) (λ k c a. IsSo (unread_told s k c a) k.told))
+    so = record {
+      refused = λ o c k kind told. nothing_told k c;
+      starts = λ o r ask h there begins k kind told. tt;
+      polls = λ o r v h a core p there polls k kind told. subst (λ x. IsSo (unread_by_poll s x a) k.told) (sym (told.here r h (at_of o.requests r (Some h) there))) (polled_so o.core core k told.core h a p polls);
+      ends = λ o r h core there ends k kind told. tt;
+      calls = λ o call r p a core p2 reach there calls k kind told. absurd (no_number call r reach);
+      alone = λ o call a core p reach calls k kind told. called_so o.core core k told.core call a calls.0;
+      leaves = λ o call a core p reach calls k kind told. called_so o.core core k told.core call a calls.0;
+    }
+
+    module _ (H : Wakings (Topic T) (PubSubAsk T) (PubSubCall T) (PubSubHeard T) W) (eq : W → W → Bool) (K REQS : ℕ) (o o2 : Object (Topic T) (PubSubAsk T)) (g g2 : H.Registered) (cs : List (Command (PubSubAsk T) W (PubSubCall T))) (as' : List (Reply (Answer (PubSubHeard T)) W K)) (run : GoodRun (requests_meaning rules H eq K) o g cs as' o2 g2) (free : o.requests ≡ replicate REQS None) (whole : IsWhole names o.core) where
+      at_first : IsTold rules (λ c. Unit {0}) (after s {W = W}) On IsKnown o (record { asked = []; told = None })
+      at_first = record {
+        core = record { whole = whole; reads = tt };
+        here = λ r ask e. absurd (nothing_there REQS r ask (subst (λ q. at_number q r ≡ Some ask) free e));
+      }
+
+      pub in_order : ReadsInOrder C s cs as' o2.core
+      in_order = (told_requests rules (λ c. Unit {0}) (after s) H eq K (keeps_each rules (λ c. Unit {0}) (after s) keeps) o o2 g g2 (record { asked = []; told = None }) cs as' (of_any_kind cs) run at_first).core.reads
+
+      pub counts_unread : CountsUnread C s cs as'
+      counts_unread = law_requests rules (λ c. Unit {0}) (after s) H eq K (keeps_each rules (λ c. Unit {0}) (after s) keeps) so o o2 g g2 (record { asked = []; told = None }) cs as' (of_any_kind cs) run at_first

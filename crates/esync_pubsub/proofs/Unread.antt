@@ -1,16 +1,14 @@
 -- What is unread at a position of a log, as messages are published, read and let go.
 use Rattle.std.proofs.Common.{◌≡◌, ℕ, zero, suc, ◌+◌, ◌-◌, ◌<◌, ◌≤◌, Bool, true, false, List, [], ◌∷◌, ◌++◌, length, drop, Option, Some, None, inl, inr, refl, sym, ap, ◌∙◌, subst, arith}
-use Rattle.std.specs.Prelude.{is_some, nat_lt, slice_get, slice_index_or, if◌then◌else◌, ◌⊎◌}
+use Rattle.std.specs.Prelude.{nat_lt, slice_get, if◌then◌else◌}
 use Rattle.std.proofs.lemmas.Bool.Decides.{nat_tests}
-use Rattle.std.proofs.lemmas.List.{length_push, length-drop, length-append, drop-drop, drop-append-le, drop_all, get_or-set_same, get_or-set_other}
+use Rattle.std.proofs.lemmas.List.{length_push, length-drop, drop-drop, drop-append-le, drop_all}
 use Rattle.esync_base.specs.ListedLaws.{true_or_false}
-use Rattle.esync_pubsub.specs.Log.{Log, oldest, is_read, trimmed, number_of, is_live, position, published, moved, settled, lags, caught, found, gap, ClonesAt, Gives, Takes, Reads, ReadsOn, Streams}
-use Rattle.esync_pubsub.specs.Order.{Reading, and, reading_of, pure_reading_of, Skips, behind, AreUnread, IsGiven, Follow}
-use Rattle.esync_pubsub.proofs.Logged.{place_below}
+use Rattle.esync_pubsub.specs.Log.{Log, oldest, is_read, trimmed, is_live, position, published, moved, settled, lags, caught, found, gap, Gives, Takes, Reads, ReadsOn, Streams}
+use Rattle.esync_pubsub.specs.Order.{Reading, reading_of, pure_reading_of, Skips, behind, AreUnread, IsGiven, Follow}
 use Rattle.esync_pubsub.proofs.Kept.{caught_held}
 use Rattle.esync_pubsub.proofs.Lagging.{caught_lagging, caught_up, moved_live, moved_position}
-use Rattle.esync_base.specs.declared.waitqueue.Poll.{Poll}
-use Rattle.esync_base.specs.declared.waitqueue.Poll.TheVariants.{Pending as NotYet, Ready}
+use Rattle.esync_base.specs.declared.waitqueue.Poll.TheVariants.{Pending as NotYet}
 use Rattle.esync_pubsub.specs.declared.pubsub.WaitResult.{WaitResult}
 use Rattle.esync_pubsub.specs.declared.pubsub.WaitResult.TheVariants.{Lagged, Message as Given}
 

@@ -1,6 +1,6 @@
 -- A subscriber reads what was published since it came, in order, but for what it passed over: told of the commands and their answers alone.
 use Rattle.std.specs.Prelude.{◌≡◌, ℕ, ◌+◌, ◌-◌, ◌≤◌, ◌==◌, ◌⊎◌, true, List, [], ◌∷◌, ◌++◌, length, drop, Option, Some, None, IfSome, Ok, if◌then◌else◌}
-use Rattle.esync_machine.specs.Account.{account, ask_of, asked_after}
+use Rattle.esync_machine.specs.Account.{account, AtEach, ask_of, asked_after}
 use Rattle.esync_machine.specs.declared.run.Reply.{Reply}
 use Rattle.esync_machine.specs.declared.primitive.Answer.{Answer}
 use Rattle.esync_machine.specs.declared.primitive.Answer.TheVariants.{Done, Pending, Gives}
@@ -13,9 +13,9 @@ use Rattle.esync_pubsub.specs.declared.pubsub.WaitResult.TheVariants.{Lagged, Me
 use Rattle.esync_pubsub.specs.declared.pubsub.machine.PubSubAsk.{PubSubAsk}
 use Rattle.esync_pubsub.specs.declared.pubsub.machine.PubSubAsk.TheVariants.{Publish, Message, MessagePure, Stream}
 use Rattle.esync_pubsub.specs.declared.pubsub.machine.PubSubCall.{PubSubCall}
-use Rattle.esync_pubsub.specs.declared.pubsub.machine.PubSubCall.TheVariants.{Join, Leave, TryPublish, Immediate, Next, NextPure}
+use Rattle.esync_pubsub.specs.declared.pubsub.machine.PubSubCall.TheVariants.{Join, Leave, TryPublish, Immediate, Next, NextPure, Available}
 use Rattle.esync_pubsub.specs.declared.pubsub.machine.PubSubHeard.{PubSubHeard}
-use Rattle.esync_pubsub.specs.declared.pubsub.machine.PubSubHeard.TheVariants.{Published, Read, ReadPure, Streamed, Came, TriedPublish, PublishedAtOnce, Tried, TriedPure}
+use Rattle.esync_pubsub.specs.declared.pubsub.machine.PubSubHeard.TheVariants.{Published, Read, ReadPure, Streamed, Came, TriedPublish, PublishedAtOnce, Tried, TriedPure, Unread}
 
 -- what an answer tells a subscriber: how many messages it passed over, where that is told, and which one it was given behind them
 pub record Reading (T : Type 0) : Type 0 where
@@ -33,7 +33,7 @@ pub record Told (T : Type 0) : Type 0 where
 pub record Account (T : Type 0) : Type 0 where
   -- what each request was started for
   pub asked : List (ℕ × PubSubAsk T)
-  -- nothing where the subscriber did not come, or left
+  -- nothing where the subscriber didn't come, or left
   pub told : Option (Told T)
 
 -- with one more behind the others, if there is one
@@ -112,10 +112,27 @@ module _ {T : Type 0} where
   behind None messages = messages
   behind (Some message) messages = drop 1 messages
 
-  -- the messages from the position at the place on: so many up to the next number, of which those that are held are the last
+  -- the messages from the position at the place on: as many as there are up to the next number, and those of them that are held are their end
   pub record AreUnread (place : ℕ) (log : Log T) (unread : List T) : Type 0 where
     pub count : position place log + length unread ≡ log.next
     pub held : drop (position place log - oldest log) log.held ≡ drop (oldest log - position place log) unread
+
+  -- how many messages are unread, where an answer tells the subscriber with the number s: so many, or that there is none
+  module _ (s : ℕ) where
+    abbrev pub unread_by_poll : Option (PubSubAsk T) → Answer (PubSubHeard T) → Option ℕ
+    unread_by_poll (Some (Message t)) Pending = if s == t then Some 0 else None
+    unread_by_poll _ _ = None
+
+    abbrev pub unread_by_call : PubSubCall T → Answer (PubSubHeard T) → Option ℕ
+    unread_by_call (Available t) (Gives (Unread n)) = if s == t then Some n else None
+    unread_by_call (Next t) (Gives (Tried None)) = if s == t then Some 0 else None
+    unread_by_call _ _ = None
+
+    abbrev pub unread_told : {W : Type 0} → Account T → Command (PubSubAsk T) W (PubSubCall T) → Answer (PubSubHeard T) → Option ℕ
+    unread_told k (Start r ask) a = None
+    unread_told k (Poll r w) a = unread_by_poll (ask_of k.asked r) a
+    unread_told k (End r) a = None
+    unread_told k (Call call) a = unread_by_call call a
 
   module _ (IsClone : T → T → Type 0) where
     -- the message in front is given itself, or as a clone
@@ -124,7 +141,7 @@ module _ {T : Type 0} where
     IsGiven (Some given) [] = ⊥
     IsGiven (Some given) (message ∷ messages) = (given ≡ message) ⊎ IsClone message given
 
-    -- of the messages that were published, the readings tell of the first ones, in order, and the others are unread
+    -- the readings tell of the first of the messages that were published, in order, and the others are unread
     abbrev pub Follow : List T → List (Reading T) → List T → Type 0
     Follow published [] unread = unread ≡ published
     Follow published (x ∷ readings) unread =
@@ -144,3 +161,12 @@ module _ {T : Type 0} where
     ReadsInOrder s commands replies o2 =
         let k = account (λ k c a. after s k c a.answer) (record { asked = []; told = None }) commands replies in
         IfSome k.told (λ t. HasRead s o2 t)
+
+    -- so many messages are unread
+    abbrev pub HasUnread : ℕ → Told T → Type 0
+    HasUnread n k = (unread : List T) × Follow k.published k.readings unread × (length unread ≡ n)
+
+    -- of a channel without requests at first: each answer that tells the subscriber how many messages are unread, or that there is none, is so
+    abbrev pub CountsUnread : {W : Type 0} {K : ℕ} → ℕ → List (Command (PubSubAsk T) W (PubSubCall T)) → List (Reply (Answer (PubSubHeard T)) W K) → Type 0
+    CountsUnread s commands replies =
+        AtEach (λ k c a. after s k c a.answer) (λ k c a. IfSome (unread_told s k c a.answer) (λ n. IfSome k.told (HasUnread n))) (record { asked = []; told = None }) commands replies
