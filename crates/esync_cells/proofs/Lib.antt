@@ -1,2 +1,3 @@
 pub mod OnceSet
 pub mod WatchKept
+pub mod WatchNews

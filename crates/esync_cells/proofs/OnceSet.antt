@@ -20,7 +20,7 @@ use Rattle.esync_cells.specs.declared.once_lock.machine.OnceCall.TheVariants.{Tr
 use Rattle.esync_cells.specs.declared.once_lock.machine.OnceHeard.{OnceHeard}
 use Rattle.esync_cells.specs.declared.once_lock.machine.OnceHeard.TheVariants.{Found, HasSet, Shown}
 
-nothing_here : (p : Option Get) → IfSome p (λ x. Unit {0})
+pub nothing_here : {A : Type 0} (p : Option A) → IfSome p (λ x. Unit {0})
 nothing_here None = tt
 nothing_here (Some x) = tt
 

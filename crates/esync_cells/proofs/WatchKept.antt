@@ -70,18 +70,22 @@ handed_as tells NoSuch waiters wakes waiters2 h = h
 handed_as tells NoMemory waiters wakes waiters2 h = h
 handed_as tells (Gives x) waiters wakes waiters2 h = h
 
-not_newer : (version : ℕ) → nat_lt version version ≡ false
+pub not_newer : (version : ℕ) → nat_lt version version ≡ false
 not_newer version = grind (arith, nat_tests)
 
 found_none : {T : Type 0} (b : Bool) → found {T = T} b None ≡ None
 found_none true = refl
 found_none false = refl
 
-seen_or_not : {T E : Type 0} (marks : Bool) (version seen : ℕ) (r : Result (Option T) E) → (seen_after marks version seen r ≡ version) ⊎ (seen_after marks version seen r ≡ seen)
+pub seen_or_not : {T E : Type 0} (marks : Bool) (version seen : ℕ) (r : Result (Option T) E) → (seen_after marks version seen r ≡ version) ⊎ (seen_after marks version seen r ≡ seen)
 seen_or_not marks version seen (Ok (Some v)) = inl refl
 seen_or_not true version seen (Ok None) = inl refl
 seen_or_not false version seen (Ok None) = inr refl
 seen_or_not marks version seen (Err e) = inr refl
+
+-- a receiver that has seen what it had seen
+pub seen_same : (q : List (Option Seen)) (h : ℕ) (s : Seen) → at_number q h ≡ Some s → with_seen h s.version q ≡ q
+seen_same q h s there = ap (λ p. with_seen_if h s.version p q) there ∙ set_there q h (Some s) (there_of q h s there)
 
 module _ {T J : Type 0} (passes : J → T → Bool) where
   -- who finds nothing finds nothing once the version is marked
@@ -117,8 +121,7 @@ module _ {T J : Type 0} (passes : J → T → Bool) where
   stays_seen : (o : Watch T) (h version : ℕ) (s : Seen) (k : Await J) → at_number o.receivers h ≡ Some s → (version ≡ o.version) ⊎ (version ≡ s.version) → Stays o (with_read h version o) k
   stays_seen o h version s k there (inl e) = subst (λ v. Stays o (with_read h v o) k) (sym e) (stays_marked o h k)
   stays_seen o h version s k there (inr e) =
-      let same : with_seen_if h s.version (Some s) o.receivers ≡ o.receivers = set_there o.receivers h (Some s) (there_of o.receivers h s there) in
-      let kept : Stays o (record o { receivers = with_seen_if h s.version (at_number o.receivers h) o.receivers }) k = stays_same o _ k (ap (λ q. record o { receivers = q }) (ap (λ p. with_seen_if h s.version p o.receivers) there ∙ same)) in
+      let kept : Stays o (with_read h s.version o) k = stays_same o _ k (ap (λ q. record o { receivers = q }) (seen_same o.receivers h s there)) in
       subst (λ v. Stays o (with_read h v o) k) (sym e) kept
 
   stays_without : (o : Watch T) (k : Await J) → Stays o (record o { value = None }) k

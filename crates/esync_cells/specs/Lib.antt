@@ -13,3 +13,4 @@ pub mod Receivers
 pub mod ReceiversLaws
 pub mod WatchRules
 pub mod WatchLaws
+pub mod WatchNews

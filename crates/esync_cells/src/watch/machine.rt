@@ -9,6 +9,7 @@ ghost use Rattle.esync_machine.specs.Wakings.{IsHanded, polled as poll_handed, c
 ghost use Rattle.esync_cells.specs.Watch.{Answers, seen_after, polled, waiter_where_pending, counted};
 ghost use Rattle.esync_cells.specs.Receivers.{count, is_counted, is_free, seen_at, with_seen};
 ghost use Rattle.esync_cells.specs.WatchRules.{watch_rules, watch_wakings, watch_of, sought, marks, Polls, Calls, Joins, JoinsAnon, Leaves, TriesGet, Reads, Sends, Modifies, IsReceiving, answer_hands};
+ghost use Rattle.esync_cells.specs.WatchNews.{TellsOnce};
 
 use super::{Change, Exhausted, Judge, WatchState};
 use esync_base::waitqueue::{Context, Poll, Wakes};
@@ -528,7 +529,8 @@ pub type WatchReply<T, W, const K: usize> = Reply<Answer<WatchHeard<T>>, W, K>;
 ///
 /// Each answer is one that the latest value with its version, and what each receiver has seen, allow. No live request that last
 /// heard Pending would now be answered Ready, unless its waker was handed out in that poll or since. And no Pending poll that
-/// changes nothing hands out its own waker.
+/// changes nothing hands out its own waker. A change is told once: from a receiver's read of what changed on, until a send, its next
+/// ones find nothing.
 pub fn run_watch<
     T: Clone + Drop,
     W: Copy + Eq,
@@ -544,6 +546,7 @@ pub fn run_watch<
     commands: Vec<WatchCommand<T, W, C, J>>,
 ) -> Result<Vec<WatchReply<T, W, K>>, AllocError>
     ensures run { IfOk result (λ replies. GoodRun (requests_meaning (watch_rules N T.is_clone T.is_infallible C.changed C.tells J.passes) (watch_wakings W.eq N C.tells) W.eq K) (record { core = watch_of machine.old.state; requests = machine.old.requests }) machine.old.state.state.waiters commands.items replies.items (record { core = watch_of machine.new.state; requests = machine.new.requests }) machine.new.state.state.waiters) }
+    ensures news { IfOk result (λ replies. (h : ℕ) → TellsOnce h commands.items replies.items) }
     ensures refused { OnErr result (machine.new ≡ machine.old) }
 {
     run(alloc, machine, commands)

@@ -1,0 +1,226 @@
+-- A change is told once.
+use Rattle.std.proofs.Common.{◌≡◌, ℕ, ◌==◌, ◌&&◌, Bool, true, false, List, Option, Some, None, nat_lt, ◌⊎◌, inl, inr, refl, sym, ap, ◌∙◌, subst}
+use Rattle.std.specs.Prelude.{Result, Ok, Err, is_none, length, if◌then◌else◌}
+use Rattle.std.specs.declared.alloc.AllocError.{AllocError}
+use Rattle.esync_base.specs.ListedLaws.{same_number, equal_number, unequal_number, same_or_not}
+use Rattle.esync_machine.specs.AccountLaws.{of_any_kind, KeepsEach, keeps_each, IsTold, law_run}
+use Rattle.esync_machine.specs.Numbers.{at_number}
+use Rattle.esync_machine.specs.NumbersLaws.{there_of, at_set_here, at_set_other}
+use Rattle.esync_machine.specs.Runs.{GoodRun}
+use Rattle.esync_machine.specs.Object.{Object, Allows, requests_meaning}
+use Rattle.esync_machine.specs.ObjectLaws.{each_step}
+use Rattle.esync_machine.specs.Wakings.{Wakings}
+use Rattle.esync_machine.specs.declared.run.Reply.{Reply}
+use Rattle.esync_machine.specs.declared.primitive.Answer.{Answer}
+use Rattle.esync_machine.specs.declared.primitive.Answer.TheVariants.{NoSuch, Gives}
+use Rattle.esync_machine.specs.declared.primitive.Reach.TheVariants.{Number}
+use Rattle.esync_machine.specs.declared.primitive.Command.{Command}
+use Rattle.esync_machine.specs.declared.primitive.Command.TheVariants.{Start, Poll, End, Call}
+use Rattle.esync_cells.specs.Watch.{Answers, seen_after}
+use Rattle.esync_cells.specs.Receivers.{is_free, with_seen, with_seen_if}
+use Rattle.esync_cells.specs.ReceiversLaws.{at_marked}
+use Rattle.esync_cells.specs.WatchRules.{Watch, sought, marks, with_read, with_receiver, PollsAs, Calls, Joins, JoinsAnon, Leaves, Tried, Reads, reach, watch_rules}
+use Rattle.esync_cells.specs.WatchNews.{is_told, told_by, told_after, TellsNoMore, TellsOnce}
+use Rattle.esync_cells.specs.declared.watch.machine.Seen.{Seen}
+use Rattle.esync_cells.specs.declared.watch.machine.Reading.{Reading}
+use Rattle.esync_cells.specs.declared.watch.machine.Reading.TheVariants.{Get, Changed, GetAnd, ChangedAnd}
+use Rattle.esync_cells.specs.declared.watch.machine.Await.{Await}
+use Rattle.esync_cells.specs.declared.watch.machine.WatchCall.{WatchCall}
+use Rattle.esync_cells.specs.declared.watch.machine.WatchCall.TheVariants.{Receiver, Anon, Leave, Clear, Send, Modify, ModifyIf, TryGet, Read, Id, Contains}
+use Rattle.esync_cells.specs.declared.watch.machine.WatchHeard.{WatchHeard}
+use Rattle.esync_cells.specs.declared.watch.machine.WatchHeard.TheVariants.{Found}
+use Rattle.esync_cells.proofs.OnceSet.{nothing_here}
+use Rattle.esync_cells.proofs.WatchKept.{not_newer, seen_or_not, seen_same}
+
+not_both : (b : Bool) → (b && false) ≡ true → ⊥
+not_both true e = cc
+not_both false e = cc
+
+both_first : (a b : Bool) → (a && b) ≡ true → a ≡ true
+both_first true b e = refl
+both_first false b e = absurd cc
+
+both_second : (a b : Bool) → (a && b) ≡ true → b ≡ true
+both_second true b e = e
+both_second false b e = absurd cc
+
+-- a free number is another one than that of somebody
+free_elsewhere : (r h : ℕ) (q : List (Option Seen)) (s : Seen) → is_free r q ≡ true → at_number q h ≡ Some s → r ≡ h → ⊥
+free_elsewhere r h q s free there same =
+    let here : at_number q r ≡ Some s = ap (at_number q) same ∙ there in
+    not_both (nat_lt r (length q)) (subst (λ p. (nat_lt r (length q) && is_none p) ≡ true) here free)
+
+-- a read that marks a newer version leaves no newer one
+marked_newer : {T : Type 0} (b : Bool) (version seen : ℕ) (p : Option T) → nat_lt seen version ≡ b → nat_lt (seen_after {E = AllocError} b version seen (Ok p)) version ≡ false
+marked_newer b version seen (Some v) e = not_newer version
+marked_newer true version seen None e = not_newer version
+marked_newer false version seen None e = e
+
+told_seen : {T J : Type 0} (read : Reading J) (version seen : ℕ) (p : Option T) → is_told read p ≡ true → nat_lt (seen_after {E = AllocError} (marks version seen read) version seen (Ok p)) version ≡ false
+told_seen Get version seen p e = marked_always version seen p
+  where
+    marked_always : {T : Type 0} (version seen : ℕ) (p : Option T) → nat_lt (seen_after {E = AllocError} true version seen (Ok p)) version ≡ false
+    marked_always version seen (Some v) = not_newer version
+    marked_always version seen None = not_newer version
+told_seen Changed version seen p e = marked_newer (nat_lt seen version) version seen p refl
+told_seen (GetAnd judge) version seen (Some v) e = not_newer version
+told_seen (GetAnd judge) version seen None e = absurd cc
+told_seen (ChangedAnd judge) version seen (Some v) e = not_newer version
+told_seen (ChangedAnd judge) version seen None e = absurd cc
+
+seen_here : (q : List (Option Seen)) (r version : ℕ) (s : Seen) → at_number q r ≡ Some s → at_number (with_seen r version q) r ≡ Some (record s { version = version })
+seen_here q r version s there =
+    ap (λ p. at_number (with_seen_if r version p q) r) there ∙ at_set_here q r (Some s) (Some (record s { version = version })) (there_of q r s there)
+
+module _ {T : Type 0} (h : ℕ) where
+  -- the receiver at h, if it is told, has seen the latest version
+  abbrev IsThere : Watch T → Bool → Type 0
+  IsThere o false = Unit {0}
+  IsThere o true = (s : Seen) × (at_number o.receivers h ≡ Some s) × (nat_lt s.version o.version ≡ false)
+
+  still : (o o2 : Watch T) (k : Bool) → o2 ≡ o → IsThere o k → IsThere o2 k
+  still o o2 k e there = subst (λ x. IsThere x k) (sym e) there
+
+  elsewhere : (o o2 : Watch T) (r : ℕ) (p : Option Seen) (k : Bool) → ((s : Seen) → at_number o.receivers h ≡ Some s → r ≡ h → ⊥) → o2 ≡ with_receiver r p o → IsThere o k → IsThere o2 k
+  elsewhere o o2 r p false other e there = tt
+  elsewhere o o2 r p true other e there =
+      subst (λ x. IsThere x true) (sym e) (there.0, at_set_other o.receivers r h p (other there.0 there.1) ∙ there.1, there.2)
+
+  cleared : (o o2 : Watch T) (k : Bool) → o2 ≡ record o { value = None } → IsThere o k → IsThere o2 k
+  cleared o o2 false e there = tt
+  cleared o o2 true e there = subst (λ x. IsThere x true) (sym e) there
+
+  marked : (o : Watch T) (r : ℕ) (k : Bool) → IsThere o k → IsThere (with_read r o.version o) k
+  marked o r false there = tt
+  marked o r true there = elim (at_marked r o.version o.receivers h) [
+    | inl e ↦ (there.0, e ∙ there.1, there.2)
+    | inr m ↦ (record m.0 { version = o.version }, m.2, not_newer o.version)
+  ]
+
+  read_at : (o : Watch T) (r version : ℕ) (s : Seen) (k : Bool) → at_number o.receivers r ≡ Some s → (version ≡ o.version) ⊎ (version ≡ s.version) → IsThere o k → IsThere (with_read r version o) k
+  read_at o r version s k at (inl e) there = subst (λ v. IsThere (with_read r v o) k) (sym e) (marked o r k there)
+  read_at o r version s k at (inr e) there =
+      let same : with_read r s.version o ≡ o = ap (λ q. record o { receivers = q }) (seen_same o.receivers r s at) in
+      subst (λ v. IsThere (with_read r v o) k) (sym e) (still o (with_read r s.version o) k same there)
+
+  module _ {J : Type 0} (IsClone : T → T → Type 0) (IsInfallible : T → Type 0) (passes : J → T → Bool) where
+    polled_as : (o o2 : Watch T) (k : Bool) (held : Await J) (a : Answer (WatchHeard T)) (p : Option (Await J)) (got : Result (Option T) AllocError) → PollsAs IsClone IsInfallible passes got o held a o2 p → IsThere o k → IsThere o2 k
+    polled_as o o2 k held a p (Ok (Some v)) t there = still (with_read held.receiver o.version o) o2 k t.1 (marked o held.receiver k there)
+    polled_as o o2 k held a p (Ok None) t there = still o o2 k t.1 there
+    polled_as o o2 k held a p (Err e) t there = still o o2 k t.1 there
+
+    -- a read of the receiver at r that found this
+    module _ (o : Watch T) (k : Bool) (r : ℕ) (read : Reading J) (s : Seen) (at : at_number o.receivers r ≡ Some s) where
+      abbrev after_read : Option T → Watch T
+      after_read p = with_read r (seen_after {E = AllocError} (marks o.version s.version read) o.version s.version (Ok p)) o
+
+      told_here : (p : Option T) → r ≡ h → is_told read p ≡ true → IsThere (after_read p) true
+      told_here p same e =
+          let version : ℕ = seen_after {E = AllocError} (marks o.version s.version read) o.version s.version (Ok p) in
+          (record s { version = version }, subst (λ n. at_number (with_seen r version o.receivers) n ≡ Some (record s { version = version })) same (seen_here o.receivers r version s at), told_seen read o.version s.version p e)
+
+      found_as : (p : Option T) (b : Bool) → (r == h && is_told read p) ≡ b → IsThere o k → IsThere (after_read p) (if b then true else k)
+      found_as p true e there =
+          told_here p (same_number r h (both_first (r == h) (is_told read p) e)) (both_second (r == h) (is_told read p) e)
+      found_as p false e there =
+          read_at o r _ s k at (seen_or_not {E = AllocError} (marks o.version s.version read) o.version s.version (Ok p)) there
+
+    -- what is read for a newer version finds nothing
+    finds_none : (o o2 after : Watch T) (a : Answer (WatchHeard T)) (got : Result (Option T) AllocError) → Answers IsClone IsInfallible None got → Tried got o after a o2 → a ≡ Gives (Found None)
+    finds_none o o2 after a (Ok (Some v)) is t = absurd is
+    finds_none o o2 after a (Ok None) is t = t.0
+    finds_none o o2 after a (Err e) is t = absurd is
+
+    no_news : (o o2 : Watch T) (r : ℕ) (read : Reading J) (a : Answer (WatchHeard T)) → ((s : Seen) → nat_lt s.version o.version ≡ false → sought passes o.value o.version s.version read ≡ None) → Reads IsClone IsInfallible passes (at_number o.receivers r) r read o a o2 → IsThere o true → r ≡ h → a ≡ Gives (Found None)
+    no_news o o2 r read a hides t there same =
+        let at : at_number o.receivers r ≡ Some there.0 = ap (at_number o.receivers) same ∙ there.1 in
+        let t2 = subst (λ p. Reads IsClone IsInfallible passes p r read o a o2) at t in
+        finds_none o o2 _ a t2.0 (subst (λ x. Answers IsClone IsInfallible x t2.0) (hides there.0 there.2) t2.1) t2.2
+
+    module _ {C : Type 0} (n : ℕ) (changed : C → Option T → Option T) (tells : C → Option T → Bool) where
+      tried : (o o2 : Watch T) (k : Bool) (r : ℕ) (read : Reading J) (s : Seen) (a : Answer (WatchHeard T)) (got : Result (Option T) AllocError) → at_number o.receivers r ≡ Some s → Tried got o (with_read r (seen_after (marks o.version s.version read) o.version s.version got) o) a o2 → IsThere o k → IsThere o2 (told_by {C = C} h k (Read r read) a)
+      tried o o2 k r read s a (Ok p) at t there = rw t.0 (still (after_read o k r read s at p) o2 (if r == h && is_told read p then true else k) t.1 (found_as o k r read s at p (r == h && is_told read p) refl there))
+      tried o o2 k r read s a (Err e) at t there = rw t.0 (still o o2 k t.1 there)
+
+      reads : (o o2 : Watch T) (k : Bool) (r : ℕ) (read : Reading J) (p : Option Seen) (a : Answer (WatchHeard T)) → at_number o.receivers r ≡ p → Reads IsClone IsInfallible passes p r read o a o2 → IsThere o k → IsThere o2 (told_by {C = C} h k (Read r read) a)
+      reads o o2 k r read None a at t there = rw t.0 (still o o2 k t.1 there)
+      reads o o2 k r read (Some s) a at t there = tried o o2 k r read s a t.0 at t.2 there
+
+      joined : (free room : Bool) (o o2 : Watch T) (k : Bool) (r : ℕ) (a : Answer (WatchHeard T)) → is_free r o.receivers ≡ free → Joins free room r o a o2 → IsThere o k → IsThere o2 k
+      joined false room o o2 k r a free t there = still o o2 k t.1 there
+      joined true true o o2 k r a free t there = elsewhere o o2 r _ k (λ s at. free_elsewhere r h o.receivers s free at) t.1 there
+      joined true false o o2 k r a free t there = still o o2 k t.1 there
+
+      joined_anon : (free : Bool) (o o2 : Watch T) (k : Bool) (r : ℕ) (a : Answer (WatchHeard T)) → is_free r o.receivers ≡ free → JoinsAnon free r o a o2 → IsThere o k → IsThere o2 k
+      joined_anon false o o2 k r a free t there = still o o2 k t.1 there
+      joined_anon true o o2 k r a free t there = elsewhere o o2 r _ k (λ s at. free_elsewhere r h o.receivers s free at) t.1 there
+
+      left : (p : Option Seen) (o o2 : Watch T) (k : Bool) (r : ℕ) (a : Answer (WatchHeard T)) → Leaves p r o a o2 → IsThere o k → IsThere o2 (told_by {C = C} {J = J} h k (Leave r) a)
+      left None o o2 k r a t there = rw t.0 (still o o2 k t.1 there)
+      left (Some s) o o2 k r a t there = elim (same_or_not r h) [
+        | inl same ↦ rw (t.0, equal_number r h same) tt
+        | inr other ↦ rw (t.0, unequal_number r h other) (elsewhere o o2 r None k (λ s2 at. other) t.1 there)
+      ]
+
+      called : (o o2 : Watch T) (k : Bool) (call : WatchCall T C J) (a : Answer (WatchHeard T)) → Calls n IsClone IsInfallible changed tells passes o call a o2 → IsThere o k → IsThere o2 (told_by h k call a)
+      called o o2 k (Receiver r) a t there = joined (is_free r o.receivers) _ o o2 k r a refl t there
+      called o o2 k (Anon r) a t there = joined_anon (is_free r o.receivers) o o2 k r a refl t there
+      called o o2 k (Leave r) a t there = left (at_number o.receivers r) o o2 k r a t there
+      called o o2 k Clear a t there = cleared o o2 k t.1 there
+      called o o2 k (Send value) a (Ok done, e, put, back) there = rw e tt
+      called o o2 k (Send value) a (Err x, e, put, back) there = rw e (still o o2 k put.1 there)
+      called o o2 k (Modify change) a (Ok done, e, put) there = rw e tt
+      called o o2 k (Modify change) a (Err x, e, put) there = rw e (still o o2 k put.1 there)
+      called o o2 k (ModifyIf change) a (Ok done, e, put) there = rw e tt
+      called o o2 k (ModifyIf change) a (Err x, e, put) there = rw e (still o o2 k put.1 there)
+      called o o2 k TryGet a (Ok p, is, t) there = still o o2 k t.1 there
+      called o o2 k TryGet a (Err e, is, t) there = still o o2 k t.1 there
+      called o o2 k (Read r read) a t there = reads o o2 k r read (at_number o.receivers r) a refl t there
+      called o o2 k Id a t there = still o o2 k t.1 there
+      called o o2 k Contains a t there = still o o2 k t.1 there
+
+      not_at_a_number : (call : WatchCall T C J) (r : ℕ) → reach call ≡ Number r → ⊥
+      not_at_a_number (Leave x) r e = cc
+      not_at_a_number call r e = cc
+
+      module _ (W : Type 0) where
+        refused : (k : Bool) (c : Command (Await J) W (WatchCall T C J)) → told_after h k c NoSuch ≡ k
+        refused k (Start r ask) = refl
+        refused k (Poll r w) = refl
+        refused k (End r) = refl
+        refused k (Call (Leave r)) = refl
+        refused k (Call call) = refl
+
+        keeps : KeepsEach (watch_rules n IsClone IsInfallible changed tells passes) (λ c. Unit {0}) (told_after {W = W} h) IsThere (λ k r x. Unit {0})
+        keeps = record {
+          refused = refused;
+          starts = λ o k r ask x begins there. (there, tt);
+          polls = λ o o2 k r w x a p t there here. (polled_as o o2 k x a p t.0 t.2 there, nothing_here p);
+          ends = λ o o2 k r x e there here. still o o2 k e there;
+          calls = λ o o2 k call r p p2 a at t there here. absurd (not_at_a_number call r at);
+          alone = λ o o2 k call p a none t there. called o o2 k call a t.0 there;
+          others = λ k c a r x ne here. tt;
+        }
+
+        abbrev Told : Object (Watch T) (Await J) → Bool → Type 0
+        Told = IsTold (watch_rules n IsClone IsInfallible changed tells passes) (λ c. Unit {0}) (told_after {W = W} h) IsThere (λ k r x. Unit {0})
+
+        tells_no_more : (o o2 : Object (Watch T) (Await J)) (k : Bool) (c : Command (Await J) W (WatchCall T C J)) (a : Answer (WatchHeard T)) → Allows (watch_rules n IsClone IsInfallible changed tells passes) o c a o2 → Told o k → TellsNoMore h k c a
+        tells_no_more o o2 false c a allowed told = tt
+        tells_no_more o o2 true (Start r ask) a allowed told = tt
+        tells_no_more o o2 true (Poll r w) a allowed told = tt
+        tells_no_more o o2 true (End r) a allowed told = tt
+        tells_no_more o o2 true (Call (Read r Changed)) a allowed told =
+            no_news o.core allowed.0 r Changed a (λ s seen. rw seen refl) allowed.2.0 told.core
+        tells_no_more o o2 true (Call (Read r (ChangedAnd judge))) a allowed told =
+            no_news o.core allowed.0 r (ChangedAnd judge) a (λ s seen. rw seen refl) allowed.2.0 told.core
+        tells_no_more o o2 true (Call call) a allowed told = tt
+
+-- whatever wakers the watch hands out
+pub tells_once : {T C J W : Type 0} (n : ℕ) (IsClone : T → T → Type 0) (IsInfallible : T → Type 0) (changed : C → Option T → Option T) (tells : C → Option T → Bool) (passes : J → T → Bool) (H : Wakings (Watch T) (Await J) (WatchCall T C J) (WatchHeard T) W) (eq : W → W → Bool) (K h : ℕ) (o o2 : Object (Watch T) (Await J)) (g g2 : H.Registered) (cs : List (Command (Await J) W (WatchCall T C J))) (as' : List (Reply (Answer (WatchHeard T)) W K)) → GoodRun (requests_meaning (watch_rules n IsClone IsInfallible changed tells passes) H eq K) o g cs as' o2 g2 → TellsOnce h cs as'
+tells_once {T} {C} {J} {W} n IsClone IsInfallible changed tells passes H eq K h o o2 g g2 cs as' run =
+    let rules = watch_rules n IsClone IsInfallible changed tells passes in
+    law_run (requests_meaning rules H eq K) (λ c. Unit {0}) (λ k c a. told_after h k c a.answer) (Told h IsClone IsInfallible passes n changed tells W)
+    (λ o o2 k c a kind allowed. each_step rules (keeps_each rules (λ c. Unit {0}) (told_after h) (keeps h IsClone IsInfallible passes n changed tells W)) o o2 c a.answer allowed k kind)
+    (λ k c a. TellsNoMore h k c a.answer) (λ o o2 k c a kind allowed told. tells_no_more h IsClone IsInfallible passes n changed tells W o o2 k c a.answer allowed told)
+    o o2 g g2 false cs as' (of_any_kind cs) run (record { core = tt; here = λ r x e. tt })

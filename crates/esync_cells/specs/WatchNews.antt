@@ -1,0 +1,56 @@
+-- A change is told once: told of the commands and their answers alone.
+use Rattle.std.specs.Prelude.{◌≡◌, ℕ, ◌==◌, ◌&&◌, Bool, true, false, List, Option, None, Ok, is_some, if◌then◌else◌}
+use Rattle.esync_machine.specs.Account.{AtEach}
+use Rattle.esync_machine.specs.declared.run.Reply.{Reply}
+use Rattle.esync_machine.specs.declared.primitive.Answer.{Answer}
+use Rattle.esync_machine.specs.declared.primitive.Answer.TheVariants.{Done, Gives}
+use Rattle.esync_machine.specs.declared.primitive.Command.{Command}
+use Rattle.esync_machine.specs.declared.primitive.Command.TheVariants.{Start, Poll, End, Call}
+use Rattle.esync_cells.specs.declared.watch.machine.Reading.{Reading}
+use Rattle.esync_cells.specs.declared.watch.machine.Reading.TheVariants.{Get, Changed, GetAnd, ChangedAnd}
+use Rattle.esync_cells.specs.declared.watch.machine.Await.{Await}
+use Rattle.esync_cells.specs.declared.watch.machine.WatchCall.{WatchCall}
+use Rattle.esync_cells.specs.declared.watch.machine.WatchCall.TheVariants.{Leave, Send, Modify, ModifyIf, Read}
+use Rattle.esync_cells.specs.declared.watch.machine.WatchHeard.{WatchHeard}
+use Rattle.esync_cells.specs.declared.watch.machine.WatchHeard.TheVariants.{Sent, Modified, Found}
+
+-- whether a read that found this told its receiver of the latest change: one by a test doesn't where it finds nothing
+abbrev pub is_told : {T J : Type 0} → Reading J → Option T → Bool
+is_told Get p = true
+is_told Changed p = true
+is_told (GetAnd judge) p = is_some p
+is_told (ChangedAnd judge) p = is_some p
+
+module _ {T C J : Type 0} where
+  -- whether the receiver at h was told of the latest change, after a call and its answer
+  abbrev pub told_by : ℕ → Bool → WatchCall T C J → Answer (WatchHeard T) → Bool
+  told_by h k (Read r read) (Gives (Found p)) = if r == h && is_told read p then true else k
+  told_by h k (Leave r) Done = if r == h then false else k
+  told_by h k (Send value) (Gives (Sent (Ok done))) = false
+  told_by h k (Modify change) (Gives (Modified (Ok done))) = false
+  told_by h k (ModifyIf change) (Gives (Modified (Ok done))) = false
+  told_by h k _ _ = k
+
+  abbrev pub told_after : {W : Type 0} → ℕ → Bool → Command (Await J) W (WatchCall T C J) → Answer (WatchHeard T) → Bool
+  told_after h k (Start r ask) a = k
+  told_after h k (Poll r w) a = k
+  told_after h k (End r) a = k
+  told_after h k (Call call) a = told_by h k call a
+
+  -- what a call is answered while that receiver is told: its reads for a newer version find nothing
+  abbrev pub HasNoNews : ℕ → WatchCall T C J → Answer (WatchHeard T) → Type 0
+  HasNoNews h (Read r Changed) a = r ≡ h → a ≡ Gives (Found None)
+  HasNoNews h (Read r (ChangedAnd judge)) a = r ≡ h → a ≡ Gives (Found None)
+  HasNoNews h call a = Unit {0}
+
+  -- and what any command is answered then
+  abbrev pub TellsNoMore : {W : Type 0} → ℕ → Bool → Command (Await J) W (WatchCall T C J) → Answer (WatchHeard T) → Type 0
+  TellsNoMore h false c a = Unit {0}
+  TellsNoMore h true (Start r ask) a = Unit {0}
+  TellsNoMore h true (Poll r w) a = Unit {0}
+  TellsNoMore h true (End r) a = Unit {0}
+  TellsNoMore h true (Call call) a = HasNoNews h call a
+
+  -- at each command of a run: from a read of the receiver at h on, until a send, it finds no news
+  abbrev pub TellsOnce : {W : Type 0} {K : ℕ} → ℕ → List (Command (Await J) W (WatchCall T C J)) → List (Reply (Answer (WatchHeard T)) W K) → Type 0
+  TellsOnce h commands replies = AtEach (λ k c a. told_after h k c a.answer) (λ k c a. TellsNoMore h k c a.answer) false commands replies
