@@ -2,7 +2,6 @@
 ghost use Rattle.std.specs.Prelude.{◌≡◌, ◌<◌, ◌≤◌, ℕ, [], IfOk, IfErr, length};
 ghost use Rattle.std.proofs.Math.ListN.{replicate};
 ghost use Rattle.esync_base.specs.Keeping.{BoundedList};
-ghost use Rattle.esync_cells.specs.Watch.{fresh};
 ghost use Rattle.esync_priority.specs.Prio.{Bag};
 ghost use Rattle.esync_script.specs.Opening.{places, capacity, opening, new_object, nobody_waits, no_slot, an_empty_pipe, not_made, a_free_lock, a_new_watch, a_new_topic, no_lists, zero_slots, no_side_waits, Plays, PlaysMessages, PlaysFair, PlaysPipe, PlaysSlots, PlaysWatch, PlaysPubSub, PlaysScript};
 ghost use Rattle.esync_words.specs.Commands.{says, command};
@@ -28,7 +27,6 @@ use esync_cells::once_lock::OnceState;
 use esync_cells::once_lock::machine::OnceRun;
 use esync_cells::signal::SignalState;
 use esync_cells::signal::machine::SignalRun;
-use esync_cells::watch::WatchState;
 use esync_cells::watch::machine::{WatchRun, Watched};
 use esync_channel::channel::Mailbox;
 use esync_guards::mutex::Second;
@@ -239,23 +237,16 @@ fn mutex(value: u32, part: u32) -> MutexRun<(u32, u32), u32, Second, u64, REQS, 
     Requests::new(Guarded::new((value, part), Second {}))
 }
 
-// A watch in which nobody was counted, with this value, if there is one.
-fn watch_state<const N: usize>(value: Option<u32>) -> WatchState<u32, u64, N>
-    ensures { result ≡ fresh value 0 }
-{
-    match value {
-        Some(value) => WatchState::new_with(value),
-        None => WatchState::new(),
-    }
-}
-
-// The same as a machine, with no receiver and no request.
+// A watch with this value, if there is one, with no receiver and no request.
 fn watch<const N: usize>(value: Option<u32>) -> WatchRun<u32, u64, Adds, Below, N, REQS, REQS, N>
     requires { 1 ≤ N }
     ensures object { ⟦<WatchRun<u32, u64, Adds, Below, N, REQS, REQS, N> as Machine>⟧.semantics.object result ≡ new_object (a_new_watch value) }
     ensures registrations { ⟦<WatchRun<u32, u64, Adds, Below, N, REQS, REQS, N> as Machine>⟧.semantics.registrations result ≡ [] }
 {
-    Requests::new(Watched::new(watch_state(value)))
+    match value {
+        Some(value) => Requests::new(Watched::new_with(value)),
+        None => Requests::new(Watched::new()),
+    }
 }
 
 // So many slots of value 0.

@@ -1,12 +1,12 @@
 //! The watch as a machine that takes commands.
-ghost use Rattle.std.specs.Prelude.{◌≡◌, ℕ, ◌+◌, ◌<◌, ◌≤◌, ◌++◌, List, Option, slice_set, [], None, true, false, length, nat_lt, max, IfOk, OnErr};
+ghost use Rattle.std.specs.Prelude.{◌≡◌, ℕ, ◌+◌, ◌<◌, ◌≤◌, ◌++◌, List, Option, slice_set, [], None, Some, true, false, length, nat_lt, max, IfOk, OnErr};
 ghost use Rattle.std.proofs.Math.ListN.{replicate};
 ghost use Rattle.esync_base.specs.Registration.{registered_if, displaced_if};
 ghost use Rattle.esync_machine.specs.Numbers.{at_number};
 ghost use Rattle.esync_machine.specs.Object.{requests_meaning};
 ghost use Rattle.esync_machine.specs.Runs.{GoodRun};
 ghost use Rattle.esync_machine.specs.Wakings.{IsHanded, polled as poll_handed, called};
-ghost use Rattle.esync_cells.specs.Watch.{Answers, seen_after, polled, waiter_where_pending, counted};
+ghost use Rattle.esync_cells.specs.Watch.{fresh, Answers, seen_after, polled, waiter_where_pending, counted};
 ghost use Rattle.esync_cells.specs.Receivers.{count, is_counted, is_free, seen_at, with_seen};
 ghost use Rattle.esync_cells.specs.WatchRules.{watch_rules, watch_wakings, watch_of, sought, marks, Polls, Calls, Joins, JoinsAnon, Leaves, TriesGet, Reads, Sends, Modifies, IsReceiving, answer_hands};
 ghost use Rattle.esync_cells.specs.WatchNews.{TellsOnce};
@@ -204,8 +204,33 @@ impl<
     {
         h < NAMES && self.receivers.get(h).is_none()
     }
-    /// A watch without receivers, in this state, in which nobody is counted.
-    pub fn new(state: WatchState<T, W, N>) -> Self
+
+    /// A watch without receivers and without a value, at version 0.
+    pub fn new() -> Self
+        ensures state { result.state ≡ fresh None 0 }
+        ensures receivers { result.receivers ≡ replicate NAMES None }
+    {
+        Watched::with_state(WatchState::new())
+    }
+
+    /// A watch without receivers, with this value, at version 0: nobody has news of it.
+    pub fn new_with(value: T) -> Self
+        ensures state { result.state ≡ fresh (Some value) 0 }
+        ensures receivers { result.receivers ≡ replicate NAMES None }
+    {
+        Watched::with_state(WatchState::new_with(value))
+    }
+
+    /// A watch without receivers and without a value, at this version.
+    pub fn new_at(version: u64) -> Self
+        ensures state { result.state ≡ fresh None version }
+        ensures receivers { result.receivers ≡ replicate NAMES None }
+    {
+        Watched::with_state(WatchState::new_at(version))
+    }
+
+    // A watch without receivers, in this state, in which nobody is counted.
+    fn with_state(state: WatchState<T, W, N>) -> Self
         requires { state.receivers ≡ 0 }
         ensures state { result.state ≡ state }
         ensures receivers { result.receivers ≡ replicate NAMES None }
