@@ -3,6 +3,7 @@ ghost use Rattle.std.specs.Prelude.{◌≡◌, ℕ, Bool, Option, ◌+◌, ◌-�
 ghost use Rattle.esync_base.specs.Registration.{registered_if, displaced_if};
 ghost use Rattle.esync_cells.specs.Watch.{fresh, judged, found, Answers, seen_after, polled, waiter_where_pending, last_version, sent, woken_by, sent_if, woken_if, counted};
 
+use esync_base::kept::Kept;
 use esync_base::waitqueue::{Context, MultiWakerRegistration, Poll, Wakes};
 pub use handles::{
     AnonRcv, AnonReceiver, Changed, ChangedAnd, DynAnonReceiver, DynReceiver, DynSender, Get,
@@ -70,6 +71,17 @@ impl<T, W, const N: usize> Model for WatchState<T, W, N> {
     ghost view = { λ a. record { value = a.value; version = a.version; receivers = a.receivers; waiters = a.waiters } };
 
     ghost invariant = { λ a. a.receivers ≤ N };
+}
+
+impl<T: Copy, W: Copy, const N: usize> Kept for WatchState<T, W, N> {
+    fn kept(&self) -> Result<Self, AllocError> {
+        Ok(WatchState {
+            value: self.value,
+            version: self.version,
+            waiters: self.waiters.kept()?,
+            receivers: self.receivers,
+        })
+    }
 }
 
 impl<T: Drop, W: Copy + Eq, const N: usize> WatchState<T, W, N> {

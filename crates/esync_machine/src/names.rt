@@ -3,6 +3,8 @@ ghost use Rattle.std.specs.Prelude.{◌≡◌, ◌<◌, None, slice_set};
 ghost use Rattle.std.proofs.Math.ListN.{replicate};
 ghost use Rattle.esync_machine.specs.Numbers.{at_number};
 
+use esync_base::kept::Kept;
+use std::alloc::AllocError;
 use std::marker::Model;
 
 // What stands at each number.
@@ -10,6 +12,20 @@ use std::marker::Model;
 struct Row<A, const N: usize> {
     places: [Option<A>; N],
 }
+
+impl<A: Copy, const N: usize> Clone for Row<A, N> {
+    ghost use Rattle.std.specs.Prelude.{◌≡◌};
+
+    ghost is_clone = { λ s r. r ≡ s };
+
+    ghost is_infallible = { λ _. Unit {0} };
+
+    fn clone(&self) -> Result<Self, AllocError> {
+        Ok(*self)
+    }
+}
+
+impl<A: Copy, const N: usize> Copy for Row<A, N> {}
 
 impl<A: Copy, const N: usize> Row<A, N> {
     fn new() -> Self
@@ -52,6 +68,12 @@ impl<A, const N: usize> Model for Names<A, N> {
     ghost view = { λ a. a.row.places };
 
     ghost invariant = { λ a. length a.row.places ≡ N };
+}
+
+impl<A: Copy, const N: usize> Kept for Names<A, N> {
+    fn kept(&self) -> Result<Self, AllocError> {
+        Ok(Names { row: self.row })
+    }
 }
 
 impl<A: Copy, const N: usize> Names<A, N> {

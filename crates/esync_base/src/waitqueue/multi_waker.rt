@@ -3,6 +3,8 @@ ghost use Rattle.std.specs.Prelude.{◌≡◌, ◌+◌, ◌≤◌, ◌++◌, [],
 ghost use Rattle.esync_base.specs.Registration.{among, registered, displaced};
 
 use super::Wakes;
+use crate::kept::Kept;
+use std::alloc::AllocError;
 use std::marker::Model;
 
 /// The wakers of at most `N` tasks, no two of them equal, in the order in which they were registered.
@@ -19,6 +21,14 @@ impl<W, const N: usize> Model for MultiWakerRegistration<W, N> {
     ghost view = { λ a. a.wakers };
 
     ghost inverse = { λ w. record { wakers = w } };
+}
+
+impl<W: Copy, const N: usize> Kept for MultiWakerRegistration<W, N> {
+    fn kept(&self) -> Result<Self, AllocError> {
+        Ok(MultiWakerRegistration {
+            wakers: self.wakers,
+        })
+    }
 }
 
 impl<W: Copy + Eq, const N: usize> MultiWakerRegistration<W, N> {

@@ -12,6 +12,7 @@ ghost use Rattle.esync_cells.specs.WatchRules.{watch_rules, watch_wakings, watch
 ghost use Rattle.esync_cells.specs.WatchNews.{TellsOnce};
 
 use super::{Change, Exhausted, Judge, WatchState};
+use esync_base::kept::Kept;
 use esync_base::waitqueue::{Context, Poll, Wakes};
 use esync_machine::names::Names;
 use esync_machine::primitive::{Answer, Command, Primitive, Reach, Turn};
@@ -164,6 +165,18 @@ impl<T, W, C, J, const N: usize, const NAMES: usize> Model for Watched<T, W, C, 
     ghost view = { λ a. record { state = a.state; receivers = a.receivers } };
 
     ghost invariant = { λ a. IsCounted NAMES a.state.receivers a.receivers };
+}
+
+impl<T: Copy, W: Copy, C: Drop, J: Drop, const N: usize, const NAMES: usize> Kept
+    for Watched<T, W, C, J, N, NAMES> {
+    fn kept(&self) -> Result<Self, AllocError> {
+        Ok(Watched {
+            state: self.state.kept()?,
+            receivers: self.receivers.kept()?,
+            change: PhantomData,
+            judge: PhantomData,
+        })
+    }
 }
 
 impl<
