@@ -1,8 +1,8 @@
 //! A watch that tasks on several threads share by reference.
-ghost use Rattle.std.specs.Prelude.{◌≡◌, ℕ, ◌<◌, ◌≤◌, ◌++◌, [], Option, Some, None, is_some, nat_lt, true, false, length, OnOk, OnErr, IfErr, IfSome};
+ghost use Rattle.std.specs.Prelude.{◌≡◌, ℕ, ◌-◌, ◌<◌, ◌≤◌, ◌++◌, [], Option, Some, None, is_some, nat_lt, true, false, length, OnOk, OnErr, IfErr, IfSome};
 ghost use Rattle.std.specs.Fn.{FnReturnsAt};
 ghost use Rattle.esync_base.specs.Registration.{registered_if, displaced_if};
-ghost use Rattle.esync_cells.specs.Watch.{fresh, found, Answers, seen_after, polled, waiter_where_pending, last_version, sent, woken_by, sent_if, woken_if};
+ghost use Rattle.esync_cells.specs.Watch.{fresh, found, Answers, seen_after, polled, waiter_where_pending, last_version, sent, woken_by, sent_if, woken_if, counted};
 ghost use Rattle.esync_cells.specs.Watched.{Tells, Always, WhereNewer, WherePassing, WhereNewPassing, ReadsSome};
 
 use super::{
@@ -45,18 +45,21 @@ pub trait WatchValue<const K: usize>: Drop {
     fn get_msg_id(&self) -> u64
         ensures { result ≡ (watching self.now).version };
 
-    /// Counts one more receiver, and answers true, if there is room for one.
+    /// Counts one more receiver, and answers true, or answers false where as many are counted as there is room for.
     fn add_receiver(&mut self) -> bool
-        ensures place { result ≡ true → 1 ≤ places };
+        ensures answer { result ≡ nat_lt (watching self.old).receivers places }
+        ensures state { watching self.new ≡ record (watching self.old) { receivers = counted result (watching self.old).receivers } };
 
     /// Counts one receiver less, where there is one.
-    fn drop_receiver(&mut self);
+    fn drop_receiver(&mut self)
+        ensures { watching self.new ≡ record (watching self.old) { receivers = (watching self.old).receivers - 1 } };
 
     /// Drops the value.
     fn clear(&mut self)
         ensures { watching self.new ≡ record (watching self.old) { value = None } };
 
-    /// Puts a value under the next version, and wakes who waits.
+    /// Puts a value under the next version, and wakes who waits. Where versions have run out the value comes back, and nothing is
+    /// changed.
     fn send(
         &mut self,
         value: Self::Value,
@@ -64,10 +67,14 @@ pub trait WatchValue<const K: usize>: Drop {
     ) -> Result<(), Exhausted<Self::Value>>
         requires empty { wakes.old ≡ [] }
         requires room { places ≤ K }
+        ensures room { OnOk result ((watching self.old).version < last_version) }
+        ensures exhausted { OnErr result ((watching self.old).version ≡ last_version) }
         ensures returned { IfErr result (λ back. back.0 ≡ value) }
-        ensures state { watching self.new ≡ sent (watching self.old) (Some value) result };
+        ensures state { watching self.new ≡ sent (watching self.old) (Some value) result }
+        ensures wakes { wakes.new ≡ woken_by result (watching self.old).waiters };
 
-    /// Changes the value under the next version, and wakes who waits.
+    /// Changes the value under the next version, and wakes who waits. Where versions have run out the change isn't called, and nothing
+    /// is changed.
     fn send_modify<C: Change<Self::Value>>(
         &mut self,
         change: &C,
@@ -75,9 +82,13 @@ pub trait WatchValue<const K: usize>: Drop {
     ) -> Result<(), Exhausted<()>>
         requires empty { wakes.old ≡ [] }
         requires room { places ≤ K }
-        ensures state { watching self.new ≡ sent (watching self.old) (C.changed change.now (watching self.old).value) result };
+        ensures room { OnOk result ((watching self.old).version < last_version) }
+        ensures exhausted { OnErr result ((watching self.old).version ≡ last_version) }
+        ensures state { watching self.new ≡ sent (watching self.old) (C.changed change.now (watching self.old).value) result }
+        ensures wakes { wakes.new ≡ woken_by result (watching self.old).waiters };
 
-    /// Changes the value. Where the change answers that there is another value, it is sent.
+    /// Changes the value. Where the change answers that there is another value, it stands under the next version, and who waits is
+    /// woken. Where versions have run out the change isn't called, and nothing is changed.
     fn send_if_modified<C: Change<Self::Value>>(
         &mut self,
         change: &C,
@@ -85,7 +96,10 @@ pub trait WatchValue<const K: usize>: Drop {
     ) -> Result<(), Exhausted<()>>
         requires empty { wakes.old ≡ [] }
         requires room { places ≤ K }
-        ensures state { watching self.new ≡ sent_if (watching self.old) (C.changed change.now (watching self.old).value) (C.tells change.now (watching self.old).value) result };
+        ensures room { OnOk result ((watching self.old).version < last_version) }
+        ensures exhausted { OnErr result ((watching self.old).version ≡ last_version) }
+        ensures state { watching self.new ≡ sent_if (watching self.old) (C.changed change.now (watching self.old).value) (C.tells change.now (watching self.old).value) result }
+        ensures wakes { wakes.new ≡ woken_if (C.tells change.now (watching self.old).value) result (watching self.old).waiters };
 
     /// A read of the value, if it is to be shown. It may mark the version as seen even where it finds nothing.
     fn read(
