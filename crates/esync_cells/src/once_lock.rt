@@ -9,15 +9,19 @@ ghost use Rattle.esync_cells.specs.contracts.once_lock.OnceState.{the_row};
 
 use esync_base::waitqueue::{Context, Poll, Wakes};
 pub use shared::{OnceGet, OnceLock};
+use std::fmt::Debug;
 use std::marker::{Model, PhantomData};
+use thiserror::Error;
 
 pub mod machine;
 mod shared;
 
 /// Why a value was not set. It comes back.
-#[derive(Clone, Copy, Debug, PartialEq, Eq)]
+#[derive(Clone, Copy, Debug, PartialEq, Eq, Error)]
+#[error_bound(T: Debug)]
 pub enum InitError<T> {
     /// There is a value.
+    #[error("there is a value")]
     Set(T),
 }
 

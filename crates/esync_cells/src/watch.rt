@@ -11,14 +11,18 @@ pub use handles::{
 };
 pub use shared::{SharedWatch, Watch, WatchBehavior, WatchValue};
 use std::alloc::AllocError;
+use std::fmt::Debug;
 use std::marker::Model;
+use thiserror::Error;
 
 mod handles;
 pub mod machine;
 mod shared;
 
 /// Versions have run out: nothing was sent, and what was to be sent comes back. Of a change that is `()`.
-#[derive(Clone, Copy, Debug, PartialEq, Eq, Drop)]
+#[derive(Clone, Copy, Debug, PartialEq, Eq, Drop, Error)]
+#[error_bound(T: Debug)]
+#[error("the versions have run out")]
 pub struct Exhausted<T>(pub T);
 
 /// A change of a watch's value, with a stated meaning.
