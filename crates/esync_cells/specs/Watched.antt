@@ -1,5 +1,6 @@
 -- What a read of a shared watch finds, whatever the watch is when the lock is taken.
-use Rattle.std.specs.Prelude.{◌≡◌, ℕ, Bool, true, false, Option, Some, None, Result, nat_lt}
+use Rattle.std.specs.Prelude.{◌≡◌, ℕ, Bool, true, false, Option, Some, None, Result, nat_lt, refl}
+use Rattle.std.specs.Coded.{Coded, code_by, coded×, coded_ℕ}
 use Rattle.esync_cells.specs.Watch.{found, Answers, seen_after}
 
 -- what a test may answer of what is there: it isn't asked where nothing is
@@ -33,3 +34,15 @@ abbrev pub ReadsSome : {T E : Type 0} → (T → T → Type 0) → (T → Type 0
 ReadsSome {T} IsClone IsInfallible Shows marks seen result after =
     (value : Option T) × (version : ℕ) × (shows : Bool)
     × Shows value version shows × Answers IsClone IsInfallible (found shows value) result × (after ≡ seen_after (marks version) version seen result)
+
+-- who reads a watch: the version that it has seen
+pub record Reader : Type 0 where
+  pub seen : ℕ
+
+-- the same of who reads what passes a test
+pub record Judging (F : Type 0) : Type 0 where
+  pub test : F
+  pub seen : ℕ
+
+abbrev pub judging_code : {F : Type 0} → Coded F → Coded (Judging F)
+judging_code {F} f = code_by (F × ℕ) (coded× f coded_ℕ) (λ r. (r.test, r.seen)) (λ p. record { test = p.0; seen = p.1 }) (λ _. refl)

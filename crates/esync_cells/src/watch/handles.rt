@@ -7,6 +7,7 @@ ghost use Rattle.esync_cells.specs.Watched.{Always, WhereNewer, WherePassing, Wh
 use super::{Change, Exhausted, Watch, WatchBehavior};
 use esync_base::waitqueue::{Context, Poll};
 use std::alloc::AllocError;
+use std::marker::Model;
 
 /// A sender of a watch with at most `N` receivers.
 pub type Sender<'a, T, W, H, const N: usize, const K: usize> = Snd<'a, Watch<T, W, H, N, K>>;
@@ -118,7 +119,17 @@ pub type DynReceiver<'a, B> = Rcv<'a, B>;
 pub struct Rcv<'a, B: WatchBehavior> {
     watch: &'a B,
     seen: u64,
-    ghost place: { 1 ≤ B.places },
+}
+
+impl<'a, B: WatchBehavior> Model for Rcv<'a, B> {
+    ghost use Rattle.std.specs.Prelude.{◌≤◌};
+    ghost use Rattle.esync_cells.specs.Watched.{Reader};
+
+    ghost Value = { Reader };
+
+    ghost view = { λ a. record { seen = a.seen } };
+
+    ghost invariant = { λ a. 1 ≤ B.places };
 }
 
 impl<'a, B: WatchBehavior> Drop for Rcv<'a, B> {
@@ -146,7 +157,7 @@ impl<'a, B: WatchBehavior> Rcv<'a, B> {
 
     /// The value, when there is one.
     pub fn get<'s>(&'s mut self) -> Get<'s, 'a, B>
-        ensures { result.receiver.now.seen ≡ self.old.seen }
+        ensures { result.seen ≡ self.old.seen }
     {
         Get { receiver: self }
     }
@@ -154,7 +165,7 @@ impl<'a, B: WatchBehavior> Rcv<'a, B> {
     /// The value, when there is one that passes the test.
     pub fn get_and<'s, F: Fn(&B::Value) -> bool>(&'s mut self, test: F) -> GetAnd<'s, 'a, B, F>
         ensures test { result.test ≡ test }
-        ensures seen { result.receiver.now.seen ≡ self.old.seen }
+        ensures seen { result.seen ≡ self.old.seen }
     {
         GetAnd {
             receiver: self,
@@ -164,7 +175,7 @@ impl<'a, B: WatchBehavior> Rcv<'a, B> {
 
     /// The value, when its version is newer than the one that was seen.
     pub fn changed<'s>(&'s mut self) -> Changed<'s, 'a, B>
-        ensures { result.receiver.now.seen ≡ self.old.seen }
+        ensures { result.seen ≡ self.old.seen }
     {
         Changed { receiver: self }
     }
@@ -175,7 +186,7 @@ impl<'a, B: WatchBehavior> Rcv<'a, B> {
         test: F,
     ) -> ChangedAnd<'s, 'a, B, F>
         ensures test { result.test ≡ test }
-        ensures seen { result.receiver.now.seen ≡ self.old.seen }
+        ensures seen { result.seen ≡ self.old.seen }
     {
         ChangedAnd {
             receiver: self,
@@ -259,6 +270,14 @@ pub struct AnonRcv<'a, B> {
     seen: u64,
 }
 
+impl<'a, B> Model for AnonRcv<'a, B> {
+    ghost use Rattle.esync_cells.specs.Watched.{Reader};
+
+    ghost Value = { Reader };
+
+    ghost view = { λ a. record { seen = a.seen } };
+}
+
 impl<'a, B: WatchBehavior> AnonRcv<'a, B> {
     pub(crate) fn new(watch: &'a B) -> Self
         ensures { result.seen ≡ 0 }
@@ -339,6 +358,14 @@ pub struct Get<'s, 'a, B: WatchBehavior> {
     receiver: &'s mut Rcv<'a, B>,
 }
 
+impl<'s, 'a, B: WatchBehavior> Model for Get<'s, 'a, B> {
+    ghost use Rattle.esync_cells.specs.Watched.{Reader};
+
+    ghost Value = { Reader };
+
+    ghost view = { λ a. a.receiver.now };
+}
+
 impl<'s, 'a, B: WatchBehavior> Get<'s, 'a, B> {
     /// A clone of the value, whose version is marked as seen. Where there is none, the context's waker waits for one.
     ///
@@ -346,7 +373,7 @@ impl<'s, 'a, B: WatchBehavior> Get<'s, 'a, B> {
     ///
     /// Where a clone has no memory the seen version stays, and nobody is registered.
     pub fn poll(&mut self, cx: &Context<B::Waker>) -> Result<Poll<B::Value>, AllocError>
-        ensures { ReadsSome B.Value.is_clone B.Value.is_infallible Always (λ v. false) self.old.receiver.now.seen (polled result) self.new.receiver.now.seen }
+        ensures { ReadsSome B.Value.is_clone B.Value.is_infallible Always (λ v. false) self.old.seen (polled result) self.new.seen }
     {
         let receiver = &mut *self.receiver;
         receiver.watch.poll_get(&mut receiver.seen, cx)
@@ -360,6 +387,16 @@ pub struct GetAnd<'s, 'a, B: WatchBehavior, F> {
     test: F,
 }
 
+impl<'s, 'a, B: WatchBehavior, F> Model for GetAnd<'s, 'a, B, F> {
+    ghost use Rattle.esync_cells.specs.Watched.{Judging, judging_code};
+
+    ghost Value = { Judging F };
+
+    ghost coded = { judging_code F.code };
+
+    ghost view = { λ a. record { test = a.test; seen = a.receiver.now.seen } };
+}
+
 impl<'s, 'a, B: WatchBehavior, F: Fn(&B::Value) -> bool> GetAnd<'s, 'a, B, F> {
     /// A clone of the value that passes the test, whose version is marked as seen. Where there is none, the context's waker waits for
     /// one.
@@ -370,7 +407,7 @@ impl<'s, 'a, B: WatchBehavior, F: Fn(&B::Value) -> bool> GetAnd<'s, 'a, B, F> {
     pub fn poll(&mut self, cx: &Context<B::Waker>) -> Result<Poll<B::Value>, AllocError>
         requires { F.IsAlwaysCallable self.old.test }
         ensures test { self.new.test ≡ self.old.test }
-        ensures read { ReadsSome B.Value.is_clone B.Value.is_infallible (WherePassing (FnReturnsAt F.Fn self.old.test)) (λ v. false) self.old.receiver.now.seen (polled result) self.new.receiver.now.seen }
+        ensures read { ReadsSome B.Value.is_clone B.Value.is_infallible (WherePassing (FnReturnsAt F.Fn self.old.test)) (λ v. false) self.old.seen (polled result) self.new.seen }
     {
         let test = &self.test;
         let receiver = &mut *self.receiver;
@@ -384,6 +421,14 @@ pub struct Changed<'s, 'a, B: WatchBehavior> {
     receiver: &'s mut Rcv<'a, B>,
 }
 
+impl<'s, 'a, B: WatchBehavior> Model for Changed<'s, 'a, B> {
+    ghost use Rattle.esync_cells.specs.Watched.{Reader};
+
+    ghost Value = { Reader };
+
+    ghost view = { λ a. a.receiver.now };
+}
+
 impl<'s, 'a, B: WatchBehavior> Changed<'s, 'a, B> {
     /// A clone of the value, if its version is newer than the one that was seen, and marks it. Elsewhere the context's waker waits for
     /// one.
@@ -392,7 +437,7 @@ impl<'s, 'a, B: WatchBehavior> Changed<'s, 'a, B> {
     ///
     /// Where a clone has no memory the seen version stays, and nobody is registered.
     pub fn poll(&mut self, cx: &Context<B::Waker>) -> Result<Poll<B::Value>, AllocError>
-        ensures { ReadsSome B.Value.is_clone B.Value.is_infallible (WhereNewer self.old.receiver.now.seen) (λ v. false) self.old.receiver.now.seen (polled result) self.new.receiver.now.seen }
+        ensures { ReadsSome B.Value.is_clone B.Value.is_infallible (WhereNewer self.old.seen) (λ v. false) self.old.seen (polled result) self.new.seen }
     {
         let receiver = &mut *self.receiver;
         receiver.watch.poll_changed(&mut receiver.seen, cx)
@@ -406,6 +451,16 @@ pub struct ChangedAnd<'s, 'a, B: WatchBehavior, F> {
     test: F,
 }
 
+impl<'s, 'a, B: WatchBehavior, F> Model for ChangedAnd<'s, 'a, B, F> {
+    ghost use Rattle.esync_cells.specs.Watched.{Judging, judging_code};
+
+    ghost Value = { Judging F };
+
+    ghost coded = { judging_code F.code };
+
+    ghost view = { λ a. record { test = a.test; seen = a.receiver.now.seen } };
+}
+
 impl<'s, 'a, B: WatchBehavior, F: Fn(&B::Value) -> bool> ChangedAnd<'s, 'a, B, F> {
     /// A clone of the value, if it passes the test and its version is newer than the one that was seen, and marks it. Elsewhere the
     /// context's waker waits for one.
@@ -416,7 +471,7 @@ impl<'s, 'a, B: WatchBehavior, F: Fn(&B::Value) -> bool> ChangedAnd<'s, 'a, B, F
     pub fn poll(&mut self, cx: &Context<B::Waker>) -> Result<Poll<B::Value>, AllocError>
         requires { F.IsAlwaysCallable self.old.test }
         ensures test { self.new.test ≡ self.old.test }
-        ensures read { ReadsSome B.Value.is_clone B.Value.is_infallible (WhereNewPassing (FnReturnsAt F.Fn self.old.test) self.old.receiver.now.seen) (λ v. false) self.old.receiver.now.seen (polled result) self.new.receiver.now.seen }
+        ensures read { ReadsSome B.Value.is_clone B.Value.is_infallible (WhereNewPassing (FnReturnsAt F.Fn self.old.test) self.old.seen) (λ v. false) self.old.seen (polled result) self.new.seen }
     {
         let test = &self.test;
         let receiver = &mut *self.receiver;
