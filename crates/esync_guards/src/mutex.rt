@@ -5,7 +5,7 @@ ghost use Rattle.esync_guards.specs.Mutex.{tried, polled, waiter_where_held};
 
 use esync_base::waitqueue::{Context, Poll, WakerRegistration, Wakes};
 pub use projection::{Projection, Second, Then, put_part};
-pub use shared::{LockFuture, MappedMutexGuard, Mutex, MutexGuard};
+pub use shared::{Guard, LockFuture, MappedGuard, MappedMutexGuard, Mutex, MutexGuard, Unlocks};
 use std::marker::Model;
 use thiserror::Error;
 

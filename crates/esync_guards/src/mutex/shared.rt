@@ -4,25 +4,12 @@ ghost use Rattle.esync_base.specs.Registration.{registered_if};
 ghost use Rattle.esync_guards.specs.Mutex.{Wins, waiter_where_held, wakes_of_turn};
 
 use super::{MutexState, Projection, Then, TryLockError};
+use esync_base::place::{Holds, Place};
 use esync_base::shared::Shared;
 use esync_base::step;
 use esync_base::waitqueue::{Context, Hand, Poll, Wakes};
-use std::marker::PhantomData;
-use std::ops::{Deref, DerefMut};
-use std::sync;
-
-// A value that one at a time takes, who never waits for it.
-#[derive(Drop)]
-struct Place<T> {
-    value: sync::Mutex<T>,
-}
-
-impl<T> Place<T> {
-    // Takes the value, unless another has it.
-    fn turn(&self) -> Option<sync::MutexGuard<'_, T>> {
-        self.value.try_lock()
-    }
-}
+use std::marker::{Model, PhantomData};
+use std::sync::{self, Wait};
 
 /// A value that tasks on several threads share by reference, and one at a time uses through a guard.
 ///
@@ -39,9 +26,7 @@ impl<T, W: Copy + Eq, H: Hand<W>> Mutex<T, W, H> {
     pub fn new(value: T, hand: H) -> Self {
         Mutex {
             state: Shared::new(MutexState::new(), hand),
-            inner: Place {
-                value: sync::Mutex::new(value),
-            },
+            inner: Place::new(value),
         }
     }
 
@@ -76,13 +61,12 @@ impl<T, W: Copy + Eq, H: Hand<W>> Mutex<T, W, H> {
         H: Drop,
     {
         let Mutex { state: _, inner } = self;
-        let Place { value } = inner;
-        value.into_inner()
+        inner.into_inner()
     }
 
     /// The value, which nobody has a guard of while it is borrowed.
     pub fn get_mut(&mut self) -> &mut T {
-        self.inner.value.get_mut()
+        self.inner.get_mut()
     }
 }
 
@@ -150,34 +134,72 @@ impl<'a, T, W: Copy + Eq, H: Hand<W>> LockFuture<'a, T, W, H> {
     }
 }
 
-/// Whoever has it has the lock, and the value. Its end unlocks, and wakes who waits.
-pub struct MutexGuard<'a, T, W: Copy + Eq, H: Hand<W>> {
-    mutex: &'a Mutex<T, W, H>,
-    value: sync::MutexGuard<'a, T>,
+/// What a guard unlocks at its end.
+pub trait Unlocks {
+    type Rt: Wait;
+
+    /// Unlocks, and wakes who waits.
+    fn unlock(&self);
 }
 
-impl<'a, T, W: Copy + Eq, H: Hand<W>> Drop for MutexGuard<'a, T, W, H> {
-    fn drop(self) {
-        let MutexGuard { mutex, value } = self;
-        drop(value);
-        step!(mutex.state, |state, wakes| state.unlock(&mut wakes))
+impl<T, W: Copy + Eq, H: Hand<W>> Unlocks for &Mutex<T, W, H> {
+    type Rt = H::Rt;
+
+    fn unlock(&self) {
+        step!(self.state, |state, wakes| state.unlock(&mut wakes))
     }
 }
 
-impl<'a, T, W: Copy + Eq, H: Hand<W>> MutexGuard<'a, T, W, H> {
-    /// The value.
-    pub fn get(&self) -> &T {
-        self.value.deref()
+/// Whoever has it has the lock, and the value, which it has through what it holds. Its end unlocks, and wakes who waits.
+pub struct Guard<M: Unlocks, G> {
+    mutex: M,
+    value: G,
+}
+
+/// Whoever has it has the lock, and the value. Its end unlocks, and wakes who waits.
+pub type MutexGuard<'a, T, W, H> = Guard<&'a Mutex<T, W, H>, sync::MutexGuard<'a, T>>;
+
+impl<M: Unlocks, G> Model for Guard<M, G> {
+    ghost Value = { G };
+
+    ghost coded = { G.code };
+
+    ghost view = { λ a. a.value };
+}
+
+impl<M: Unlocks + Drop, G: Drop> Drop for Guard<M, G> {
+    fn drop(self) {
+        let Guard { mutex, value } = self;
+        drop(value);
+        mutex.unlock();
+    }
+}
+
+impl<M: Unlocks, G: Holds> Guard<M, G> {
+    ghost use Rattle.std.specs.Prelude.{◌≡◌};
+    ghost use Rattle.std.specs.Borrow.{Lends, sem};
+    ghost use Rattle.esync_guards.specs.contracts.mutex.shared.Guard.{the_row};
+
+    /// The value: what was last written through the guard, and else what the mutex had when it was locked.
+    pub fn get(&self) -> &G::Value
+        ensures { result.now ≡ G.value self.now }
+    {
+        self.value.read()
     }
 
     /// The value, to be written.
-    pub fn get_mut(&mut self) -> &mut T {
-        self.value.deref_mut()
+    pub fn get_mut(&mut self) -> &mut G::Value
+        ensures* lends { sem 𝓛 (Lends (the_row M.row G.row M.Rt.row) G.Value.row self.entry result (G.with_value self.old)) }
+        ensures value { result.now ≡ G.value self.old }
+    {
+        self.value.write()
     }
 
-    /// Narrows the guard to a part of the value. The mutex stays locked.
-    pub fn map<U, P: Projection<T, U>>(self, projection: P) -> MappedMutexGuard<'a, T, U, P, W, H> {
-        MappedMutexGuard {
+    /// Narrows the guard to a part of the value. The mutex stays locked, and the value as it is.
+    pub fn map<U, P: Projection<G::Value, U>>(self, projection: P) -> MappedGuard<M, G, U, P>
+        ensures { result ≡ self }
+    {
+        MappedGuard {
             guard: self,
             projection,
             part: PhantomData,
@@ -185,41 +207,70 @@ impl<'a, T, W: Copy + Eq, H: Hand<W>> MutexGuard<'a, T, W, H> {
     }
 
     /// Unlocks, as a drop does.
-    pub fn end(self) {
+    pub fn end(self)
+    where
+        M: Drop,
+        G: Drop,
+    {
         drop(self);
     }
 }
 
 /// A guard that is narrowed to a part of the value. Its end unlocks, and wakes who waits.
 #[derive(Drop)]
-pub struct MappedMutexGuard<'a, T, U, P, W: Copy + Eq, H: Hand<W>> {
-    guard: MutexGuard<'a, T, W, H>,
+pub struct MappedGuard<M: Unlocks, G, U, P> {
+    guard: Guard<M, G>,
     projection: P,
     part: PhantomData<U>,
 }
 
-impl<'a, T, U, P: Projection<T, U>, W: Copy + Eq, H: Hand<W>> MappedMutexGuard<'a, T, U, P, W, H> {
-    /// The part.
-    pub fn get(&self) -> &U {
+/// A guard that is narrowed to a part of the value. Its end unlocks, and wakes who waits.
+pub type MappedMutexGuard<'a, T, U, P, W, H> = MappedGuard<
+    &'a Mutex<T, W, H>,
+    sync::MutexGuard<'a, T>,
+    U,
+    P,
+>;
+
+impl<M: Unlocks, G, U, P> Model for MappedGuard<M, G, U, P> {
+    ghost Value = { G };
+
+    ghost coded = { G.code };
+
+    ghost view = { λ a. a.guard };
+}
+
+impl<M: Unlocks, G: Holds, U, P: Projection<G::Value, U>> MappedGuard<M, G, U, P> {
+    ghost use Rattle.std.specs.Prelude.{◌≡◌};
+    ghost use Rattle.std.specs.Borrow.{Lends, sem};
+    ghost use Rattle.esync_guards.specs.contracts.mutex.shared.MappedGuard.{the_row};
+
+    /// The part of the value.
+    pub fn get(&self) -> &U
+        ensures { result.now ≡ P.get (G.value self.now) }
+    {
         self.projection.read(self.guard.get())
     }
 
-    /// The part, to be written.
-    pub fn get_mut(&mut self) -> &mut U {
-        P::write(self.guard.get_mut(), &self.projection)
+    /// The part of the value, to be written. The rest of the value stays.
+    pub fn get_mut(&mut self) -> &mut U
+        ensures* lends { sem 𝓛 (Lends (the_row M.row G.row U.row P.row M.Rt.row) U.row self.entry result (λ u. G.with_value self.old (P.set (G.value self.old) u))) }
+        ensures part { result.now ≡ P.get (G.value self.old) }
+    {
+        let value = self.guard.get_mut();
+        P::write(value, &self.projection)
     }
 
-    /// Narrows the guard to a part of the part. The mutex stays locked.
-    pub fn map<V, Q: Projection<U, V>>(
-        self,
-        projection: Q,
-    ) -> MappedMutexGuard<'a, T, V, Then<P, Q, U>, W, H> {
-        let MappedMutexGuard {
+    /// Narrows the guard to a part of the part. The mutex stays locked, and the value as it is.
+    pub fn map<V, Q: Projection<U, V>>(self, projection: Q) -> MappedGuard<M, G, V, Then<P, Q, U>>
+        ensures { result ≡ self }
+    {
+        let MappedGuard {
             guard,
             projection: first,
             part: _,
         } = self;
-        MappedMutexGuard {
+        MappedGuard {
             guard,
             projection: Then::new(first, projection),
             part: PhantomData,
@@ -229,6 +280,8 @@ impl<'a, T, U, P: Projection<T, U>, W: Copy + Eq, H: Hand<W>> MappedMutexGuard<'
     /// Unlocks, as a drop does.
     pub fn end(self)
     where
+        M: Drop,
+        G: Drop,
         P: Drop,
     {
         drop(self);

@@ -1,5 +1,5 @@
 use Rattle.std.proofs.Common.{arith}
-use Rattle.esync_guards.proofs.mutex.shared.MutexGuard.drop.Goals as goal
+use Rattle.esync_guards.proofs.mutex.shared.RefMutexUnlocks.unlock.Goals as goal
 
 pub step-new-requires : goal.step-new-requires
 step-new-requires g c = c.step-guard.ensures 1 (omega arith)
