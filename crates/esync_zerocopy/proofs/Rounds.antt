@@ -1,9 +1,12 @@
 -- Runs of numbers round a ring.
 use Rattle.std.proofs.Common.{◌≡◌, ℕ, zero, suc, ◌+◌, ◌-◌, ◌<◌, ◌≤◌, [], ◌∷◌, ◌++◌, length, take, drop, refl, sym, ap, ◌∙◌, arith}
 use Rattle.esync_base.specs.Ring.{next, slot}
-use Rattle.esync_base.proofs.Places.{slot-next, slot-round, next-inside, next-within}
-use Rattle.std.specs.Prelude.{Bool, true, false}
-use Rattle.esync_zerocopy.specs.Slots.{Sides, count, cleared_if, numbers_from, ring_from, IsRound}
+use Rattle.esync_base.proofs.Places.{slot-is, slot-next, slot-round, slot-apart, next-inside, next-within}
+use Rattle.std.specs.Prelude.{Bool, true, false, Some, slice_get}
+use Rattle.std.specs.List.Sorted.{IsPermutation}
+use Rattle.std.proofs.Common.{inl, inr, subst}
+use Rattle.std.proofs.lemmas.List.Sorted.{IsPermutation-append_comm}
+use Rattle.esync_zerocopy.specs.Slots.{Sides, count, cleared_if, numbers_from, ring_from, IsRound, EachOnce}
 
 pub length_ring : (n i k : ℕ) → length (ring_from n i k) ≡ k
 length_ring n i zero = refl
@@ -61,3 +64,58 @@ module _ (n f m f2 m2 : ℕ) (r : IsRound n f m f2 m2) (some : 0 < m) where
 pub count_of_cleared : (done : Bool) (s : Sides) → count (cleared_if done s) ≡ count s
 count_of_cleared true s = (let l = length_numbers 0 (count s) in omega arith)
 count_of_cleared false s = refl
+
+-- a run goes on where its first part ends
+ring_append : (n i k m : ℕ) → ring_from n i (k + m) ≡ ring_from n i k ++ ring_from n (slot n i k) m
+ring_append n i zero m = ap (ring_from n i) (omega arith)
+ring_append n i (suc k) m = ap (ring_from n i) (let e : suc k + m ≡ suc (k + m) = omega arith in e)
+    ∙ ap (λ xs. i ∷ xs) (ring_append n (next n i) k m ∙ ap (λ j. ring_from n (next n i) k ++ ring_from n j m) (sym (slot-next n i k)))
+
+numbers_append : (i k m : ℕ) → numbers_from i (k + m) ≡ numbers_from i k ++ numbers_from (i + k) m
+numbers_append i zero m = ap (numbers_from i) (let e : 0 + m ≡ m = omega arith in e) ∙ ap (λ j. numbers_from j m) (let e : i ≡ i + 0 = omega arith in e)
+numbers_append i (suc k) m = ap (numbers_from i) (let e : suc k + m ≡ suc (k + m) = omega arith in e)
+    ∙ ap (λ xs. i ∷ xs) (numbers_append (i + 1) k m ∙ ap (λ j. numbers_from (i + 1) k ++ numbers_from j m) (let e : (i + 1) + k ≡ i + suc k = omega arith in e))
+
+-- behind the last number comes the first
+slot_of_end : (n f : ℕ) → f < n → slot n f (n - f) ≡ 0
+slot_of_end n f h = elim (slot-is n f (n - f) (omega arith) (omega arith)) [ inl e ↦ omega arith | inr e ↦ omega arith ]
+
+-- all numbers of a ring, from one of them on: those from there to the last, and then those before it
+ring_of_all : (n f : ℕ) → f < n → ring_from n f n ≡ numbers_from f (n - f) ++ numbers_from 0 f
+ring_of_all n f h = ap (ring_from n f) (let e : n ≡ (n - f) + f = omega arith in e)
+    ∙ ring_append n f (n - f) f
+    ∙ ap (λ xs. xs ++ ring_from n (slot n f (n - f)) f) (ring_numbers n f (n - f) (omega arith))
+    ∙ ap (λ xs. numbers_from f (n - f) ++ xs) (ap (λ j. ring_from n j f) (slot_of_end n f h) ∙ ring_numbers n 0 f (omega arith))
+
+all_of_ring : (n f : ℕ) → f < n → IsPermutation (numbers_from 0 n) (ring_from n f n)
+all_of_ring n f h =
+    let first : numbers_from 0 n ≡ numbers_from 0 f ++ numbers_from f (n - f) = ap (numbers_from 0) (let e : n ≡ f + (n - f) = omega arith in e) ∙ numbers_append 0 f (n - f) ∙ ap (λ j. numbers_from 0 f ++ numbers_from j (n - f)) (let e : 0 + f ≡ f = omega arith in e) in
+    subst (λ xs. IsPermutation xs (ring_from n f n)) (sym first)
+    (subst (λ xs. IsPermutation (numbers_from 0 f ++ numbers_from f (n - f)) xs) (sym (ring_of_all n f h))
+    (IsPermutation-append_comm (numbers_from 0 f) (numbers_from f (n - f))))
+
+module _ (n f m f2 m2 : ℕ) (r : IsRound n f m f2 m2) (within : f < n) where
+  all_of_round : IsPermutation (numbers_from 0 (length (ring_from n f m) + length (ring_from n f2 m2))) (ring_from n f m ++ ring_from n f2 m2)
+  all_of_round =
+      let joined : ring_from n f n ≡ ring_from n f m ++ ring_from n f2 m2 = ap (ring_from n f) (sym r.all) ∙ ring_append n f m m2 ∙ ap (λ j. ring_from n f m ++ ring_from n j m2) r.behind in
+      subst (λ k. IsPermutation (numbers_from 0 k) (ring_from n f m ++ ring_from n f2 m2)) (sym (count_of_round n f m f2 m2 r))
+      (subst (λ xs. IsPermutation (numbers_from 0 n) xs) joined (all_of_ring n f within))
+
+-- the first of a run that has one
+first_of_ring : (n f m i : ℕ) → slice_get (ring_from n f m) 0 ≡ Some i → (i ≡ f) × (0 < m)
+first_of_ring n f zero i e = absurd cc
+first_of_ring n f (suc m) i e = ((let s : Some f ≡ Some i = e in cc), omega arith)
+
+firsts_apart : (n f m f2 m2 : ℕ) → IsRound n f m f2 m2 → f < n → (i : ℕ) → slice_get (ring_from n f m) 0 ≡ Some i → slice_get (ring_from n f2 m2) 0 ≡ Some i → ⊥
+firsts_apart n f m f2 m2 r within i e e2 =
+    let p = first_of_ring n f m i e in
+    let p2 = first_of_ring n f2 m2 i e2 in
+    let all = r.all in
+    let same : slot n f m ≡ f = r.behind ∙ sym p2.0 ∙ p.0 in
+    let k = slot-apart n f m (omega arith) p.1 (omega arith) same in
+    let some = p2.1 in
+    omega arith
+
+-- two runs that lie round a ring have each of its numbers once
+pub once_of_round : (n f m f2 m2 : ℕ) (out out2 : Bool) → IsRound n f m f2 m2 → f < n → EachOnce (record { spare = ring_from n f m; held = ring_from n f2 m2; sending = out; receiving = out2 })
+once_of_round n f m f2 m2 out out2 r within = record { all = all_of_round n f m f2 m2 r within; apart = firsts_apart n f m f2 m2 r within }

@@ -1,5 +1,6 @@
 -- Slots that one side writes and the other reads where they stand: which of them are spare, which are held, and whose is out.
-use Rattle.std.specs.Prelude.{◌≡◌, ℕ, zero, suc, ◌+◌, Bool, true, false, List, [], ◌∷◌, ◌++◌, Option, Some, None, Result, Ok, Err, take, drop, length, refl}
+use Rattle.std.specs.Prelude.{◌≡◌, ℕ, zero, suc, ◌+◌, Bool, true, false, List, [], ◌∷◌, ◌++◌, Option, Some, None, Result, Ok, Err, take, drop, length, slice_get, refl}
+use Rattle.std.specs.List.Sorted.{IsPermutation}
 use Rattle.std.specs.Coded.{Coded, code_by, coded×, coded_list, coded_ℕ, coded_bool}
 use Rattle.esync_base.specs.Registration.{registered, displaced}
 use Rattle.esync_base.specs.Ring.{next, slot}
@@ -57,6 +58,11 @@ all_spare n = record { spare = numbers_from 0 n; held = []; sending = false; rec
 -- how many slots there are
 abbrev pub count : Sides → ℕ
 count s = length s.spare + length s.held
+
+-- each slot stands once in one of the two lists, so that none is next, and lent, on both sides
+pub record EachOnce (s : Sides) : Type 0 where
+  pub all : IsPermutation (numbers_from 0 (count s)) (s.spare ++ s.held)
+  pub apart : (i : ℕ) → slice_get s.spare 0 ≡ Some i → slice_get s.held 0 ≡ Some i → ⊥
 
 abbrev pub other : Side → Side
 other Sender = Receiver

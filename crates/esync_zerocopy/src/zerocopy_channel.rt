@@ -4,8 +4,8 @@ ghost use Rattle.std.specs.Borrow.{LendsIf, sem, follows_if};
 
 use esync_base::waitqueue::{Context, Poll, Wakes};
 pub use shared::{
-    Channel, ReceiveSlot, Receiver, SendSlot, Sender, Slot, SlotLoan, ZeroReceive, ZeroRequest,
-    ZeroSend,
+    Channel, EndsLoan, LentTo, Loan, ReceiveSlot, Receiver, SendSlot, Sender, Slot, SlotLoan,
+    ZeroReceive, ZeroRequest, ZeroSend,
 };
 use std::marker::Model;
 use thiserror::Error;
@@ -53,7 +53,7 @@ impl<T, W> Model for ChannelState<T, W> {
 impl<T: Drop, W: Copy + Eq> ChannelState<T, W> {
     ghost use Rattle.std.specs.Prelude.{◌≡◌, ◌<◌, ◌++◌, [], length, slice_get, is_ok, ◌↔◌, IsTrue, None, false};
     ghost use Rattle.std.specs.Borrow.{LendsIf, sem, follows_if};
-    ghost use Rattle.esync_zerocopy.specs.Slots.{all_spare, count, other, before, is_out, with_out, done_by, cleared, cleared_if, waits_at, waiting_unless, wakes_unless, waiting_if_cleared, wakes_if_cleared};
+    ghost use Rattle.esync_zerocopy.specs.Slots.{all_spare, count, other, before, is_out, with_out, done_by, cleared, cleared_if, waits_at, waiting_unless, wakes_unless, waiting_if_cleared, wakes_if_cleared, EachOnce};
     ghost use Rattle.esync_zerocopy.specs.Lending.{first_value, lent_with, value_lent, value_polled, name_polled};
     ghost use Rattle.esync_zerocopy.specs.contracts.zerocopy_channel.ChannelState.{the_row};
 
@@ -170,6 +170,13 @@ impl<T: Drop, W: Copy + Eq> ChannelState<T, W> {
         ensures wakes { wakes.new ≡ wakes.old ++ self.old.waiting.senders }
     {
         self.turns.done(Side::Receiver, wakes);
+    }
+
+    /// Each slot stands once in one of the two lists, so that none is lent to both sides. This says so, and does nothing.
+    pub fn once(&self)
+        ensures { EachOnce self.now.slots.sides }
+    {
+        self.turns.once()
     }
 
     /// The number of the slot that the side is lent next, or has lent, if there is one.

@@ -2,6 +2,7 @@
 ghost use Rattle.std.specs.Prelude.{◌≡◌, [], IfOk, OnErr};
 ghost use Rattle.esync_machine.specs.Runs.{GoodRun};
 ghost use Rattle.esync_machine.specs.Object.{requests_meaning};
+ghost use Rattle.esync_zerocopy.specs.Slots.{EachOnce};
 ghost use Rattle.esync_zerocopy.specs.ZeroRules.{zero_rules, zero_wakings};
 
 use super::{ChannelState, Side, SlotLent};
@@ -236,14 +237,18 @@ pub type ZeroCommand<T, W> = Command<Side, W, ZeroCall<T>>;
 /// What a zero-copy channel answers to a command, with the wakers that it hands out.
 pub type ZeroReply<T, W, const K: usize> = Reply<Answer<ZeroHeard<T>>, W, K>;
 
-/// Gives the commands to the channel, one after another, as `run` does: the answers are those of the slots, and no wake is lost.
+/// Gives the commands to the channel, one after another, as `run` does: the answers are those of the slots, and no wake is lost. After
+/// them each slot stands once in one of the two lists, so that none is lent to both sides.
 pub fn run_zerocopy<T: Copy, W: Copy + Eq, const REQS: usize, const K: usize>(
     alloc: Global,
     machine: &mut ZeroRun<T, W, REQS, K>,
     commands: Vec<ZeroCommand<T, W>>,
 ) -> Result<Vec<ZeroReply<T, W, K>>, AllocError>
     ensures run { IfOk result (λ replies. GoodRun (requests_meaning (zero_rules T) (zero_wakings W.eq) W.eq K) (record { core = machine.old.state.slots; requests = machine.old.requests }) machine.old.state.waiting commands.items replies.items (record { core = machine.new.state.slots; requests = machine.new.requests }) machine.new.state.waiting) }
+    ensures once { EachOnce machine.new.state.slots.sides }
     ensures refused { OnErr result (machine.new ≡ machine.old) }
 {
-    run(alloc, machine, commands)
+    let replies = run(alloc, machine, commands);
+    machine.state().once();
+    replies
 }

@@ -5,31 +5,15 @@ ghost use Rattle.esync_zerocopy.specs.Turned.{wakes_of_turn, DoneIf};
 
 use super::turns::Turns;
 use super::{Side, SlotLent};
+use esync_base::place::{Holds, Place};
 use esync_base::shared::Shared;
 use esync_base::step;
 use esync_base::waitqueue::{Context, Hand, Poll, Wakes};
-use std::ops::{Deref, DerefMut};
-use std::sync;
+use std::marker::Model;
+use std::sync::{self, Wait};
 
 /// A slot for a message, whose value one side at a time takes, which never waits for it.
-#[derive(Drop)]
-pub struct Slot<T> {
-    value: sync::Mutex<T>,
-}
-
-impl<T> Slot<T> {
-    /// A slot of this value.
-    pub fn new(value: T) -> Self {
-        Slot {
-            value: sync::Mutex::new(value),
-        }
-    }
-
-    // Takes the value, unless another has it.
-    fn turn(&self) -> Option<sync::MutexGuard<'_, T>> {
-        self.value.try_lock()
-    }
-}
+pub type Slot<T> = Place<T>;
 
 // Takes the side's next slot out, and its value, where there is a slot and its value is there.
 fn try_turn<'a, T, W: Copy + Eq>(
@@ -150,14 +134,20 @@ impl<T, W: Copy + Eq, H: Hand<W>> Channel<T, W, H> {
         self.turns.guard().free_capacity()
     }
 
+    fn loan<'a>(&'a self, side: Side, value: sync::MutexGuard<'a, T>) -> SlotLoan<'a, T, W, H> {
+        Loan {
+            side: LentTo {
+                channel: self,
+                side,
+            },
+            value,
+        }
+    }
+
     fn try_lend(&self, side: Side) -> Option<SlotLoan<'_, T, W, H>> {
         let turn = try_turn(&self.slots, &mut self.turns.guard(), side);
         match turn {
-            Some(value) => Some(SlotLoan {
-                channel: self,
-                side,
-                value,
-            }),
+            Some(value) => Some(self.loan(side, value)),
             None => None,
         }
     }
@@ -168,11 +158,7 @@ impl<T, W: Copy + Eq, H: Hand<W>> Channel<T, W, H> {
             |turns, wakes| poll_turn(&self.slots, &mut turns, side, cx, &mut wakes)
         );
         match turn {
-            Some(value) => Poll::Ready(SlotLoan {
-                channel: self,
-                side,
-                value,
-            }),
+            Some(value) => Poll::Ready(self.loan(side, value)),
             None => Poll::Pending,
         }
     }
@@ -346,12 +332,44 @@ impl<'a, T, W: Copy + Eq, H: Hand<W>> ZeroRequest<'a, T, W, H> {
     }
 }
 
-/// A slot that is lent to a side, with its value. Its end ends the loan alone: the slot stays the side's next one.
-pub struct SlotLoan<'a, T, W: Copy + Eq, H: Hand<W>> {
+/// What a loan ends, at the side that it is lent to.
+pub trait EndsLoan {
+    type Rt: Wait;
+
+    /// Sends the slot, or gives it back, and wakes who waits on the other side.
+    fn done(&self);
+
+    /// Ends the loan alone: the slot stays the side's next one.
+    fn end(&self);
+}
+
+/// The side of a channel that a slot is lent to.
+#[derive(Drop)]
+pub struct LentTo<'a, T, W, H> {
     channel: &'a Channel<T, W, H>,
     side: Side,
-    value: sync::MutexGuard<'a, T>,
 }
+
+impl<T, W: Copy + Eq, H: Hand<W>> EndsLoan for LentTo<'_, T, W, H> {
+    type Rt = H::Rt;
+
+    fn done(&self) {
+        self.channel.done(self.side);
+    }
+
+    fn end(&self) {
+        self.channel.turns.guard().end_loan(self.side);
+    }
+}
+
+/// A loan: it has a value to itself, through what it holds. Its end ends the loan alone.
+pub struct Loan<S: EndsLoan, G> {
+    side: S,
+    value: G,
+}
+
+/// A slot that is lent to a side, with its value. Its end ends the loan alone: the slot stays the side's next one.
+pub type SlotLoan<'a, T, W, H> = Loan<LentTo<'a, T, W, H>, sync::MutexGuard<'a, T>>;
 
 /// A slot that the sender writes.
 pub type SendSlot<'a, T, W, H> = SlotLoan<'a, T, W, H>;
@@ -359,42 +377,59 @@ pub type SendSlot<'a, T, W, H> = SlotLoan<'a, T, W, H>;
 /// A slot that the receiver reads.
 pub type ReceiveSlot<'a, T, W, H> = SlotLoan<'a, T, W, H>;
 
-impl<'a, T, W: Copy + Eq, H: Hand<W>> Drop for SlotLoan<'a, T, W, H> {
+impl<S: EndsLoan, G> Model for Loan<S, G> {
+    ghost Value = { G };
+
+    ghost coded = { G.code };
+
+    ghost view = { λ a. a.value };
+}
+
+impl<S: EndsLoan + Drop, G: Drop> Drop for Loan<S, G> {
     fn drop(self) {
-        let SlotLoan {
-            channel,
-            side,
-            value,
-        } = self;
+        let Loan { side, value } = self;
         drop(value);
-        channel.turns.guard().end_loan(side);
+        side.end();
     }
 }
 
-impl<'a, T, W: Copy + Eq, H: Hand<W>> SlotLoan<'a, T, W, H> {
-    /// The value.
-    pub fn get(&self) -> &T {
-        self.value.deref()
+impl<S: EndsLoan, G: Holds> Loan<S, G> {
+    ghost use Rattle.std.specs.Prelude.{◌≡◌};
+    ghost use Rattle.std.specs.Borrow.{Lends, sem};
+    ghost use Rattle.esync_zerocopy.specs.contracts.zerocopy_channel.shared.Loan.{the_row};
+
+    /// The value: what was last written through the loan, and else what the slot had when it was lent.
+    pub fn get(&self) -> &G::Value
+        ensures { result.now ≡ G.value self.now }
+    {
+        self.value.read()
     }
 
     /// The value, to be written.
-    pub fn get_mut(&mut self) -> &mut T {
-        self.value.deref_mut()
+    pub fn get_mut(&mut self) -> &mut G::Value
+        ensures* lends { sem 𝓛 (Lends (the_row S.row G.row S.Rt.row) G.Value.row self.entry result (G.with_value self.old)) }
+        ensures value { result.now ≡ G.value self.old }
+    {
+        self.value.write()
     }
 
     /// Sends the slot, or gives it back, and wakes who waits on the other side.
-    pub fn done(self) {
-        let SlotLoan {
-            channel,
-            side,
-            value,
-        } = self;
+    pub fn done(self)
+    where
+        S: Drop,
+        G: Drop,
+    {
+        let Loan { side, value } = self;
         drop(value);
-        channel.done(side);
+        side.done();
     }
 
     /// Ends the loan, as a drop does.
-    pub fn end(self) {
+    pub fn end(self)
+    where
+        S: Drop,
+        G: Drop,
+    {
         drop(self);
     }
 }

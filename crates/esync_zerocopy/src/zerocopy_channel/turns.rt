@@ -2,7 +2,7 @@
 ghost use Rattle.std.specs.Prelude.{◌≡◌, ℕ, ◌<◌, ◌≤◌, ◌+◌, ◌-◌, ◌++◌, [], length, take, drop, slice_get, IfSome, is_ok, ◌↔◌, IsTrue, false};
 ghost use Rattle.esync_base.specs.Registration.{registered, displaced};
 ghost use Rattle.esync_base.specs.Ring.{next};
-ghost use Rattle.esync_zerocopy.specs.Slots.{all_spare, count, other, before, is_out, with_out, out_if, done_by, cleared, cleared_if, waits_at, with_waits, waiting_unless, wakes_unless, waiting_if_cleared, wakes_if_cleared, ring_from, IsRound};
+ghost use Rattle.esync_zerocopy.specs.Slots.{all_spare, count, other, before, is_out, with_out, out_if, done_by, cleared, cleared_if, waits_at, with_waits, waiting_unless, wakes_unless, waiting_if_cleared, wakes_if_cleared, ring_from, IsRound, EachOnce};
 
 use super::{Side, SlotLent};
 use esync_base::waitqueue::{Context, Poll, WakerRegistration, Wakes};
@@ -241,6 +241,13 @@ impl<W: Copy + Eq> Turns<W> {
         self.receiving = false;
         self.send_waker.wake(wakes);
         Ok(())
+    }
+
+    /// Each slot stands once in one of the two lists. This says so, and does nothing.
+    pub fn once(&self)
+        ensures { EachOnce self.now.sides }
+    {
+        let _capacity = &self.capacity;
     }
 
     /// How many slots are held.
