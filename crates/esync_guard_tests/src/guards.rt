@@ -49,6 +49,44 @@ fn a_part_is_written_through_a_mapped_guard(rt: HostRuntime) {
     assert_eq!(rt; mutex.into_inner(), (0, 2));
 }
 
+// Locks, sees the value, narrows the guard to the second part, sees and writes it, and unlocks.
+fn writes_second<H: Hand<u64>>(
+    rt: &impl Abort,
+    mutex: &Mutex<(u32, u32), u64, H>,
+    shows: (u32, u32),
+    part: u32,
+) {
+    let guard = locks(rt, mutex);
+    assert_eq!(rt; *guard.get(), shows);
+    let mut second = guard.map(Second {});
+    assert_eq!(rt; *second.get(), shows.1);
+    *second.get_mut() = part;
+}
+
+#[test]
+fn a_mapped_guard_that_is_dropped_unlocks(rt: HostRuntime) {
+    let notes = Notes::new(&rt);
+    let mutex = Mutex::new((0u32, 1u32), &notes);
+    writes_second(&rt, &mutex, (0, 1), 2);
+    writes_second(&rt, &mutex, (0, 2), 3);
+    assert_eq!(rt; *locks(&rt, &mutex).get(), (0, 3));
+}
+
+#[test]
+fn the_end_of_a_mapped_guard_wakes_who_waits(rt: HostRuntime) {
+    let notes = Notes::new(&rt);
+    let mutex = Mutex::new((4u32, 6u32), &notes);
+    let guard = locks(&rt, &mutex);
+    let mut request = mutex.lock();
+    waits(&rt, &mut request, 8);
+    let mut part = guard.map(Second {});
+    *part.get_mut() = 9;
+    assert_eq!(rt; *part.get(), 9);
+    part.end();
+    woken!(&rt, &notes, &[8]);
+    assert_eq!(rt; *polls(&rt, &mut request, 8).get(), (4, 9));
+}
+
 #[test]
 fn a_part_of_a_part_is_written(rt: HostRuntime) {
     let notes = Notes::new(&rt);

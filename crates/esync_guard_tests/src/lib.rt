@@ -9,5 +9,6 @@ mod machine;
 mod noop;
 #[cfg(test)]
 mod threads;
+pub mod uses;
 #[cfg(test)]
 mod wakers;
