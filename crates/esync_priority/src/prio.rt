@@ -7,7 +7,9 @@ mod counting;
 
 use arrayvec::ArrayVec;
 pub use counting::Comparisons;
+use esync_base::kept::Kept;
 use esync_base::store::Store;
+use std::alloc::AllocError;
 use std::cmp::Ordering;
 use std::marker::{Model, PhantomData};
 
@@ -319,6 +321,18 @@ impl<T: Drop, K: Kind<T>, const N: usize> PrioQueue<T, K, N> {
         ensures { IsTrue result ↔ (length self.now ≡ N) }
     {
         self.items.is_full()
+    }
+}
+
+impl<T: Copy, K: Kind<T>, const N: usize> Kept for PrioQueue<T, K, N> {
+    fn kept(&self) -> Result<Self, AllocError> {
+        let Ok(items) = ArrayVec::try_from(self.items.as_slice()) else {
+            unreachable!()
+        };
+        Ok(PrioQueue {
+            items,
+            kind: PhantomData,
+        })
     }
 }
 
