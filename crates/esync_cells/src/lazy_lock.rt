@@ -1,6 +1,8 @@
 //! A value that is made when it is first asked for, and then stays.
 
+use esync_base::kept::Kept;
 pub use shared::LazyLock;
+use std::alloc::AllocError;
 use std::marker::Model;
 
 pub mod machine;
@@ -47,6 +49,15 @@ impl<T, M> Model for LazyState<T, M> {
     ghost coded = { lazy_code T.code M.code };
 
     ghost view = { λ a. record { value = a.data; maker = a.maker } };
+}
+
+impl<T: Copy, M: Copy> Kept for LazyState<T, M> {
+    fn kept(&self) -> Result<Self, AllocError> {
+        Ok(LazyState {
+            data: self.data,
+            maker: self.maker,
+        })
+    }
 }
 
 impl<T: Drop, M: Maker<T> + Drop> LazyState<T, M> {

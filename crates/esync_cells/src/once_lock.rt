@@ -7,8 +7,10 @@ ghost use Rattle.esync_cells.specs.Signal.{waited};
 ghost use Rattle.esync_cells.specs.OnceLock.{poll_copied, wakes_of_get, set_answer};
 ghost use Rattle.esync_cells.specs.contracts.once_lock.OnceState.{the_row};
 
+use esync_base::kept::Kept;
 use esync_base::waitqueue::{Context, Poll, Wakes};
 pub use shared::{OnceGet, OnceLock};
+use std::alloc::AllocError;
 use std::fmt::Debug;
 use std::marker::{Model, PhantomData};
 use thiserror::Error;
@@ -53,6 +55,15 @@ impl<T, W> Model for OnceState<T, W> {
     ghost coded = { coded_option T.code };
 
     ghost view = { λ a. a.data };
+}
+
+impl<T: Copy, W> Kept for OnceState<T, W> {
+    fn kept(&self) -> Result<Self, AllocError> {
+        Ok(OnceState {
+            data: self.data,
+            wakers: PhantomData,
+        })
+    }
 }
 
 impl<T: Drop, W: Copy + Eq> OnceState<T, W> {

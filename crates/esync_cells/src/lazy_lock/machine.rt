@@ -6,6 +6,7 @@ ghost use Rattle.esync_cells.specs.LazyLock.{Lazy};
 ghost use Rattle.esync_cells.specs.LazyRules.{lazy_rules, lazy_wakings};
 
 use super::{LazyState, Maker};
+use esync_base::kept::Kept;
 use esync_base::waitqueue::Wakes;
 use esync_machine::primitive::{Answer, Command, Primitive, Reach, Turn};
 use esync_machine::requests::Requests;
@@ -42,6 +43,19 @@ impl<T, M, W> Model for LazyHolder<T, M, W> {
     ghost coded = { coded_option (lazy_code T.code M.code) };
 
     ghost view = { λ a. a.state };
+}
+
+impl<T: Copy, M: Copy, W> Kept for LazyHolder<T, M, W> {
+    fn kept(&self) -> Result<Self, AllocError> {
+        let state = match &self.state {
+            Some(state) => Some(state.kept()?),
+            None => None,
+        };
+        Ok(LazyHolder {
+            state,
+            wakers: PhantomData,
+        })
+    }
 }
 
 impl<T: Drop, M: Maker<T> + Drop, W> LazyHolder<T, M, W> {
