@@ -3,9 +3,11 @@ ghost use Rattle.std.specs.Prelude.{◌≡◌, ◌<◌, ◌++◌, [], length, tr
 ghost use Rattle.esync_base.specs.Registration.{registered_if, displaced_if};
 ghost use Rattle.esync_guards.specs.Mutex.{tried, polled, waiter_where_held};
 
+use esync_base::kept::Kept;
 use esync_base::waitqueue::{Context, Poll, WakerRegistration, Wakes};
 pub use projection::{Projection, Second, Then, put_part};
 pub use shared::{Guard, LockFuture, MappedGuard, MappedMutexGuard, Mutex, MutexGuard, Unlocks};
+use std::alloc::AllocError;
 use std::marker::Model;
 use thiserror::Error;
 
@@ -33,6 +35,15 @@ impl<W> Model for MutexState<W> {
     ghost coded = { locking_code W.code };
 
     ghost view = { λ a. record { held = a.locked; waiter = a.waker } };
+}
+
+impl<W: Copy> Kept for MutexState<W> {
+    fn kept(&self) -> Result<Self, AllocError> {
+        Ok(MutexState {
+            locked: self.locked,
+            waker: self.waker.kept()?,
+        })
+    }
 }
 
 impl<W: Copy + Eq> Default for MutexState<W> {

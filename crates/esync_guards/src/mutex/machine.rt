@@ -5,6 +5,7 @@ ghost use Rattle.esync_machine.specs.Object.{requests_meaning};
 ghost use Rattle.esync_guards.specs.MutexRules.{mutex_rules, mutex_wakings, Tries, Reads, Writes, WritesPart, OneGuard};
 
 use super::{MutexState, Projection, TryLockError, put_part};
+use esync_base::kept::Kept;
 use esync_base::waitqueue::{Context, Poll, Wakes};
 use esync_machine::primitive::{Answer, Command, Primitive, Reach, Turn};
 use esync_machine::requests::Requests;
@@ -72,6 +73,17 @@ impl<T, U, P, W> Model for Guarded<T, U, P, W> {
     ghost coded = { guarding_code T.code W.code };
 
     ghost view = { λ a. record { lock = a.lock; value = a.value } };
+}
+
+impl<T: Copy, U, P: Copy, W: Copy> Kept for Guarded<T, U, P, W> {
+    fn kept(&self) -> Result<Self, AllocError> {
+        Ok(Guarded {
+            lock: self.lock.kept()?,
+            value: self.value,
+            projection: self.projection,
+            part: PhantomData,
+        })
+    }
 }
 
 impl<T: Copy, U: Copy, P: Projection<T, U>, W: Copy + Eq> Guarded<T, U, P, W> {
