@@ -4,4 +4,8 @@
 #[cfg(test)]
 mod books;
 #[cfg(test)]
+mod flags;
+#[cfg(test)]
+mod refused;
+#[cfg(test)]
 mod threads;

@@ -2,12 +2,21 @@
 ghost use Rattle.std.specs.Prelude.{◌≡◌, ◌<◌};
 
 use esync_base::waitqueue::{TaskId, Wakes};
+use esync_cells::signal::SignalState;
+use esync_cells::signal::machine::{SignalCall, SignalCommand, SignalHeard, SignalRun};
 use esync_channel::channel::ChannelState;
 use esync_channel::channel::machine::{ChannelCall, ChannelCommand, ChannelHeard, ChannelRun};
 use esync_history::recorded::{Book, Entry, Receipt, Recorded, Seat, Seats, audit};
 use esync_machine::primitive::{Answer, Command};
 use esync_machine::requests::Requests;
-use esync_machine::run::{Keep, Machine, Reply};
+use esync_machine::run::{Keep, Reply};
+use esync_permits::semaphore::machine::fair::FairRun;
+use esync_permits::semaphore::machine::greedy::GreedyRun;
+use esync_permits::semaphore::machine::{PermitCall, PermitHeard};
+use esync_permits::semaphore::{Amount, FairState, GreedyState};
+use esync_pipe::bytes::Bytes;
+use esync_pipe::pipe::PipeState;
+use esync_pipe::pipe::machine::{PipeCall, PipeCommand, PipeHeard, PipeRun};
 use std::alloc::{AllocError, Global};
 use std::marker::Brand;
 use std::process::Abort;
@@ -17,15 +26,7 @@ use std::test::Fail;
 use std::thread;
 use std::thread::Threads;
 
-type Channel = ChannelRun<u32, TaskId, 4, 16, 1>;
-
 const CALLS: usize = 50;
-
-const RECEIVE: ChannelCommand<u32, TaskId> = Command::Call(ChannelCall::TryReceive);
-
-fn send(message: u32) -> ChannelCommand<u32, TaskId> {
-    Command::Call(ChannelCall::TrySend(message))
-}
 
 // Fifty calls of one seat, of these two in turn.
 fn makes<M: Keep + Drop, L: Ledger, R: Wait>(
@@ -79,8 +80,51 @@ where
     Ok(())
 }
 
+// Two threads make fifty calls each, of their own two in turn. A look at the machine as it was sees this.
+macro_rules! call_by_two {
+    ($rt:expr, $alloc:expr, $blank:expr, $ledger:ty, $machine:expr, [$one:expr, $two:expr], $look:expr) => {{
+        let (recorded, mut seats) = Recorded::<_, $ledger>::new($alloc, $blank, $machine, 2)?;
+        let (first, second) = (seats.seat(), seats.seat());
+        let shared = &recorded;
+        let (one, two) = thread::join(
+            $rt,
+            move || makes($rt, $alloc, shared, first, $one),
+            move || makes($rt, $alloc, shared, second, $two),
+        );
+        has_both($rt, $alloc, recorded.into_book(), seats, one?, two?, $look)
+    }};
+}
+
+// What a machine answers that hands out nothing.
+fn told<H, const K: usize>(heard: H) -> Reply<Answer<H>, TaskId, K> {
+    Reply {
+        answer: Answer::Gives(heard),
+        wakes: Wakes::new(),
+    }
+}
+
+fn sends(message: u32) -> [ChannelCommand<u32, TaskId>; 2] {
+    let receive = Command::Call(ChannelCall::TryReceive);
+    [Command::Call(ChannelCall::TrySend(message)), receive]
+}
+
+fn writes(byte: u8) -> [PipeCommand<TaskId>; 2] {
+    let write = PipeCall::TryWrite(Bytes::from_slice(&[byte]));
+    [Command::Call(write), Command::Call(PipeCall::TryRead(4))]
+}
+
+fn signals(value: u32) -> [SignalCommand<u32, TaskId>; 2] {
+    let take = Command::Call(SignalCall::TryTake);
+    [Command::Call(SignalCall::Signal(value)), take]
+}
+
+fn takes(r: usize) -> [Command<Amount, TaskId, PermitCall>; 2] {
+    let take = PermitCall::Try(r, Amount::Exactly(1));
+    [Command::Call(take), Command::End(r)]
+}
+
 // Two threads send and receive.
-fn sends_and_receives<L: Ledger + Send + Sync, R: Threads + Wait + Abort + Sync>(
+fn channel<L: Ledger + Send + Sync, R: Threads + Wait + Abort + Sync>(
     rt: &R,
     alloc: Global,
     blank: Blank,
@@ -89,48 +133,104 @@ fn sends_and_receives<L: Ledger + Send + Sync, R: Threads + Wait + Abort + Sync>
     requires parts { blank.parts ≡ L.parts }
     requires room { 2 < blank.parts }
 {
-    let channel: Channel = Requests::new(ChannelState::new());
-    let (recorded, mut seats) = Recorded::<Channel, L>::new(alloc, blank, channel, 2)?;
-    let (first, second) = (seats.seat(), seats.seat());
-    let shared = &recorded;
-    let (one, two) = thread::join(
-        rt,
-        move || makes(rt, alloc, shared, first, [send(1), RECEIVE]),
-        move || makes(rt, alloc, shared, second, [send(2), RECEIVE]),
+    let channel: ChannelRun<u32, TaskId, 4, 16, 1> = Requests::new(ChannelState::new());
+    let look = (
+        Command::Call(ChannelCall::Len),
+        told(ChannelHeard::Number(0)),
     );
-    let empty = Reply {
-        answer: Answer::Gives(ChannelHeard::Number(0)),
-        wakes: Wakes::new(),
-    };
-    let look = (Command::Call(ChannelCall::Len), empty);
-    has_both(rt, alloc, recorded.into_book(), seats, one?, two?, look)
+    call_by_two!(rt, alloc, blank, L, channel, [sends(1), sends(2)], look)
 }
 
 #[test]
 fn two_threads_call_a_recorded_channel(rt: HostRuntime) -> Result<(), Fail> {
-    sends_and_receives::<Brand, _>(&rt, rt.alloc(), Blank::new(3))
+    channel::<Brand, _>(&rt, rt.alloc(), Blank::new(3))
 }
 
-// Fifty calls of one seat, one of which may be refused for want of memory.
-fn some_refused<L: Ledger>(rt: &impl Abort, alloc: Global, blank: Blank) -> Result<(), Fail>
+// Two threads write and read.
+fn pipe<L: Ledger + Send + Sync, R: Threads + Wait + Abort + Sync>(
+    rt: &R,
+    alloc: Global,
+    blank: Blank,
+) -> Result<(), Fail>
     requires ledger { blank.name ≡ L.name }
     requires parts { blank.parts ≡ L.parts }
-    requires room { 1 < blank.parts }
+    requires room { 2 < blank.parts }
 {
-    let channel: Channel = Requests::new(ChannelState::new());
-    let (mut book, mut seats) = Book::<Channel, L>::new(alloc, blank, channel, 1)?;
-    let mut seat = seats.seat();
-    for _ in 0..CALLS {
-        let _ = book.record(&mut seat, Command::Call(ChannelCall::Len));
-    }
-    let made = seat.calls();
-    assert!(rt; made >= CALLS - 1);
-    assert_eq!(rt; book.journal().len(), made);
-    assert_eq!(rt; book.settle(seats, vec![in alloc; seat]?), Some(made));
-    Ok(())
+    let pipe: PipeRun<TaskId, 4, 16, 2> = Requests::new(PipeState::new());
+    let look = (Command::Call(PipeCall::Len), told(PipeHeard::Number(0)));
+    call_by_two!(rt, alloc, blank, L, pipe, [writes(1), writes(2)], look)
 }
 
 #[test]
-fn a_refused_call_leaves_no_entry(rt: HostRuntime) -> Result<(), Fail> {
-    some_refused::<Brand>(&rt, rt.alloc(), Blank::new(2))
+fn two_threads_call_a_recorded_pipe(rt: HostRuntime) -> Result<(), Fail> {
+    pipe::<Brand, _>(&rt, rt.alloc(), Blank::new(3))
+}
+
+// Two threads signal and take.
+fn signal<L: Ledger + Send + Sync, R: Threads + Wait + Abort + Sync>(
+    rt: &R,
+    alloc: Global,
+    blank: Blank,
+) -> Result<(), Fail>
+    requires ledger { blank.name ≡ L.name }
+    requires parts { blank.parts ≡ L.parts }
+    requires room { 2 < blank.parts }
+{
+    let signal: SignalRun<u32, TaskId, 16, 1> = Requests::new(SignalState::new());
+    let look = (
+        Command::Call(SignalCall::Signaled),
+        told(SignalHeard::Signaled(false)),
+    );
+    call_by_two!(rt, alloc, blank, L, signal, [signals(1), signals(2)], look)
+}
+
+#[test]
+fn two_threads_call_a_recorded_signal(rt: HostRuntime) -> Result<(), Fail> {
+    signal::<Brand, _>(&rt, rt.alloc(), Blank::new(3))
+}
+
+// Two threads take permits and give them back.
+fn greedy_semaphore<L: Ledger + Send + Sync, R: Threads + Wait + Abort + Sync>(
+    rt: &R,
+    alloc: Global,
+    blank: Blank,
+) -> Result<(), Fail>
+    requires ledger { blank.name ≡ L.name }
+    requires parts { blank.parts ≡ L.parts }
+    requires room { 2 < blank.parts }
+{
+    let semaphore: GreedyRun<TaskId, 16, 1> = Requests::new(GreedyState::new(4));
+    let look = (
+        Command::Call(PermitCall::Permits),
+        told(PermitHeard::Count(4)),
+    );
+    call_by_two!(rt, alloc, blank, L, semaphore, [takes(0), takes(1)], look)
+}
+
+#[test]
+fn two_threads_call_a_recorded_greedy_semaphore(rt: HostRuntime) -> Result<(), Fail> {
+    greedy_semaphore::<Brand, _>(&rt, rt.alloc(), Blank::new(3))
+}
+
+// Two threads take permits and give them back.
+fn fair_semaphore<L: Ledger + Send + Sync, R: Threads + Wait + Abort + Sync>(
+    rt: &R,
+    alloc: Global,
+    blank: Blank,
+) -> Result<(), Fail>
+    requires ledger { blank.name ≡ L.name }
+    requires parts { blank.parts ≡ L.parts }
+    requires room { 2 < blank.parts }
+{
+    let semaphore: FairRun<TaskId, 4, 16, 1> = Requests::new(FairState::new(4));
+    let look = (
+        Command::Call(PermitCall::Permits),
+        told(PermitHeard::Count(4)),
+    );
+    call_by_two!(rt, alloc, blank, L, semaphore, [takes(0), takes(1)], look)
+}
+
+#[test]
+fn two_threads_call_a_recorded_fair_semaphore(rt: HostRuntime) -> Result<(), Fail> {
+    fair_semaphore::<Brand, _>(&rt, rt.alloc(), Blank::new(3))
 }
