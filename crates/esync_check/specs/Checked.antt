@@ -1,0 +1,78 @@
+-- What a recorded run is found to be.
+use Rattle.std.specs.Prelude.{◌≡◌, ℕ, ◌+◌, ◌-◌, ◌^◌, min, Bool, true, List, [], ◌∷◌, ◌++◌, Some, Result, Ok, codes, decimal, string_bytes}
+use Rattle.std.proofs.Common.{nat_eq, nat_cmp}
+use Rattle.esync_priority.specs.Prio.{greater, less}
+use Rattle.esync_words.specs.declared.fault.Fault.{Fault}
+use Rattle.esync_words.specs.Fault.{message_of as fault_message}
+use Rattle.esync_words.specs.Text.{answer_text, line_text}
+use Rattle.esync_words.specs.Played.{IsJudged}
+use Rattle.esync_script.specs.Opening.{PlaysScript}
+use Rattle.esync_check.specs.Recorded.{Records, Differs}
+use Rattle.esync_check.specs.declared.difference.Difference.{Difference}
+use Rattle.esync_check.specs.declared.fault.Unchecked.{Unchecked}
+use Rattle.esync_check.specs.declared.fault.Unchecked.TheVariants.{NoReply, Script}
+use Rattle.esync_check.specs.declared.Verdict.{Verdict}
+use Rattle.esync_check.specs.declared.Verdict.TheVariants.{Run, Another}
+
+-- A script is played so, and this is the text of its replies: a line each, of the answer and of exactly the wakers that are handed out.
+abbrev pub Replies : List ℕ → List ℕ → Result (Unit {0}) Fault → Type 0
+Replies script replies outcome =
+    PlaysScript nat_eq (λ A text line giver answer wakers. line_text (answer_text text answer) wakers) (greater nat_cmp) (less nat_cmp) (λ line. []) (Some script) (Some []) (Some replies) outcome
+
+-- A text is the record of a run of so many commands, of the primitive that its line 1 names: its script is played to its end, and the replies are
+-- those that were recorded.
+pub record IsRun (text : List ℕ) (commands : ℕ) : Type 0 where
+  pub script : List ℕ
+  pub replies : List ℕ
+  pub records : Records text script replies commands []
+  pub played : Replies script replies (Ok tt)
+
+-- a reply that was recorded is the first that is another than the one given, and has this line
+abbrev pub DiffersAt : List ℕ → List ℕ → Difference → Type 0
+DiffersAt recorded given d =
+    (before : ℕ) × Differs recorded given before (string_bytes d.recorded) (string_bytes d.given) × (d.line ≡ min (before + 2) (2 ^ 64 - 1))
+
+-- Of the replies that a text records, up to its end or to its first line without one, this is the first that the primitive doesn't give.
+pub record IsAnother (text : List ℕ) (d : Difference) : Type 0 where
+  pub script : List ℕ
+  pub recorded : List ℕ
+  pub commands : ℕ
+  pub rest : List ℕ
+  pub records : Records text script recorded commands rest
+  pub given : List ℕ
+  pub outcome : Result (Unit {0}) Fault
+  pub played : Replies script given outcome
+  pub judged : IsJudged outcome
+  pub differs : DiffersAt recorded given d
+
+abbrev pub Finds : List ℕ → Verdict → Type 0
+Finds text (Run commands) = IsRun text commands
+Finds text (Another d) = IsAnother text d
+
+-- what so many recorded replies, all of them or not, are found to be beside those that were given, where the play ended so
+abbrev pub Judges : ℕ → Bool → List ℕ → List ℕ → Result (Unit {0}) Fault → Verdict → Type 0
+Judges count is_whole recorded given outcome (Run commands) = (commands ≡ count) × (is_whole ≡ true) × (outcome ≡ Ok tt) × (given ≡ recorded)
+Judges count is_whole recorded given outcome (Another d) = IsJudged outcome × DiffersAt recorded given d
+
+-- what is written to the errors of a check that ends before its verdict
+abbrev pub message_of : Unchecked → List ℕ
+message_of (NoReply number) = codes "line " ++ decimal number ++ codes ": no reply"
+message_of (Script fault) = fault_message fault
+
+-- what is written of a reply that differs: its line, what was recorded, and what the primitive gives
+abbrev pub heading_text : ℕ → List ℕ → List ℕ
+heading_text line name = codes "line " ++ decimal line ++ codes ": not a run of " ++ name ++ 10 ∷ []
+
+abbrev pub recorded_text : List ℕ → List ℕ
+recorded_text reply = codes "recorded: " ++ reply ++ 10 ∷ []
+
+abbrev pub given_text : List ℕ → List ℕ
+given_text reply = codes "given: " ++ reply ++ 10 ∷ []
+
+abbrev pub difference_text : List ℕ → Difference → List ℕ
+difference_text name d = (heading_text d.line name ++ recorded_text (string_bytes d.recorded)) ++ given_text (string_bytes d.given)
+
+-- what is written of a text whose line 1 is this
+abbrev pub verdict_text : List ℕ → Verdict → List ℕ
+verdict_text name (Run commands) = decimal commands ++ codes " commands: a run of " ++ name ++ 10 ∷ []
+verdict_text name (Another d) = difference_text name d

@@ -1,0 +1,56 @@
+//! The first reply of a recorded run that is another than the object's.
+ghost use Rattle.std.specs.Prelude.{◌≡◌, ℕ, ◌+◌, ◌-◌, ◌^◌, min, IfOk, IfSome, string_bytes};
+ghost use Rattle.esync_check.specs.Recorded.{Differs};
+
+use crate::recording::split_line;
+use esync_words::fault::Fault;
+use std::alloc::Global;
+
+/// A reply that was recorded, where the object gives another.
+#[derive(Drop)]
+pub struct Difference {
+    /// The number of its line in the recorded run.
+    pub line: u64,
+    /// What was recorded.
+    pub recorded: String,
+    /// What the object gives.
+    pub given: String,
+}
+
+/// The first of the recorded replies that is another than the one given, where each has a line of its own.
+///
+/// Behind the end of either nothing is compared.
+pub fn first_difference(
+    alloc: Global,
+    recorded: &str,
+    given: &str,
+) -> Result<Option<Difference>, Fault>
+    ensures { IfOk result (λ found. IfSome found (λ d. (n : ℕ) × Differs recorded.now given.now n (string_bytes d.recorded) (string_bytes d.given) × (d.line ≡ min (n + 2) (2 ^ 64 - 1)))) }
+{
+    let mut line: u64 = 2;
+    let mut others = recorded;
+    let mut owns = given;
+    while !others.is_empty() && !owns.is_empty() {
+        let (other, others_rest) = split_line(others);
+        let (own, owns_rest) = split_line(owns);
+        if other != own {
+            return Ok(Some(made(alloc, line, other, own)?));
+        }
+        line = line.saturating_add(1);
+        others = others_rest;
+        owns = owns_rest;
+    }
+    Ok(None)
+}
+
+fn made(alloc: Global, line: u64, recorded: &str, given: &str) -> Result<Difference, Fault>
+    ensures line { IfOk result (λ d. d.line ≡ line) }
+    ensures recorded { IfOk result (λ d. string_bytes d.recorded ≡ recorded.now) }
+    ensures given { IfOk result (λ d. string_bytes d.given ≡ given.now) }
+{
+    Ok(Difference {
+        line,
+        recorded: String::from_str(alloc, recorded).map_err(|_| Fault::OutOfMemory)?,
+        given: String::from_str(alloc, given).map_err(|_| Fault::OutOfMemory)?,
+    })
+}

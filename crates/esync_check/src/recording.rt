@@ -1,0 +1,93 @@
+//! A recorded run, taken apart into the script and the replies in it.
+ghost use Rattle.std.specs.Prelude.{◌≡◌, ℕ, ◌+◌, ◌-◌, ◌^◌, min, List, [], ◌++◌, length, OnOk, IfOk, string_bytes, false, true};
+ghost use Rattle.esync_words.specs.Lines.{first_line, other_lines};
+ghost use Rattle.esync_words.specs.Played.{Reads};
+ghost use Rattle.esync_check.specs.Recorded.{Records, Entry, entry_lines, commands_text, replies_text, line_text};
+
+use esync_words::fault::Fault;
+use std::alloc::Global;
+
+/// The script and the replies of a recorded run.
+#[derive(Drop)]
+pub struct Recording {
+    /// Line 1, and the commands.
+    pub script: String,
+    /// The replies.
+    pub replies: String,
+    /// How many commands there are.
+    pub commands: u64,
+    /// Each line has a reply. Where one has none, it and those behind it are left out.
+    pub is_whole: bool,
+}
+
+/// The first line of the text, without its line feed, and what stands behind it.
+pub fn split_line(text: &str) -> (&str, &str)
+    ensures line { result.0.now ≡ first_line text.now }
+    ensures rest { result.1.now ≡ other_lines text.now }
+{
+    match text.split_once('\n') {
+        Some(parts) => parts,
+        None => (text, ""),
+    }
+}
+
+// Appends the line and a line feed.
+fn append_line(text: &mut String, line: &str) -> Result<(), Fault>
+    ensures { OnOk result (string_bytes text.new ≡ string_bytes text.old ++ line_text line.now) }
+{
+    text.push_str(line).map_err(|_| Fault::OutOfMemory)?;
+    text.push('\n').map_err(|_| Fault::OutOfMemory)?;
+    Ok(())
+}
+
+impl Recording {
+    /// Takes a recorded run apart.
+    ///
+    /// An empty text has no line 1, which is `NotACommand(1)`.
+    pub fn read(alloc: Global, text: &str) -> Result<Self, Fault>
+        ensures { IfOk result (λ recording. (rest : List ℕ) × Records text.now (string_bytes recording.script) (string_bytes recording.replies) recording.commands rest × (recording.is_whole ≡ true → rest ≡ [])) }
+    {
+        if text.is_empty() {
+            return Err(Fault::NotACommand(1));
+        }
+        let (first, lines) = split_line(text);
+        let mut recording = Recording {
+            script: String::new(alloc),
+            replies: String::new(alloc),
+            commands: 0,
+            is_whole: false,
+        };
+        append_line(&mut recording.script, first)?;
+        recording.is_whole = recording.read_entries(lines)?;
+        Ok(recording)
+    }
+
+    // Reads the lines behind line 1, up to the first that has no reply, if there is one.
+    fn read_entries(&mut self, lines: &str) -> Result<bool, Fault>
+        requires { self.old.commands ≡ 0 }
+        ensures { IfOk result (λ is_whole. (entries : List Entry) × (rest : List ℕ) × Reads lines.now (entry_lines entries) rest × (string_bytes self.new.script ≡ string_bytes self.old.script ++ commands_text entries) × (string_bytes self.new.replies ≡ string_bytes self.old.replies ++ replies_text entries) × (self.new.commands ≡ min (length entries) (2 ^ 64 - 1)) × (is_whole ≡ true → rest ≡ [])) }
+    {
+        let mut rest = lines;
+        while !rest.is_empty() {
+            let (line, behind) = split_line(rest);
+            let Some((command, reply)) = line.split_once(" => ") else {
+                return Ok(false);
+            };
+            self.add(command, reply)?;
+            rest = behind;
+        }
+        Ok(true)
+    }
+
+    // Adds a command and its reply.
+    fn add(&mut self, command: &str, reply: &str) -> Result<(), Fault>
+        ensures script { OnOk result (string_bytes self.new.script ≡ string_bytes self.old.script ++ line_text command.now) }
+        ensures replies { OnOk result (string_bytes self.new.replies ≡ string_bytes self.old.replies ++ line_text reply.now) }
+        ensures commands { OnOk result (self.new.commands ≡ min (self.old.commands + 1) (2 ^ 64 - 1)) }
+    {
+        append_line(&mut self.script, command)?;
+        append_line(&mut self.replies, reply)?;
+        self.commands = self.commands.saturating_add(1);
+        Ok(())
+    }
+}
