@@ -1,6 +1,7 @@
 pub mod Log
 pub mod Counts
 pub mod PubSub
+pub mod Steps
 pub mod Events
 pub mod PubSubRules
 pub mod PubSubLaws

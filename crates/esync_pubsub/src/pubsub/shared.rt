@@ -1,6 +1,7 @@
 //! A channel for many that tasks on several threads share by reference.
-ghost use Rattle.std.specs.Prelude.{◌≡◌, ℕ, ◌<◌, ◌≤◌, [], IsSome, IfSome, max};
-ghost use Rattle.esync_pubsub.specs.PubSub.{still};
+ghost use Rattle.std.specs.Prelude.{◌≡◌, ℕ, ◌-◌, ◌<◌, ◌≤◌, [], Some, None, IsSome, IfSome, length, max};
+ghost use Rattle.esync_pubsub.specs.PubSub.{fresh, Subscribes, Adds, still};
+ghost use Rattle.esync_pubsub.specs.Steps.{answered, to_read, Leaving, Clearing, Publishing, PublishingAtOnce, PollingPublish, ReadingNext, ReadingOn, Streaming};
 
 use super::{
     DynImmediatePublisher, DynPublisher, DynSubscriber, Error, Exhausted, ImmediatePub, Pub,
@@ -19,16 +20,27 @@ pub trait LogState<const K: usize>: Drop {
     type Waker: Copy + Eq;
 
     ghost use Rattle.std.specs.Prelude.{ℕ};
+    ghost use Rattle.esync_pubsub.specs.PubSub.{PubSub};
 
     /// How many messages can be held.
     ghost places: { ℕ };
 
+    /// How many subscribers there may be.
+    ghost subscribers: { ℕ };
+
+    /// How many publishers may be counted.
+    ghost publishers: { ℕ };
+
     /// The greatest number of wakers that a step hands out.
     ghost most: { ℕ };
 
-    /// No message, no subscriber, no publisher, and nobody who waits.
+    /// The log, how many publishers are counted, and who waits.
+    ghost channel: { Self → PubSub Self.Message Self.Waker };
+
+    /// No message, no subscriber, no publisher, and nobody who waits. The first message has the number 0.
     fn new() -> Self
-        requires { 1 ≤ places };
+        requires { 1 ≤ places }
+        ensures { channel result ≡ fresh subscribers 0 };
 
     /// How many messages can be held.
     fn capacity() -> usize
@@ -36,21 +48,28 @@ pub trait LogState<const K: usize>: Drop {
 
     /// How many messages are held.
     fn len(&self) -> usize
-        ensures { result ≤ places };
+        ensures value { result ≡ length (channel self.now).log.held }
+        ensures within { result ≤ places };
 
     /// A subscriber comes to the least free place.
-    fn subscribe(&mut self) -> Result<SubId, Error>;
+    fn subscribe(&mut self) -> Result<SubId, Error>
+        ensures log { Subscribes (channel self.old).log result (channel self.new).log }
+        ensures rest { channel self.new ≡ record (channel self.old) { log = (channel self.new).log } };
 
-    /// The subscriber leaves.
+    /// The subscriber leaves, if it is one.
     fn leave(&mut self, id: SubId, wakes: &mut Wakes<Self::Waker, K>)
         requires empty { wakes.old ≡ [] }
-        requires room { most ≤ K };
+        requires room { most ≤ K }
+        ensures step { Leaving id (channel self.old) (channel self.new) wakes.new };
 
     /// Counts one more publisher.
-    fn add_publisher(&mut self) -> Result<(), Error>;
+    fn add_publisher(&mut self) -> Result<(), Error>
+        ensures count { Adds publishers (channel self.old).publishers result (channel self.new).publishers }
+        ensures rest { channel self.new ≡ record (channel self.old) { publishers = (channel self.new).publishers } };
 
     /// Counts one publisher less, where there is one.
-    fn remove_publisher(&mut self);
+    fn remove_publisher(&mut self)
+        ensures { channel self.new ≡ record (channel self.old) { publishers = (channel self.old).publishers - 1 } };
 
     /// Publishes a message for all who are subscribers.
     fn try_publish(
@@ -59,7 +78,8 @@ pub trait LogState<const K: usize>: Drop {
         wakes: &mut Wakes<Self::Waker, K>,
     ) -> Result<(), TryPublishError<Self::Message>>
         requires empty { wakes.old ≡ [] }
-        requires room { most ≤ K };
+        requires room { most ≤ K }
+        ensures step { Publishing Self.Waker.eq places publishers message None (channel self.old) result (channel self.new) wakes.new };
 
     /// Publishes the message of a request where there is room, and a publisher is counted.
     fn poll_publish(
@@ -71,7 +91,8 @@ pub trait LogState<const K: usize>: Drop {
         requires empty { wakes.old ≡ [] }
         requires room { most ≤ K }
         requires unfinished { IsSome request.old }
-        ensures { IfSome request.old (λ message. request.new ≡ still message result) };
+        ensures request { IfSome request.old (λ message. request.new ≡ still message result) }
+        ensures step { IfSome request.old (λ message. PollingPublish Self.Waker.eq places publishers message cx.now (channel self.old) result (channel self.new) wakes.new) };
 
     /// Publishes a message at once.
     fn publish_immediate(
@@ -80,7 +101,8 @@ pub trait LogState<const K: usize>: Drop {
         wakes: &mut Wakes<Self::Waker, K>,
     ) -> Result<(), Exhausted<Self::Message>>
         requires empty { wakes.old ≡ [] }
-        requires room { most ≤ K };
+        requires room { most ≤ K }
+        ensures step { PublishingAtOnce places message (channel self.old) result (channel self.new) wakes.new };
 
     /// What this subscriber reads next.
     fn try_next_message(
@@ -89,7 +111,8 @@ pub trait LogState<const K: usize>: Drop {
         wakes: &mut Wakes<Self::Waker, K>,
     ) -> Result<Option<WaitResult<Self::Message>>, AllocError>
         requires empty { wakes.old ≡ [] }
-        requires room { most ≤ K };
+        requires room { most ≤ K }
+        ensures step { ReadingNext Self.Waker.eq Self.Message.is_clone Self.Message.is_infallible subscribers id.now None (channel self.old) result (channel self.new) wakes.new };
 
     /// The same as a poll.
     fn poll_message(
@@ -99,7 +122,8 @@ pub trait LogState<const K: usize>: Drop {
         wakes: &mut Wakes<Self::Waker, K>,
     ) -> Result<Poll<WaitResult<Self::Message>>, AllocError>
         requires empty { wakes.old ≡ [] }
-        requires room { most ≤ K };
+        requires room { most ≤ K }
+        ensures step { ReadingNext Self.Waker.eq Self.Message.is_clone Self.Message.is_infallible subscribers id.now (Some cx.now) (channel self.old) (answered result) (channel self.new) wakes.new };
 
     /// The message that this subscriber reads next, past a lag.
     fn try_next_message_pure(
@@ -108,7 +132,8 @@ pub trait LogState<const K: usize>: Drop {
         wakes: &mut Wakes<Self::Waker, K>,
     ) -> Result<Option<Self::Message>, AllocError>
         requires empty { wakes.old ≡ [] }
-        requires room { most ≤ K };
+        requires room { most ≤ K }
+        ensures step { ReadingOn Self.Waker.eq Self.Message.is_clone Self.Message.is_infallible subscribers id.now None (channel self.old) result (channel self.new) wakes.new };
 
     /// The same as a poll.
     fn poll_message_pure(
@@ -118,7 +143,8 @@ pub trait LogState<const K: usize>: Drop {
         wakes: &mut Wakes<Self::Waker, K>,
     ) -> Result<Poll<Self::Message>, AllocError>
         requires empty { wakes.old ≡ [] }
-        requires room { most ≤ K };
+        requires room { most ≤ K }
+        ensures step { ReadingOn Self.Waker.eq Self.Message.is_clone Self.Message.is_infallible subscribers id.now (Some cx.now) (channel self.old) (answered result) (channel self.new) wakes.new };
 
     /// Polls the stream of this subscriber's messages.
     fn poll_next(
@@ -128,15 +154,18 @@ pub trait LogState<const K: usize>: Drop {
         wakes: &mut Wakes<Self::Waker, K>,
     ) -> Result<Poll<Option<Self::Message>>, AllocError>
         requires empty { wakes.old ≡ [] }
-        requires room { most ≤ K };
+        requires room { most ≤ K }
+        ensures step { Streaming Self.Waker.eq Self.Message.is_clone Self.Message.is_infallible subscribers id.now cx.now (channel self.old) result (channel self.new) wakes.new };
 
     /// How many messages were published that this subscriber has not read.
-    fn available(&self, id: &SubId) -> u64;
+    fn available(&self, id: &SubId) -> u64
+        ensures { result ≡ to_read id.now (channel self.now).log };
 
     /// Drops all messages, and wakes who waits for room.
     fn clear(&mut self, wakes: &mut Wakes<Self::Waker, K>)
         requires empty { wakes.old ≡ [] }
-        requires room { most ≤ K };
+        requires room { most ≤ K }
+        ensures step { Clearing (channel self.old) (channel self.new) wakes.new };
 }
 
 impl<
@@ -153,7 +182,13 @@ impl<
 
     ghost places = { CAP };
 
+    ghost subscribers = { SUBS };
+
+    ghost publishers = { PUBS };
+
     ghost most = { max (max SUBS PUBS) 1 };
+
+    ghost channel = { λ state. state };
 
     fn new() -> Self {
         PubSubState::new()

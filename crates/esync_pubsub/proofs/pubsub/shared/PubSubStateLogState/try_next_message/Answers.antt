@@ -1,7 +1,17 @@
-use Rattle.std.proofs.Common.{rules}
-use Rattle.esync_pubsub.proofs.Shared.{room_publishers}
+use Rattle.std.proofs.Common.{◌≡◌, true, None, rules}
+use Rattle.esync_pubsub.specs.Log.{is_live}
+use Rattle.esync_pubsub.proofs.Shared.{reads_next, room_publishers}
 use Rattle.esync_pubsub.proofs.pubsub.shared.PubSubStateLogState.try_next_message.Goals as goal
 
 pub try_next_message-requires : goal.try_next_message-requires
 try_next_message-requires g c =
     (search rules, (search rules, (search rules, room_publishers g.row.SUBS g.row.PUBS g.row.K c.args.wakes.now c.requires.room c.requires.empty)))
+
+pub returns : goal.returns
+returns g c =
+    let live : is_live c.args.id.now c.args.self.now.log ≡ true = search rules in
+    let done = c.try_next_message.ensures in
+    record {
+      step = reads_next g.W.PartialEq.eq g.T.Clone.is_clone g.T.Clone.is_infallible g.row.SUBS c.args.id.now c.args.self.now c.try_next_message.new.self c.args.wakes.now c.try_next_message.new.wakes c.requires.empty live None c.try_next_message.result
+          (record { ok = done.ok; rest = done.rest; woken = done.wakes; refused = done.refused; unchanged = done.unchanged; unwoken = done.unwoken });
+    }
