@@ -85,26 +85,6 @@ length-laid n row s l =
     let long = length-read s.front row (omega arith) in
     length-take-le s.count (read_from s.front row) (omega arith)
 
--- the bytes that are held, where none of them stands behind the wrap, and where some do
-pub laid-first : (n : ℕ) (row : List ℕ) (s : Stretch) (k : ℕ) → IsLaid n row s → k ≤ filled_run n s → take k (laid row s) ≡ take k (drop s.front row)
-laid-first n row s k l h =
-    let p = l.places in
-    let e : k ≤ s.count = grind (arith, nat_tests) in
-    let f : k ≤ n - s.front = grind (arith, nat_tests) in
-    take-take k s.count (read_from s.front row) e ∙ read-first s.front k row (omega arith)
-
-pub laid-both : (n : ℕ) (row : List ℕ) (s : Stretch) (k : ℕ) → IsLaid n row s → filled_run n s < k → k ≤ s.count → take k (laid row s) ≡ take (filled_run n s) (drop s.front row) ++ take (k - filled_run n s) row
-laid-both n row s k l h c =
-    let p = l.places in
-    let q = l.first in
-    let r = l.fits in
-    let run : filled_run n s ≡ length row - s.front = grind (arith, nat_tests) in
-    let d = length-drop s.front row in
-    take-take k s.count (read_from s.front row) c
-    ∙ ap (λ i. take i (read_from s.front row)) (let e : k ≡ length row - s.front + (k - filled_run n s) = omega arith in e)
-    ∙ read-past s.front (k - filled_run n s) row (omega arith)
-    ∙ ap (λ t. t ++ take (k - filled_run n s) row) (sym (take_all (filled_run n s) (drop s.front row) (omega arith)))
-
 pub written-nothing : (row : List ℕ) (at : ℕ) → written row at [] ≡ row
 written-nothing row at = ap (λ i. take at row ++ drop i row) (let e : at + 0 ≡ at = omega arith in e) ∙ take-append-drop at row
 
@@ -177,6 +157,11 @@ laid-behind n row s ys l h =
           ∙ take-written (read_from s.front row) ys s.count (omega arith))
     ]
 
+-- no bytes are written wherever a run begins
+at-begin : (row ys : List ℕ) (place run : ℕ) → length ys ≤ run → written row place ys ≡ written row (begins place run) ys
+at-begin row [] place run h = written-nothing row place ∙ sym (written-nothing row (begins place run))
+at-begin row (y ∷ ys) place run h = ap (λ i. written row i (y ∷ ys)) (sym (begins-is place run (omega arith)))
+
 -- the first run of bytes that are written
 laid-run : (n : ℕ) (row : List ℕ) (s : Stretch) (ys : List ℕ) → IsLaid n row s → length ys ≤ free_run n s → laid (written row (begins (slot n s.front s.count) (free_run n s)) ys) (record { front = s.front; count = s.count + length ys }) ≡ laid row s ++ ys
 laid-run n row s [] l h =
@@ -232,40 +217,45 @@ laid-runs n row s ys l h =
           ∙ laid-run n row s ys l le)
     ]
 
-pub length-runs : (n : ℕ) (row : List ℕ) (s : Stretch) (ys : List ℕ) → IsLaid n row s → s.count + length ys ≤ n → length (written (written row (begins (slot n s.front s.count) (free_run n s)) (take (free_run n s) ys)) 0 (drop (free_run n s) ys)) ≡ n
-length-runs n row s ys l h =
+-- where they are written from their place on to the last place of the row, however many of these are free
+runs-to-end : (n : ℕ) (row : List ℕ) (s : Stretch) (ys : List ℕ) → IsLaid n row s → s.count + length ys ≤ n → written (written row (slot n s.front s.count) (take (n - slot n s.front s.count) ys)) 0 (drop (n - slot n s.front s.count) ys) ≡ written (written row (begins (slot n s.front s.count) (free_run n s)) (take (free_run n s) ys)) 0 (drop (free_run n s) ys)
+runs-to-end n row s ys l h =
     let run = free_run n s in
-    let t = length-take run ys in
-    let small : length (take run ys) ≤ run = grind (arith, nat_tests) in
-    let long = length-run n row s (take run ys) l small in
-    let d = length-drop run ys in
-    length-written (written row (begins (slot n s.front s.count) run) (take run ys)) 0 (drop run ys) (omega arith) ∙ long
+    let place = slot n s.front s.count in
+    elim (lt_or_le run (length ys)) [
+      | inl lt ↦ (
+          let end = free-to-end n s (length ys) l.first h lt in
+          let e : n - place ≡ run = elim (slot-is n s.front s.count l.first (omega arith)) [ inl e ↦ omega arith | inr e ↦ omega arith ] in
+          ap (λ k. written (written row place (take k ys)) 0 (drop k ys)) e
+          ∙ ap (λ i. written (written row i (take run ys)) 0 (drop run ys)) (sym (begins-is place run (omega arith))))
+      | inr le ↦ (
+          let within = free-within n s l.first l.fits in
+          let end = n - place in
+          let far : length ys ≤ end = omega arith in
+          ap (λ x. written (written row place x) 0 (drop end ys)) (take_all end ys far)
+          ∙ ap (λ x. written (written row place ys) 0 x) (drop_all end ys far)
+          ∙ ap (λ x. written x 0 []) (at-begin row ys place run le)
+          ∙ ap (λ x. written (written row (begins place run) ys) 0 x) (sym (drop_all run ys le))
+          ∙ ap (λ x. written (written row (begins place run) x) 0 (drop run ys)) (sym (take_all run ys le)))
+    ]
 
--- the oldest bytes that are held stand in two runs
-pub laid-oldest : (n : ℕ) (row : List ℕ) (s : Stretch) (k : ℕ) → IsLaid n row s → k ≤ s.count → take k (take (filled_run n s) (drop (begins s.front (filled_run n s)) row) ++ row) ≡ take k (laid row s)
-laid-oldest n row s k l h = elim (lt_or_le 0 (filled_run n s)) [
-  | inl some ↦ ap (λ i. take k (take (filled_run n s) (drop i row) ++ row)) (begins-is s.front (filled_run n s) some) ∙ (
-      let p = l.places in
-      let d = length-drop s.front row in
-      let within : filled_run n s ≤ n - s.front = grind (arith, nat_tests) in
-      let t = length-take-le (filled_run n s) (drop s.front row) (omega arith) in
-      elim (lt_or_le (filled_run n s) k) [
-        | inl lt ↦ (
-            ap (λ i. take i (take (filled_run n s) (drop s.front row) ++ row)) (let e : k ≡ filled_run n s + (k - filled_run n s) = omega arith in e)
-            ∙ take-past (take (filled_run n s) (drop s.front row)) row (filled_run n s) (k - filled_run n s) t
-            ∙ sym (laid-both n row s k l lt h))
-        | inr le ↦ (
-            take-append-le k (take (filled_run n s) (drop s.front row)) row (omega arith)
-            ∙ take-take k (filled_run n s) (drop s.front row) le
-            ∙ sym (laid-first n row s k l le))
-      ])
-  | inr none ↦ (
-      let p = l.places in
-      let q = l.first in
-      let r = l.fits in
-      let e : k ≡ 0 = grind (arith, nat_tests) in
-      ap (λ i. take i (take (filled_run n s) (drop (begins s.front (filled_run n s)) row) ++ row)) e ∙ sym (ap (λ i. take i (laid row s)) e))
-]
+pub laid-to-end : (n : ℕ) (row : List ℕ) (s : Stretch) (ys : List ℕ) → IsLaid n row s → s.count + length ys ≤ n → laid (written (written row (slot n s.front s.count) (take (n - slot n s.front s.count) ys)) 0 (drop (n - slot n s.front s.count) ys)) (record { front = s.front; count = s.count + length ys }) ≡ laid row s ++ ys
+laid-to-end n row s ys l h = ap (λ x. laid x (record { front = s.front; count = s.count + length ys })) (runs-to-end n row s ys l h) ∙ laid-runs n row s ys l h
+
+-- and from the front on to the last place of the row, and then from the first place on
+pub oldest-to-end : (n : ℕ) (row : List ℕ) (s : Stretch) (k : ℕ) → IsLaid n row s → k ≤ s.count → take k (take (n - s.front) (drop s.front row) ++ row) ≡ take k (laid row s)
+oldest-to-end n row s k l h =
+    let p = l.places in
+    let q = l.first in
+    let r = l.fits in
+    let d = length-drop s.front row in
+    let all = take_all (n - s.front) (drop s.front row) (omega arith) in
+    let both = take-append-drop s.front row in
+    ap (λ x. take k (x ++ row)) all
+    ∙ ap (λ x. take k (drop s.front row ++ x)) (sym both)
+    ∙ ap (take k) (sym (append_assoc (drop s.front row) (take s.front row) (drop s.front row)))
+    ∙ take-append-le k (read_from s.front row) (drop s.front row) (let e = length-read s.front row (omega arith) in omega arith)
+    ∙ sym (take-take k s.count (read_from s.front row) h)
 
 pub laid-left : (n : ℕ) (row : List ℕ) (s : Stretch) (k : ℕ) → IsLaid n row s → k ≤ s.count → IsLaid n row (record { front = slot n s.front k; count = s.count - k })
 laid-left n row s k l h = record {

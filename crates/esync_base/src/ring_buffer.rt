@@ -54,6 +54,14 @@ impl<const N: usize> RingBuffer<N> {
         }
     }
 
+    // The place of the oldest byte, or where the next one goes if there is none.
+    fn first(&self) -> usize
+        ensures value { result ≡ self.now.front }
+        ensures within { result ≤ N - 1 }
+    {
+        self.start
+    }
+
     // How many places are free one behind the other.
     fn free_run(&self) -> usize
         ensures { result ≡ free_run N self.now }
@@ -335,11 +343,11 @@ impl<const N: usize> ByteRing<N> {
         ensures front { self.new.front ≡ self.old.front }
         ensures within { length self.new.items ≤ N }
     {
-        let free = N - self.ring.len();
+        let held = self.ring.len();
+        let free = N - held;
         let n = if from.len() < free { from.len() } else { free };
-        let run = self.ring.push_buf();
-        self.row
-            .copy_in_runs(run.start, run.end - run.start, &from[..n]);
+        let start = self.ring.place(held);
+        self.row.copy_in_runs(start, N - start, &from[..n]);
         self.ring.push(n);
         n
     }
@@ -354,9 +362,8 @@ impl<const N: usize> ByteRing<N> {
     {
         let held = self.ring.len();
         let n = if to.len() < held { to.len() } else { held };
-        let run = self.ring.pop_buf();
-        self.row
-            .copy_out_runs(run.start, run.end - run.start, &mut to[..n]);
+        let start = self.ring.first();
+        self.row.copy_out_runs(start, N - start, &mut to[..n]);
         self.ring.pop(n);
         n
     }

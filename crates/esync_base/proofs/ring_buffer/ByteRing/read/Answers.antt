@@ -1,7 +1,6 @@
 use Rattle.std.proofs.Common.{◌≡◌, ◌≤◌, ◌-◌, ◌++◌, length, take, drop, ap, arith}
 use Rattle.std.proofs.lemmas.List.{length-take-le}
-use Rattle.esync_base.specs.RingBuffer.{filled_run}
-use Rattle.esync_base.proofs.Stretches.{laid-left, laid-rest, laid-oldest}
+use Rattle.esync_base.proofs.Stretches.{laid-left, laid-rest, oldest-to-end}
 use Rattle.esync_base.proofs.ring_buffer.ByteRing.read.Goals as goal
 use Rattle.esync_base.proofs.ring_buffer.ByteRing.read.Goals.{then-to-held, else-to-held}
 
@@ -18,8 +17,7 @@ returns-clause-bytes g c =
     let there : n ≤ a.ring.count = elim c.if-to-held.branch [ then-to-held w ↦ omega arith | else-to-held w ↦ omega arith ] in
     let small : n ≤ length c.args.to.now = elim c.if-to-held.branch [ then-to-held w ↦ omega arith | else-to-held w ↦ omega arith ] in
     let t : length (take n c.args.to.now) ≡ n = length-take-le n c.args.to.now small in
-    let run : c.pop_buf-run.result.end - c.pop_buf-run.result.start ≡ filled_run g.row.N a.ring = (let e = c.pop_buf-run.ensures.end in omega arith) in
-    ap (λ x. x ++ drop n c.args.to.now) (rw (c.copy_out_runs.ensures, run, c.pop_buf-run.ensures.start, t, ← c.self.view_is) (laid-oldest g.row.N a.row.bytes a.ring n c.self.invariant there))
+    ap (λ x. x ++ drop n c.args.to.now) (rw (c.copy_out_runs.ensures, c.first-start.ensures.value, t, ← c.self.view_is) (oldest-to-end g.row.N a.row.bytes a.ring n c.self.invariant there))
 
 pub returns-clause-items : goal.returns-clause-items
 returns-clause-items g c =

@@ -1,7 +1,6 @@
 use Rattle.std.proofs.Common.{◌≡◌, ◌≤◌, ◌-◌, length, take, arith}
 use Rattle.std.proofs.lemmas.List.{length-take-le}
-use Rattle.esync_base.specs.RingBuffer.{free_run}
-use Rattle.esync_base.proofs.Stretches.{laid-runs}
+use Rattle.esync_base.proofs.Stretches.{laid-to-end}
 use Rattle.esync_base.proofs.ring_buffer.ByteRing.write.Goals as goal
 use Rattle.esync_base.proofs.ring_buffer.ByteRing.write.Goals.{then-from-free, else-from-free}
 
@@ -12,6 +11,6 @@ returns-clause-items g c =
     let small : c.if-from-free.n ≤ length c.args.from.now = elim c.if-from-free.branch [ then-from-free w ↦ omega arith | else-from-free w ↦ omega arith ] in
     let room : c.if-from-free.n ≤ g.row.N - a.ring.count = elim c.if-from-free.branch [ then-from-free w ↦ omega arith | else-from-free w ↦ omega arith ] in
     let t : length ys ≡ c.if-from-free.n = length-take-le c.if-from-free.n c.args.from.now small in
-    let run : c.push_buf-run.result.end - c.push_buf-run.result.start ≡ free_run g.row.N a.ring = (let e = c.push_buf-run.ensures.end in omega arith) in
-    let held = rw t at (laid-runs g.row.N a.row.bytes a.ring ys c.self.invariant (let f = c.self.invariant.fits in omega arith)) in
-    rw (c.push.ensures, c.copy_in_runs.ensures, run, c.push_buf-run.ensures.start, ← c.self.view_is) held
+    let len : c.len-held.result ≡ a.ring.count = c.len-held.ensures.value in
+    let held = rw t at (laid-to-end g.row.N a.row.bytes a.ring ys c.self.invariant (let f = c.self.invariant.fits in omega arith)) in
+    rw (c.push.ensures, c.copy_in_runs.ensures, c.place-start.ensures, len, ← c.self.view_is) held
