@@ -8,7 +8,7 @@ use crate::{ours, upstream, Pass};
 pub enum Ours {
     /// An export of the static library: a state form, with no lock.
     Export(Pass),
-    /// A case of the Rattle program over the shared forms, with a lock.
+    /// A case of the Rattle program: a shared form, with a lock, or what takes memory.
     Program(&'static str),
 }
 
@@ -26,7 +26,7 @@ const fn state(name: &'static str, ours: Pass, upstream: Pass) -> Case {
     }
 }
 
-const fn shared(name: &'static str, case: &'static str, upstream: Pass) -> Case {
+const fn program(name: &'static str, case: &'static str, upstream: Pass) -> Case {
     Case {
         name,
         ours: Ours::Program(case),
@@ -34,7 +34,7 @@ const fn shared(name: &'static str, case: &'static str, upstream: Pass) -> Case 
     }
 }
 
-pub const CASES: [Case; 31] = [
+pub const CASES: [Case; 41] = [
     state(
         "channel_ping_pong_4",
         ours::ping_pong_4,
@@ -121,6 +121,46 @@ pub const CASES: [Case; 31] = [
         upstream::mutex_lock::<NoopRawMutex>,
     ),
     state(
+        "mutex_wait_and_wake",
+        ours::mutex_wait_and_wake,
+        upstream::mutex_wait_and_wake::<NoopRawMutex>,
+    ),
+    state(
+        "watch_send_and_read",
+        ours::watch_send_and_read,
+        upstream::watch_send_and_read::<NoopRawMutex>,
+    ),
+    state(
+        "watch_wait_and_wake",
+        ours::watch_wait_and_wake,
+        upstream::watch_wait_and_wake::<NoopRawMutex>,
+    ),
+    state(
+        "once_init_and_get",
+        ours::once_init_and_get,
+        upstream::once_init_and_get,
+    ),
+    state(
+        "pubsub_one",
+        ours::pubsub_one,
+        upstream::pubsub::<NoopRawMutex, 1>,
+    ),
+    state(
+        "pubsub_four",
+        ours::pubsub_four,
+        upstream::pubsub::<NoopRawMutex, 4>,
+    ),
+    state(
+        "pubsub_lag",
+        ours::pubsub_lag,
+        upstream::pubsub_lag::<NoopRawMutex>,
+    ),
+    state(
+        "pubsub_wait_and_wake",
+        ours::pubsub_wait_and_wake,
+        upstream::pubsub_wait_and_wake::<NoopRawMutex>,
+    ),
+    state(
         "greedy_acquire",
         ours::greedy_acquire,
         upstream::permits_acquire::<GreedySemaphore<NoopRawMutex>>,
@@ -175,17 +215,19 @@ pub const CASES: [Case; 31] = [
         ours::pipe_wait_and_wake,
         upstream::pipe_wait_and_wake::<NoopRawMutex, 32, 16>,
     ),
-    shared(
+    program("zerocopy_1024", "slots", upstream::slots::<NoopRawMutex>),
+    program("channel_1024_bytes", "blocks", upstream::blocks::<NoopRawMutex>),
+    program(
         "shared_ping_pong_4",
         "ping_pong",
         upstream::ping_pong::<HostMutex, 4>,
     ),
-    shared(
+    program(
         "shared_wait_and_wake",
         "wait_and_wake",
         upstream::wait_and_wake::<HostMutex>,
     ),
-    shared(
+    program(
         "shared_signal_take",
         "signal_take",
         upstream::signal_take::<HostMutex>,

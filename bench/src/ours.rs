@@ -43,6 +43,14 @@ exports! {
     priority_steady_1024 = esync_bench_priority_steady_1024;
     signal_take = esync_bench_signal_take;
     mutex_lock = esync_bench_mutex_lock;
+    mutex_wait_and_wake = esync_bench_mutex_wait_and_wake;
+    watch_send_and_read = esync_bench_watch_send_and_read;
+    watch_wait_and_wake = esync_bench_watch_wait_and_wake;
+    once_init_and_get = esync_bench_once_init_and_get;
+    pubsub_one = esync_bench_pubsub_one;
+    pubsub_four = esync_bench_pubsub_four;
+    pubsub_lag = esync_bench_pubsub_lag;
+    pubsub_wait_and_wake = esync_bench_pubsub_wait_and_wake;
     greedy_acquire = esync_bench_greedy_acquire;
     greedy_try_acquire = esync_bench_greedy_try_acquire;
     greedy_wait_and_wake = esync_bench_greedy_wait_and_wake;
@@ -61,7 +69,7 @@ exports! {
 }
 
 fn pass<T>(export: Export<T>, messages: &[T]) -> Answer {
-    let mut woken = [0];
+    let mut woken = [0; 4];
     // An export requires nothing but two slices that nobody else writes.
     let total = unsafe {
         export(
@@ -73,7 +81,7 @@ fn pass<T>(export: Export<T>, messages: &[T]) -> Answer {
     };
     Answer {
         total,
-        woken: woken[0],
+        woken: woken.iter().sum(),
     }
 }
 

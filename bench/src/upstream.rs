@@ -8,10 +8,14 @@ use std::task::{Context, Poll, RawWaker, RawWakerVTable, Waker};
 use embassy_sync::blocking_mutex::raw::RawMutex;
 use embassy_sync::channel::Channel;
 use embassy_sync::mutex::Mutex;
+use embassy_sync::once_lock::OnceLock;
 use embassy_sync::pipe::Pipe;
 use embassy_sync::priority_channel::{Max, PriorityChannel};
+use embassy_sync::pubsub::{PubSubChannel, Subscriber, WaitResult};
 use embassy_sync::semaphore::{FairSemaphore, GreedySemaphore, Semaphore, SemaphoreReleaser};
 use embassy_sync::signal::Signal;
+use embassy_sync::watch::Watch;
+use embassy_sync::zerocopy_channel;
 
 use crate::{bytes, Answer};
 
@@ -464,4 +468,299 @@ pub fn pipe_wait_and_wake<M: RawMutex, const N: usize, const K: usize>(messages:
         &Turn::new(),
     );
     answer(total, count.get())
+}
+
+#[inline(never)]
+fn mutex_wait_and_wake_through<M: RawMutex>(
+    mutex: &Mutex<M, ()>,
+    messages: &[u32],
+    cx: &mut Context<'_>,
+    turn: &Turn,
+) -> u64 {
+    let mut total = 0u64;
+    for message in messages {
+        let held = mutex.try_lock();
+        turn.next();
+        let mut locking = pin!(mutex.lock());
+        let _ = locking.as_mut().poll(cx);
+        turn.next();
+        drop(held);
+        turn.next();
+        let locked = locking.as_mut().poll(cx);
+        turn.next();
+        if locked.is_ready() {
+            total = total.wrapping_add((*message).into());
+        }
+        drop(locked);
+        turn.next();
+    }
+    total
+}
+
+pub fn mutex_wait_and_wake<M: RawMutex>(messages: &[u32]) -> Answer {
+    let count = Cell::new(0);
+    let waker = counted(&count);
+    let total = mutex_wait_and_wake_through(
+        &Mutex::<M, ()>::new(()),
+        messages,
+        &mut Context::from_waker(&waker),
+        &Turn::new(),
+    );
+    answer(total, count.get())
+}
+
+#[inline(never)]
+fn watch_send_and_read_through<M: RawMutex>(
+    watch: &Watch<M, u32, 4>,
+    messages: &[u32],
+    turn: &Turn,
+) -> u64 {
+    let mut receiver = watch.receiver().expect("there is a place");
+    let sender = watch.sender();
+    let mut total = 0u64;
+    for message in messages {
+        sender.send(*message);
+        turn.next();
+        total = total.wrapping_add(receiver.try_changed().unwrap_or(0).into());
+        turn.next();
+    }
+    total
+}
+
+pub fn watch_send_and_read<M: RawMutex>(messages: &[u32]) -> Answer {
+    answer(
+        watch_send_and_read_through(&Watch::<M, u32, 4>::new(), messages, &Turn::new()),
+        0,
+    )
+}
+
+#[inline(never)]
+fn watch_wait_and_wake_through<M: RawMutex>(
+    watch: &Watch<M, u32, 4>,
+    messages: &[u32],
+    cx: &mut Context<'_>,
+    turn: &Turn,
+) -> u64 {
+    let mut receiver = watch.receiver().expect("there is a place");
+    let sender = watch.sender();
+    let mut total = 0u64;
+    for message in messages {
+        let mut changed = pin!(receiver.changed());
+        if let Poll::Ready(message) = changed.as_mut().poll(cx) {
+            total = total.wrapping_add(message.into());
+        }
+        turn.next();
+        sender.send(*message);
+        turn.next();
+        if let Poll::Ready(message) = changed.as_mut().poll(cx) {
+            total = total.wrapping_add(message.into());
+        }
+        turn.next();
+    }
+    total
+}
+
+pub fn watch_wait_and_wake<M: RawMutex>(messages: &[u32]) -> Answer {
+    let count = Cell::new(0);
+    let waker = counted(&count);
+    let total = watch_wait_and_wake_through(
+        &Watch::<M, u32, 4>::new(),
+        messages,
+        &mut Context::from_waker(&waker),
+        &Turn::new(),
+    );
+    answer(total, count.get())
+}
+
+#[inline(never)]
+fn once_init_and_get_through(once: &mut OnceLock<u32>, messages: &[u32], turn: &Turn) -> u64 {
+    let mut total = 0u64;
+    for message in messages {
+        let _ = once.init(*message);
+        turn.next();
+        if let Some(message) = once.try_get() {
+            total = total.wrapping_add((*message).into());
+        }
+        turn.next();
+        let _ = once.take();
+        turn.next();
+    }
+    total
+}
+
+pub fn once_init_and_get(messages: &[u32]) -> Answer {
+    answer(
+        once_init_and_get_through(&mut OnceLock::new(), messages, &Turn::new()),
+        0,
+    )
+}
+
+type Topic<M, const SUBS: usize> = PubSubChannel<M, u32, 4, SUBS, 1>;
+type Reader<'a, M, const SUBS: usize> = Subscriber<'a, M, u32, 4, SUBS, 1>;
+
+fn heard<M: RawMutex, const SUBS: usize>(subscriber: &mut Reader<'_, M, SUBS>) -> u64 {
+    match subscriber.try_next_message() {
+        Some(WaitResult::Message(message)) => message.into(),
+        Some(WaitResult::Lagged(missed)) => missed,
+        None => 0,
+    }
+}
+
+#[inline(never)]
+fn pubsub_through<M: RawMutex, const SUBS: usize>(
+    topic: &Topic<M, SUBS>,
+    subscribers: &mut [Reader<'_, M, SUBS>],
+    messages: &[u32],
+    turn: &Turn,
+) -> u64 {
+    let publisher = topic.publisher().expect("there is a place");
+    let mut total = 0u64;
+    for message in messages {
+        let _ = publisher.try_publish(*message);
+        turn.next();
+        for subscriber in &mut *subscribers {
+            total = total.wrapping_add(heard(subscriber));
+            turn.next();
+        }
+    }
+    total
+}
+
+pub fn pubsub<M: RawMutex, const SUBS: usize>(messages: &[u32]) -> Answer {
+    let topic = Topic::<M, SUBS>::new();
+    let mut subscribers: [_; SUBS] =
+        std::array::from_fn(|_| topic.subscriber().expect("there is a place"));
+    answer(
+        pubsub_through(&topic, &mut subscribers, messages, &Turn::new()),
+        0,
+    )
+}
+
+#[inline(never)]
+fn pubsub_lag_through<M: RawMutex>(
+    topic: &Topic<M, 1>,
+    subscriber: &mut Reader<'_, M, 1>,
+    messages: &[u32],
+    turn: &Turn,
+) -> u64 {
+    let publisher = topic.immediate_publisher();
+    let mut total = 0u64;
+    for chunk in messages.chunks(8) {
+        for message in chunk {
+            publisher.publish_immediate(*message);
+            turn.next();
+        }
+        for _ in 0..5 {
+            total = total.wrapping_add(heard(subscriber));
+            turn.next();
+        }
+    }
+    total
+}
+
+pub fn pubsub_lag<M: RawMutex>(messages: &[u32]) -> Answer {
+    let topic = Topic::<M, 1>::new();
+    let mut subscriber = topic.subscriber().expect("there is a place");
+    answer(
+        pubsub_lag_through(&topic, &mut subscriber, messages, &Turn::new()),
+        0,
+    )
+}
+
+fn polled<M: RawMutex>(subscriber: &mut Reader<'_, M, 4>, cx: &mut Context<'_>) -> u64 {
+    match pin!(subscriber.next_message_pure()).poll(cx) {
+        Poll::Ready(message) => message.into(),
+        Poll::Pending => 0,
+    }
+}
+
+#[inline(never)]
+fn pubsub_wait_and_wake_through<M: RawMutex>(
+    topic: &Topic<M, 4>,
+    subscribers: &mut [Reader<'_, M, 4>],
+    wakers: &[Waker],
+    messages: &[u32],
+    turn: &Turn,
+) -> u64 {
+    let publisher = topic.publisher().expect("there is a place");
+    let mut total = 0u64;
+    for message in messages {
+        for (subscriber, waker) in subscribers.iter_mut().zip(wakers) {
+            total = total.wrapping_add(polled(subscriber, &mut Context::from_waker(waker)));
+            turn.next();
+        }
+        let _ = publisher.try_publish(*message);
+        turn.next();
+        for (subscriber, waker) in subscribers.iter_mut().zip(wakers) {
+            total = total.wrapping_add(polled(subscriber, &mut Context::from_waker(waker)));
+            turn.next();
+        }
+    }
+    total
+}
+
+pub fn pubsub_wait_and_wake<M: RawMutex>(messages: &[u32]) -> Answer {
+    let counts: [Cell<u64>; 4] = Default::default();
+    let wakers: [Waker; 4] = std::array::from_fn(|k| counted(&counts[k]));
+    let topic = Topic::<M, 4>::new();
+    let mut subscribers: [_; 4] =
+        std::array::from_fn(|_| topic.subscriber().expect("there is a place"));
+    let total = pubsub_wait_and_wake_through(
+        &topic,
+        &mut subscribers,
+        &wakers,
+        messages,
+        &Turn::new(),
+    );
+    answer(total, counts.iter().map(Cell::get).sum())
+}
+
+fn block(message: u32) -> [u8; 1024] {
+    [message as u8; 1024]
+}
+
+#[inline(never)]
+fn slots_through<M: RawMutex>(
+    sender: &mut zerocopy_channel::Sender<'_, M, [u8; 1024]>,
+    receiver: &mut zerocopy_channel::Receiver<'_, M, [u8; 1024]>,
+    messages: &[u32],
+) -> u64 {
+    let mut total = 0u64;
+    for message in messages {
+        if let Some(slot) = sender.try_send() {
+            *slot = block(*message);
+            sender.send_done();
+        }
+        if let Some(slot) = receiver.try_receive() {
+            total = total.wrapping_add(slot[1023].into());
+            receiver.receive_done();
+        }
+    }
+    total
+}
+
+pub fn slots<M: RawMutex>(messages: &[u32]) -> Answer {
+    let mut row = [[0; 1024]; 2];
+    let mut channel = zerocopy_channel::Channel::<M, [u8; 1024]>::new(&mut row);
+    let (mut sender, mut receiver) = channel.split();
+    answer(slots_through(&mut sender, &mut receiver, messages), 0)
+}
+
+#[inline(never)]
+fn blocks_through<M: RawMutex>(channel: &Channel<M, [u8; 1024], 2>, messages: &[u32]) -> u64 {
+    let mut total = 0u64;
+    for message in messages {
+        let _ = channel.try_send(block(*message));
+        if let Ok(block) = channel.try_receive() {
+            total = total.wrapping_add(block[1023].into());
+        }
+    }
+    total
+}
+
+pub fn blocks<M: RawMutex>(messages: &[u32]) -> Answer {
+    answer(
+        blocks_through(&Channel::<M, [u8; 1024], 2>::new(), messages),
+        0,
+    )
 }

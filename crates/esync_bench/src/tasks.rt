@@ -3,7 +3,7 @@ use esync_base::waitqueue::{TaskId, Wakes};
 use std::sync::atomic::{AtomicU64, Ordering};
 
 /// Counts a wake of each task that a step hands out. A task that has no place in the row isn't counted.
-pub fn hand_out(wakes: &Wakes<TaskId, 1>, woken: &mut [u64]) {
+pub fn hand_out<const K: usize>(wakes: &Wakes<TaskId, K>, woken: &mut [u64]) {
     for waker in wakes.as_slice() {
         if let Some(TaskId(task)) = waker {
             if let Some(count) = woken.get_mut(*task as usize) {

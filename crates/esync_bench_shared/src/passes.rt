@@ -1,7 +1,11 @@
 //! The passes, in the shapes of the static library's.
-use esync_base::waitqueue::{Context, Hand, Poll, TaskId};
+ghost use Rattle.std.specs.Prelude.{◌<◌, length};
+
+use esync_base::waitqueue::{Context, Hand, Poll, TaskId, Wakes};
 use esync_cells::signal::Signal;
-use esync_channel::channel::Channel;
+use esync_channel::channel::{Channel, ChannelState};
+use esync_zerocopy::zerocopy_channel::ChannelState as SlotsState;
+use std::alloc::AllocError;
 use std::cell::Cell;
 use std::sync::Wait;
 
@@ -23,6 +27,10 @@ pub enum Case {
     WaitAndWake,
     /// It is signaled and then taken.
     SignalTake,
+    /// A block of 1024 of its last byte is written into one of two slots and read there.
+    Slots,
+    /// The same block is sent through a channel of two, and received.
+    Blocks,
 }
 
 impl Case {
@@ -31,11 +39,18 @@ impl Case {
             "ping_pong" => Some(Case::PingPong),
             "wait_and_wake" => Some(Case::WaitAndWake),
             "signal_take" => Some(Case::SignalTake),
+            "slots" => Some(Case::Slots),
+            "blocks" => Some(Case::Blocks),
             _ => None,
         }
     }
 
-    pub fn pass<R: Wait>(self, rt: &R, messages: &[u32]) -> Answer {
+    /// One pass.
+    ///
+    /// # Errors
+    ///
+    /// `AllocError` where there is no memory for the two slots.
+    pub fn pass<R: Wait + Alloc>(self, rt: &R, messages: &[u32]) -> Result<Answer, AllocError> {
         let hand = Counting {
             rt,
             woken: Cell::new(0),
@@ -44,11 +59,16 @@ impl Case {
             Case::PingPong => ping_pong(&Channel::new(&hand), messages),
             Case::WaitAndWake => wait_and_wake(&Channel::new(&hand), messages),
             Case::SignalTake => signal_take(&Signal::new(&hand), messages),
+            Case::Slots => {
+                let slots = vec![in rt.alloc(); [0; 1024], [0; 1024]]?;
+                slots_one_by_one(&mut SlotsState::new(slots), messages)
+            }
+            Case::Blocks => blocks(&mut ChannelState::new(), messages),
         };
-        Answer {
+        Ok(Answer {
             total,
             woken: hand.woken.get(),
-        }
+        })
     }
 }
 
@@ -109,6 +129,47 @@ fn signal_take<'a, R: Wait>(
     for message in messages {
         signal.signal(*message);
         total = total.wrapping_add(u64::from(signal.try_take().unwrap_or(0)));
+    }
+    total
+}
+
+// The last byte of a message, as a block of 1024.
+fn block(message: u32) -> [u8; 1024] {
+    [message as u8; 1024]
+}
+
+#[inline(never)]
+fn slots_one_by_one(channel: &mut SlotsState<[u8; 1024], TaskId>, messages: &[u32]) -> u64 {
+    let mut total = 0u64;
+    for message in messages {
+        if let Some(slot) = channel.try_send() {
+            *slot = block(*message);
+        }
+        if !channel.is_full() {
+            let mut wakes: Wakes<TaskId, 1> = Wakes::new();
+            channel.send_done(&mut wakes);
+        }
+        if let Some(slot) = channel.try_receive() {
+            total = total.wrapping_add(u64::from(slot[1023]));
+        }
+        if !channel.is_empty() {
+            let mut wakes: Wakes<TaskId, 1> = Wakes::new();
+            channel.receive_done(&mut wakes);
+        }
+    }
+    total
+}
+
+#[inline(never)]
+fn blocks(channel: &mut ChannelState<[u8; 1024], TaskId, 2>, messages: &[u32]) -> u64 {
+    let mut total = 0u64;
+    for message in messages {
+        let mut wakes: Wakes<TaskId, 1> = Wakes::new();
+        let _ = channel.try_send(block(*message), &mut wakes);
+        let mut wakes: Wakes<TaskId, 1> = Wakes::new();
+        if let Ok(block) = channel.try_receive(&mut wakes) {
+            total = total.wrapping_add(u64::from(block[1023]));
+        }
     }
     total
 }
