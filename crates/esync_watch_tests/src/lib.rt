@@ -5,3 +5,7 @@
 mod reads;
 #[cfg(test)]
 mod receivers;
+#[cfg(test)]
+mod sends;
+#[cfg(test)]
+mod waits;

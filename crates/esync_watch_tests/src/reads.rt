@@ -1,3 +1,4 @@
+use esync_base::waitqueue::{Context, Poll};
 use esync_cells::watch::{Rcv, Snd, Watch, WatchBehavior};
 use esync_notes::{Notes, woken};
 use std::process::Abort;
@@ -62,4 +63,46 @@ fn a_cleared_value_is_no_news(rt: HostRuntime) {
     assert!(rt; receiver.try_changed() == Ok(Some(2)));
     assert_eq!(rt; watch.get_msg_id(), 3);
     woken!(&rt, &notes, &[]);
+}
+
+#[test]
+fn all_try_get(rt: HostRuntime) {
+    let notes = Notes::new(&rt);
+    let watch: Places<_, 1> = Watch::new(&notes);
+    let mut receiver = receives(&rt, watch.receiver());
+    let sender = watch.sender();
+    assert!(rt; watch.try_get() == Ok(None));
+    assert!(rt; receiver.try_get() == Ok(None));
+    assert!(rt; sender.try_get() == Ok(None));
+    sends(&rt, &sender, 10);
+    assert!(rt; watch.try_get() == Ok(Some(10)));
+    assert!(rt; receiver.try_get() == Ok(Some(10)));
+    assert!(rt; sender.try_get() == Ok(Some(10)));
+    assert!(rt; watch.try_get_and(|x| *x > 5) == Ok(Some(10)));
+    assert!(rt; receiver.try_get_and(|x| *x > 5) == Ok(Some(10)));
+    assert!(rt; sender.try_get_and(|x| *x > 5) == Ok(Some(10)));
+    assert!(rt; watch.try_get_and(|x| *x < 5) == Ok(None));
+    assert!(rt; receiver.try_get_and(|x| *x < 5) == Ok(None));
+    assert!(rt; sender.try_get_and(|x| *x < 5) == Ok(None));
+}
+
+#[test]
+fn predicate_fn(rt: HostRuntime) {
+    let notes = Notes::new(&rt);
+    let watch: Places<_, 1> = Watch::new(&notes);
+    let mut receiver = receives(&rt, watch.receiver());
+    sends(&rt, &watch.sender(), 15);
+    assert!(rt; receiver.try_get_and(|x| *x > 5) == Ok(Some(15)));
+    assert!(rt; receiver.try_get_and(|x| *x < 5) == Ok(None));
+    assert!(rt; receiver.try_changed() == Ok(None));
+    sends(&rt, &watch.sender(), 20);
+    assert!(rt; receiver.try_changed_and(|x| *x > 5) == Ok(Some(20)));
+    assert!(rt; receiver.try_changed_and(|x| *x > 5) == Ok(None));
+    sends(&rt, &watch.sender(), 25);
+    assert!(rt; receiver.try_changed_and(|x| *x < 5) == Ok(None));
+    assert!(rt; receiver.try_changed() == Ok(Some(25)));
+    sends(&rt, &watch.sender(), 30);
+    let context = Context::from_waker(1);
+    assert!(rt; receiver.changed_and(|x| *x > 5).poll(&context) == Ok(Poll::Ready(30)));
+    assert!(rt; receiver.get_and(|x| *x > 5).poll(&context) == Ok(Poll::Ready(30)));
 }

@@ -1,5 +1,5 @@
 use crate::reads::{Places, receives, sends};
-use esync_cells::watch::Watch;
+use esync_cells::watch::{DynReceiver, DynSender, Watch};
 use esync_notes::Notes;
 use std::process::Abort;
 
@@ -37,11 +37,12 @@ fn convert_to_dyn(rt: HostRuntime) {
     let watch: Places<_, 2> = Watch::new(&notes);
     let mut anonymous = watch.anon_receiver().as_dyn();
     let mut receiver = receives(&rt, watch.receiver()).as_dyn();
-    let sender = watch.sender().as_dyn();
+    let sender: DynSender<'_, _> = watch.sender().into();
     sends(&rt, &sender, 10);
     assert!(rt; anonymous.try_changed() == Ok(Some(10)));
     assert!(rt; receiver.try_changed() == Ok(Some(10)));
-    assert!(rt; receiver.try_changed() == Ok(None));
+    let mut same: DynReceiver<'_, _> = receiver.into();
+    assert!(rt; same.try_changed() == Ok(None));
 }
 
 #[test]
@@ -71,4 +72,39 @@ fn a_watch_without_places_has_anonymous_receivers_alone(rt: HostRuntime) {
     assert!(rt; anonymous.try_changed_and(|x| *x > 5) == Ok(Some(10)));
     assert!(rt; anonymous.try_changed() == Ok(None));
     assert!(rt; anonymous.try_get() == Ok(Some(10)));
+}
+
+#[test]
+fn receive_after_create(rt: HostRuntime) {
+    let notes = Notes::new(&rt);
+    let watch: Places<_, 1> = Watch::new(&notes);
+    sends(&rt, &watch.sender(), 10);
+    let mut receiver = receives(&rt, watch.receiver());
+    assert!(rt; receiver.try_changed() == Ok(Some(10)));
+}
+
+#[test]
+fn max_receivers_drop(rt: HostRuntime) {
+    let notes = Notes::new(&rt);
+    let watch: Places<_, 2> = Watch::new(&notes);
+    let first = watch.receiver();
+    assert!(rt; first.is_some());
+    let second = watch.receiver();
+    assert!(rt; second.is_some());
+    assert!(rt; watch.receiver().is_none());
+    drop(first);
+    assert!(rt; watch.receiver().is_some());
+}
+
+#[test]
+fn multiple_receivers(rt: HostRuntime) {
+    let notes = Notes::new(&rt);
+    let watch: Places<_, 2> = Watch::new(&notes);
+    let mut receiver = receives(&rt, watch.receiver());
+    let mut anonymous = watch.anon_receiver();
+    assert!(rt; receiver.try_changed() == Ok(None));
+    assert!(rt; anonymous.try_changed() == Ok(None));
+    sends(&rt, &watch.sender(), 0);
+    assert!(rt; receiver.try_changed() == Ok(Some(0)));
+    assert!(rt; anonymous.try_changed() == Ok(Some(0)));
 }

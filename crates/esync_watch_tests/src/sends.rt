@@ -1,0 +1,70 @@
+use crate::reads::{Places, receives, sends};
+use esync_base::waitqueue::{Context, Poll, Wakes};
+use esync_cells::watch::{Change, Watch, WatchState};
+use esync_notes::Notes;
+use std::process::Abort;
+
+// Adds this much to a value, modulo 2^32.
+#[derive(Drop)]
+struct Adds(u32);
+
+impl Change<u32> for Adds {
+    ghost use Rattle.std.specs.Prelude.{◌+◌, ◌%◌, ◌^◌, true};
+    ghost use Rattle.std.specs.Option.{option_map};
+
+    ghost changed = { λ c v. option_map (λ x. (x + c.0) % 2 ^ 32) v };
+
+    ghost tells = { λ _ _. true };
+
+    fn apply(&self, value: &mut Option<u32>) -> bool {
+        if let Some(present) = *value {
+            *value = Some(present.wrapping_add(self.0));
+        }
+        true
+    }
+
+    ghost a_change_tells = { λ _ _ told. absurd cc };
+}
+
+#[test]
+fn multiple_sends(rt: HostRuntime) {
+    let notes = Notes::new(&rt);
+    let watch: Places<_, 1> = Watch::new(&notes);
+    let mut receiver = receives(&rt, watch.receiver());
+    assert!(rt; receiver.try_changed() == Ok(None));
+    sends(&rt, &watch.sender(), 10);
+    assert!(rt; receiver.changed().poll(&Context::from_waker(1)) == Ok(Poll::Ready(10)));
+    sends(&rt, &watch.sender(), 20);
+    assert!(rt; receiver.try_changed() == Ok(Some(20)));
+    assert!(rt; receiver.try_changed() == Ok(None));
+}
+
+#[test]
+fn sender_modify(rt: HostRuntime) {
+    let notes = Notes::new(&rt);
+    let watch: Places<_, 1> = Watch::new(&notes);
+    let mut receiver = receives(&rt, watch.receiver());
+    sends(&rt, &watch.sender(), 10);
+    assert!(rt; receiver.try_changed() == Ok(Some(10)));
+    assert!(rt; watch.sender().send_modify(&Adds(5)) == Ok(()));
+    assert!(rt; receiver.try_changed() == Ok(Some(15)));
+    assert!(rt; receiver.try_changed() == Ok(None));
+}
+
+// Sends where no version is left.
+fn sends_once_more() -> anyhow::Result<()> {
+    let mut watch: WatchState<u32, u64, 1> = WatchState::new_at(u64::MAX);
+    let mut wakes: Wakes<u64, 1> = Wakes::new();
+    watch.send(1, &mut wakes)?;
+    Ok(())
+}
+
+#[test]
+fn an_exhausted_watch_says_why(rt: HostRuntime) -> anyhow::Result<()> {
+    let Err(error) = sends_once_more() else {
+        rt.abort()
+    };
+    let text = format!(in rt.alloc(); "{error}")?;
+    assert_eq!(rt; text.as_str(), "the versions have run out");
+    Ok(())
+}
