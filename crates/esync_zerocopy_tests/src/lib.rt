@@ -7,3 +7,4 @@ mod shared;
 mod states;
 #[cfg(test)]
 mod threads;
+pub mod uses;

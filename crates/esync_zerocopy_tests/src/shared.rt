@@ -123,3 +123,27 @@ fn a_side_is_done_with_the_slot_that_is_next(rt: HostRuntime) -> Result<(), Fail
     assert_eq!(rt; channel.len(), 0);
     Ok(())
 }
+
+#[test]
+fn what_was_written_stays_when_a_slot_is_lent_again(rt: HostRuntime) -> Result<(), Fail> {
+    let notes = Notes::new(&rt);
+    let five = Context::from_waker(5);
+    let mut channel = Channel::new(vec![in rt.alloc(); Slot::new(0u32)]?, &notes);
+    let (mut sender, mut receiver) = channel.split();
+    pending(&rt, receiver.poll_receive(&five));
+    let mut slot = lent(&rt, sender.try_send());
+    *slot.get_mut() = 3;
+    slot.end();
+    let slot = lent(&rt, sender.try_send());
+    assert_eq!(rt; *slot.get(), 3);
+    slot.done();
+    woken!(&rt, &notes, &[5]);
+    let received = ready(&rt, receiver.poll_receive(&five));
+    assert_eq!(rt; *received.get(), 3);
+    assert_eq!(rt; sender.clear(), Err(SlotLent));
+    received.done();
+    receiver.receive_done();
+    assert_eq!(rt; (sender.clear(), sender.free_capacity()), (Ok(()), 1));
+    woken!(&rt, &notes, &[]);
+    Ok(())
+}

@@ -51,3 +51,29 @@ fn a_slot_that_is_handed_on_wakes_who_waits_for_it(rt: HostRuntime) -> Result<()
     assert!(rt; channel.poll_send(&Context::from_waker(2), &mut wakes) == Poll::Ready(&mut 4));
     Ok(())
 }
+
+#[test]
+fn what_was_written_stays_when_a_slot_is_lent_again(rt: HostRuntime) -> Result<(), Fail> {
+    let mut channel: ChannelState<u32, u64> = ChannelState::new(vec![in rt.alloc(); 0]?);
+    let mut wakes: Wakes<u64, 1> = Wakes::new();
+    let five = Context::from_waker(5);
+    assert!(rt; channel.poll_receive(&five, &mut wakes) == Poll::Pending);
+    if let Some(slot) = channel.try_send() {
+        *slot = 3;
+    }
+    assert!(rt; channel.try_send() == Some(&mut 3));
+    if !channel.is_full() {
+        channel.send_done(&mut wakes);
+    }
+    assert_eq!(rt; wakes.get(0), Some(5));
+    let mut wakes: Wakes<u64, 1> = Wakes::new();
+    assert!(rt; channel.poll_receive(&five, &mut wakes) == Poll::Ready(&mut 3));
+    assert_eq!(rt; channel.clear(Side::Sender, &mut wakes), Err(SlotLent));
+    if !channel.is_empty() {
+        channel.receive_done(&mut wakes);
+    }
+    assert!(rt; channel.is_empty());
+    assert_eq!(rt; channel.clear(Side::Sender, &mut wakes), Ok(()));
+    assert!(rt; wakes.is_empty());
+    Ok(())
+}
