@@ -6,7 +6,7 @@ ghost use Rattle.esync_guards.specs.Mutex.{tried, polled, waiter_where_held};
 use esync_base::kept::Kept;
 use esync_base::waitqueue::{Context, Poll, WakerRegistration, Wakes};
 pub use projection::{Projection, Second, Then, put_part};
-pub use shared::{Guard, LockFuture, MappedGuard, MappedMutexGuard, Mutex, MutexGuard, Unlocks};
+pub use shared::{Guard, LockFuture, MappedGuard, MappedMutexGuard, Mutex, MutexGuard};
 use std::alloc::AllocError;
 use std::marker::Model;
 use thiserror::Error;

@@ -134,7 +134,7 @@ impl<'a, T, W: Copy + Eq, H: Hand<W>> LockFuture<'a, T, W, H> {
     }
 }
 
-/// What a guard unlocks at its end.
+/// What a guard unlocks at its end. No other crate can name it, so that nothing but the end of a guard unlocks.
 pub trait Unlocks {
     type Rt: Wait;
 
