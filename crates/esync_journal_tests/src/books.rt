@@ -1,6 +1,7 @@
 //! A book whose two seats take turns at a channel of one, and what four audits of it say.
 ghost use Rattle.std.specs.Prelude.{◌≡◌, ◌<◌};
 
+use crate::seats::settle_two;
 use esync_base::waitqueue::TaskId;
 use esync_channel::channel::machine::{
     ChannelCall, ChannelCommand, ChannelHeard, ChannelReply, ChannelRun,
@@ -90,4 +91,10 @@ fn two_seats_take_turns(rt: HostRuntime) -> Result<(), Fail> {
         ChannelHeard::TrySent(Err(TrySendError::Full(7))),
     );
     two_seats::<Brand>(&rt, rt.alloc(), Blank::new(3), other)
+}
+
+#[test]
+fn two_books_are_settled_with_their_own_seats(rt: HostRuntime) -> Result<(), Fail> {
+    assert!(rt; settle_two(rt.alloc())? == (Some(1), Some(0)));
+    Ok(())
 }

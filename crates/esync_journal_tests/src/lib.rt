@@ -7,5 +7,6 @@ mod books;
 mod flags;
 #[cfg(test)]
 mod refused;
+pub mod seats;
 #[cfg(test)]
 mod threads;

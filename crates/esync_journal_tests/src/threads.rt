@@ -17,6 +17,8 @@ use esync_permits::semaphore::{Amount, FairState, GreedyState};
 use esync_pipe::bytes::Bytes;
 use esync_pipe::pipe::PipeState;
 use esync_pipe::pipe::machine::{PipeCall, PipeCommand, PipeHeard, PipeRun};
+use esync_priority::priority_channel::machine::PriorityRun;
+use esync_priority::priority_channel::{ChannelState as PriorityState, Max};
 use std::alloc::{AllocError, Global};
 use std::marker::Brand;
 use std::process::Abort;
@@ -144,6 +146,29 @@ fn channel<L: Ledger + Send + Sync, R: Threads + Wait + Abort + Sync>(
 #[test]
 fn two_threads_call_a_recorded_channel(rt: HostRuntime) -> Result<(), Fail> {
     channel::<Brand, _>(&rt, rt.alloc(), Blank::new(3))
+}
+
+// Two threads send and receive by priority.
+fn priority_channel<L: Ledger + Send + Sync, R: Threads + Wait + Abort + Sync>(
+    rt: &R,
+    alloc: Global,
+    blank: Blank,
+) -> Result<(), Fail>
+    requires ledger { blank.name ≡ L.name }
+    requires parts { blank.parts ≡ L.parts }
+    requires room { 2 < blank.parts }
+{
+    let channel: PriorityRun<u32, TaskId, Max, 4, 16, 1> = Requests::new(PriorityState::new());
+    let look = (
+        Command::Call(ChannelCall::Len),
+        told(ChannelHeard::Number(0)),
+    );
+    call_by_two!(rt, alloc, blank, L, channel, [sends(1), sends(2)], look)
+}
+
+#[test]
+fn two_threads_call_a_recorded_priority_channel(rt: HostRuntime) -> Result<(), Fail> {
+    priority_channel::<Brand, _>(&rt, rt.alloc(), Blank::new(3))
 }
 
 // Two threads write and read.
