@@ -18,7 +18,7 @@ use Rattle.esync_machine.specs.declared.primitive.Command.{Command}
 use Rattle.esync_machine.specs.declared.primitive.Command.TheVariants.{Start, Poll, End, Call}
 use Rattle.esync_cells.specs.Watch.{Answers, seen_after}
 use Rattle.esync_cells.specs.Receivers.{is_free, with_seen, with_seen_if}
-use Rattle.esync_cells.specs.ReceiversLaws.{at_marked}
+use Rattle.esync_cells.specs.ReceiversLaws.{and_first, and_second, nobody, at_marked}
 use Rattle.esync_cells.specs.WatchRules.{Watch, sought, marks, with_read, with_receiver, PollsAs, Calls, Joins, JoinsAnon, Leaves, Tried, Reads, reach, watch_rules}
 use Rattle.esync_cells.specs.WatchNews.{is_told, told_by, told_after, TellsNoMore, TellsOnce}
 use Rattle.esync_cells.specs.declared.watch.machine.Seen.{Seen}
@@ -32,23 +32,12 @@ use Rattle.esync_cells.specs.declared.watch.machine.WatchHeard.TheVariants.{Foun
 use Rattle.esync_cells.proofs.OnceSet.{nothing_here}
 use Rattle.esync_cells.proofs.WatchKept.{not_newer, seen_or_not, seen_same}
 
-not_both : (b : Bool) → (b && false) ≡ true → ⊥
-not_both true e = cc
-not_both false e = cc
-
-both_first : (a b : Bool) → (a && b) ≡ true → a ≡ true
-both_first true b e = refl
-both_first false b e = absurd cc
-
-both_second : (a b : Bool) → (a && b) ≡ true → b ≡ true
-both_second true b e = e
-both_second false b e = absurd cc
-
 -- a free number is another one than that of somebody
 free_elsewhere : (r h : ℕ) (q : List (Option Seen)) (s : Seen) → is_free r q ≡ true → at_number q h ≡ Some s → r ≡ h → ⊥
 free_elsewhere r h q s free there same =
-    let here : at_number q r ≡ Some s = ap (at_number q) same ∙ there in
-    not_both (nat_lt r (length q)) (subst (λ p. (nat_lt r (length q) && is_none p) ≡ true) here free)
+    let some : at_number q r ≡ Some s = ap (at_number q) same ∙ there in
+    let none : at_number q r ≡ None = nobody (at_number q r) (and_second (nat_lt r (length q)) (is_none (at_number q r)) free) in
+    absurd cc
 
 -- a read that marks a newer version leaves no newer one
 marked_newer : {T : Type 0} (b : Bool) (version seen : ℕ) (p : Option T) → nat_lt seen version ≡ b → nat_lt (seen_after {E = AllocError} b version seen (Ok p)) version ≡ false
@@ -121,7 +110,7 @@ module _ {T : Type 0} (h : ℕ) where
 
       found_as : (p : Option T) (b : Bool) → (r == h && is_told read p) ≡ b → IsThere o k → IsThere (after_read p) (if b then true else k)
       found_as p true e there =
-          told_here p (same_number r h (both_first (r == h) (is_told read p) e)) (both_second (r == h) (is_told read p) e)
+          told_here p (same_number r h (and_first (r == h) (is_told read p) e)) (and_second (r == h) (is_told read p) e)
       found_as p false e there =
           read_at o r _ s k at (seen_or_not {E = AllocError} (marks o.version s.version read) o.version s.version (Ok p)) there
 

@@ -21,15 +21,15 @@ same_less : (b : Bool) (n m : ℕ) → counted b n ≡ counted b m → n ≡ m
 same_less true n m e = omega arith
 same_less false n m e = e
 
-and_first : (a b : Bool) → (a && b) ≡ true → a ≡ true
+pub and_first : (a b : Bool) → (a && b) ≡ true → a ≡ true
 and_first true b e = refl
 and_first false b e = absurd cc
 
-and_second : (a b : Bool) → (a && b) ≡ true → b ≡ true
+pub and_second : (a b : Bool) → (a && b) ≡ true → b ≡ true
 and_second true b e = e
 and_second false b e = absurd cc
 
-nobody : (p : Option Seen) → is_none p ≡ true → p ≡ None
+pub nobody : (p : Option Seen) → is_none p ≡ true → p ≡ None
 nobody None e = refl
 nobody (Some s) e = absurd cc
 
