@@ -70,20 +70,26 @@ fn all_try_get(rt: HostRuntime) {
     let notes = Notes::new(&rt);
     let watch: Places<_, 1> = Watch::new(&notes);
     let mut receiver = receives(&rt, watch.receiver());
-    let sender = watch.sender();
     assert!(rt; watch.try_get() == Ok(None));
     assert!(rt; receiver.try_get() == Ok(None));
-    assert!(rt; sender.try_get() == Ok(None));
-    sends(&rt, &sender, 10);
+    assert!(rt; watch.sender().try_get() == Ok(None));
+    sends(&rt, &watch.sender(), 10);
     assert!(rt; watch.try_get() == Ok(Some(10)));
     assert!(rt; receiver.try_get() == Ok(Some(10)));
-    assert!(rt; sender.try_get() == Ok(Some(10)));
+    assert!(rt; watch.sender().try_get() == Ok(Some(10)));
+}
+
+#[test]
+fn all_try_get_and(rt: HostRuntime) {
+    let notes = Notes::new(&rt);
+    let watch: Places<_, 1> = Watch::new_with(10, &notes);
+    let mut receiver = receives(&rt, watch.receiver());
     assert!(rt; watch.try_get_and(|x| *x > 5) == Ok(Some(10)));
     assert!(rt; receiver.try_get_and(|x| *x > 5) == Ok(Some(10)));
-    assert!(rt; sender.try_get_and(|x| *x > 5) == Ok(Some(10)));
+    assert!(rt; watch.sender().try_get_and(|x| *x > 5) == Ok(Some(10)));
     assert!(rt; watch.try_get_and(|x| *x < 5) == Ok(None));
     assert!(rt; receiver.try_get_and(|x| *x < 5) == Ok(None));
-    assert!(rt; sender.try_get_and(|x| *x < 5) == Ok(None));
+    assert!(rt; watch.sender().try_get_and(|x| *x < 5) == Ok(None));
 }
 
 #[test]
