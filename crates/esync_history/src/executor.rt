@@ -12,6 +12,7 @@ use esync_base::waitqueue::TaskId;
 use esync_machine::run::Awaits;
 use std::alloc::{AllocError, Global};
 use std::marker::Model;
+use thiserror::Error;
 
 /// What a task does, an act after another.
 #[derive(Clone, Copy, Debug, PartialEq, Eq)]
@@ -24,12 +25,14 @@ pub enum Act<A, C> {
 }
 
 /// Why there is no executor. The machine and the tasks that were handed in are dropped.
-#[derive(Clone, Copy, Debug, PartialEq, Eq)]
+#[derive(Clone, Copy, Debug, PartialEq, Eq, Error)]
 pub enum NewError {
     /// Two Awaits use one number, an Await uses one that the machine hasn't, or a Call starts or polls. No memory was asked
     /// for.
+    #[error("a request is used twice or isn't the machine's, or a call starts or polls")]
     NoSuch,
     /// There was no memory for the tasks.
+    #[error("there was no memory for the tasks")]
     NoMemory,
 }
 
