@@ -1,10 +1,15 @@
 use esync_base::waitqueue::TaskId;
+use esync_cells::once_lock::OnceState;
 use esync_cells::signal::SignalState;
 use esync_history::executor::{Act, Executor, Outcome};
+use esync_run::once_lock::{Get, OnceCall, OnceRun};
 use esync_run::primitive::Command;
 use esync_run::requests::Requests;
 use esync_run::signal::{SignalCall, SignalCommand, SignalRun, Wait};
+use std::alloc::Global;
 use std::test::Fail;
+
+type Once = OnceRun<u32, TaskId, 16, 1>;
 
 type Signal = SignalRun<u32, TaskId, 16, 1>;
 
@@ -37,5 +42,26 @@ fn one_value_of_two_waits_is_taken_once(rt: HostRuntime) -> Result<(), Fail> {
     assert_eq!(rt; executor.run(4), Outcome::Limit);
     assert_eq!(rt; executor.run(1), Outcome::Stalled);
     assert_eq!(rt; executor.run(10), Outcome::Stalled);
+    Ok(())
+}
+
+// A task that waits for a value that is set once, and perhaps one that sets it.
+fn once(alloc: Global, is_set: bool) -> Result<Executor<Once>, Fail> {
+    let once: Once = Requests::new(OnceState::new());
+    let mut tasks = vec![in alloc; vec![in alloc; Act::Await(0, Get {})]?]?;
+    if is_set {
+        let sets = Act::Call(Command::Call(OnceCall::Init(5)));
+        tasks.push(vec![in alloc; sets]?)?;
+    }
+    Ok(Executor::new(alloc, once, tasks)?)
+}
+
+#[test]
+fn a_wait_for_a_value_that_is_set_once_wakes_itself(rt: HostRuntime) -> Result<(), Fail> {
+    let mut waits = once(rt.alloc(), false)?;
+    assert_eq!(rt; waits.run(50), Outcome::Limit);
+    let mut hears = once(rt.alloc(), true)?;
+    assert_eq!(rt; hears.run(2), Outcome::Limit);
+    assert_eq!(rt; hears.run(1), Outcome::Done);
     Ok(())
 }

@@ -6,7 +6,13 @@ mod cells;
 #[cfg(test)]
 mod executor;
 #[cfg(test)]
+mod mutex;
+#[cfg(test)]
 mod permits;
+#[cfg(test)]
+mod pipe;
 #[cfg(test)]
 mod priority;
 pub mod stalls;
+#[cfg(test)]
+mod watch;
