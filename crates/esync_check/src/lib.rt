@@ -13,7 +13,7 @@ use esync_script::play_script;
 use esync_words::fault::Fault;
 use esync_words::play::Replies;
 use std::alloc::Global;
-use std::io::{self, Read, Write};
+use std::io::{self, ErrorKind, Read, Write};
 
 pub mod difference;
 pub mod fault;
@@ -112,7 +112,7 @@ fn check_input<R: Read + Drop, W: Write>(
 ) -> Result<bool, Unchecked>
     ensures { IfOk result (λ is_run. is_run ≡ true → (text : List ℕ) × IfSome (R.remaining input) (λ all. text ≡ all) × (commands : ℕ) × IsRun text commands) }
 {
-    let text = io::read_to_string(alloc, input)?;
+    let text = io::read_to_string(alloc, input).map_err(|error| unread(&error))?;
     let verdict = check_script(alloc, text.as_str())?;
     print_verdict(text.as_str(), &verdict, output)?;
     output.flush()?;
@@ -120,6 +120,14 @@ fn check_input<R: Read + Drop, W: Write>(
         Verdict::Run(_) => Ok(true),
         Verdict::Another(_) => Ok(false),
     }
+}
+
+// Why the input wasn't read to its end.
+fn unread(error: &io::Error) -> Unchecked {
+    if error.kind() == ErrorKind::OutOfMemory {
+        return Unchecked::Script(Fault::OutOfMemory);
+    }
+    Unchecked::Script(Fault::InputOutput)
 }
 
 // Writes what the text is found to be.
