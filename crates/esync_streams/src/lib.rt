@@ -1,0 +1,203 @@
+//! Subscribers as streams of the crate `futures`, and publishers as its sinks, for its executors.
+#![tactic(auto)]
+
+ghost use Rattle.std.specs.Prelude.{◌≡◌, None};
+ghost use Rattle.esync_streams.specs.Told.{told};
+ghost use Rattle.futures.specs.Task.{Covers, Keeps};
+
+use esync_base::waitqueue::{Context, Hand, Poll, TaskId};
+use esync_pubsub::pubsub::{Exhausted, PubSink, PubSubBehavior, Sub};
+use futures::spin::lock;
+use futures::task::{Context as TaskContext, Poll as TaskPoll, Source, Waker};
+use futures::{Sink, Stream};
+use std::alloc::{AllocError, Global};
+use std::sync::{Mutex, Wait};
+
+#[cfg(test)]
+mod tests;
+
+/// Where a task of `futures` leaves its waker.
+#[derive(Drop)]
+pub struct Registration {
+    source: Source,
+    waker: Mutex<Option<Waker>>,
+}
+
+impl Registration {
+    // No waker.
+    fn new() -> Self {
+        Registration {
+            source: Source::new(),
+            waker: Mutex::new(None),
+        }
+    }
+
+    // Leaves the waker of the task that is polled. Where another thread keeps the place for ever, the task asks to be polled again.
+    fn register(&self, cx: &mut TaskContext<'_>)
+        ensures registered { Covers cx.new (λ s. s ≡ self.now.source.id) }
+        ensures kept { Keeps cx.old cx.new }
+    {
+        let _pending: TaskPoll<()> = match lock(&self.waker) {
+            Some(mut waker) => cx.register(&self.source, &mut waker),
+            None => cx.yield_now(),
+        };
+    }
+
+    // Wakes the task that left its waker, once the place is free for another.
+    fn wake(&self) {
+        let waker = lock(&self.waker).map(|mut waker| waker.take());
+        drop(waker);
+    }
+}
+
+/// A hand that wakes tasks of `futures`: the waker `TaskId(k)` stands for the task that left its own at place k.
+#[derive(Drop)]
+pub struct Registrations<'a, R> {
+    rt: &'a R,
+    places: Vec<Registration>,
+}
+
+impl<'a, R: Wait> Registrations<'a, R> {
+    /// So many places, at which nobody left a waker.
+    ///
+    /// # Errors
+    ///
+    /// `AllocError` where there is no memory for them.
+    pub fn new(rt: &'a R, alloc: Global, count: usize) -> Result<Self, AllocError> {
+        let mut places = Vec::new(alloc);
+        for _ in 0..count {
+            places.push(Registration::new())?;
+        }
+        Ok(Registrations { rt, places })
+    }
+
+    // The place of a task.
+    fn place(&self, task: TaskId) -> Option<&Registration> {
+        self.places.get(task.0 as usize)
+    }
+}
+
+impl<R: Wait> Hand<TaskId> for &Registrations<'_, R> {
+    type Rt = R;
+
+    fn rt(&self) -> &R {
+        self.rt
+    }
+
+    fn wake(&self, waker: TaskId) {
+        if let Some(registration) = self.place(waker) {
+            registration.wake();
+        }
+    }
+}
+
+/// The messages of a subscriber as a stream of `futures`, which has no end. A message is an error where its clone had no memory; it
+/// comes again then.
+#[derive(Drop)]
+pub struct SubStream<'h, 'a, B: PubSubBehavior<Waker = TaskId>> {
+    subscriber: Sub<'a, B>,
+    task: TaskId,
+    registration: &'h Registration,
+}
+
+impl<'h, 'a, B: PubSubBehavior<Waker = TaskId>> SubStream<'h, 'a, B> {
+    /// The messages of the subscriber, whose channel wakes by this hand. Whoever polls the stream leaves its waker at the task's place.
+    /// `None` where the hand has no such place.
+    pub fn new<R: Wait>(
+        subscriber: Sub<'a, B>,
+        hand: &'h Registrations<'_, R>,
+        task: TaskId,
+    ) -> Option<Self> {
+        match hand.place(task) {
+            Some(registration) => Some(SubStream {
+                subscriber,
+                task,
+                registration,
+            }),
+            None => None,
+        }
+    }
+}
+
+impl<B: PubSubBehavior<Waker = TaskId>> Stream for SubStream<'_, '_, B> {
+    type Item = Result<B::Message, AllocError>;
+
+    ghost needs = { λ stream s. s ≡ stream.registration.now.source.id };
+
+    fn poll_next(&mut self, cx: &mut TaskContext<'_>) -> TaskPoll<Option<Self::Item>> {
+        self.registration.register(cx);
+        match self.subscriber.poll_next(&Context::from_waker(self.task)) {
+            Ok(Poll::Ready(Some(message))) => TaskPoll::Ready(Some(Ok(message))),
+            Ok(Poll::Ready(None)) => TaskPoll::Ready(None),
+            Ok(Poll::Pending) => TaskPoll::Pending,
+            Err(error) => TaskPoll::Ready(Some(Err(error))),
+        }
+    }
+}
+
+/// A sink of a publisher as a sink of `futures`. It stores one message, and each poll publishes the stored one.
+#[derive(Drop)]
+pub struct SinkAdapter<'h, 's, B: PubSubBehavior<Waker = TaskId>> {
+    sink: PubSink<'s, B>,
+    task: TaskId,
+    registration: &'h Registration,
+}
+
+impl<'h, 's, B: PubSubBehavior<Waker = TaskId>> SinkAdapter<'h, 's, B> {
+    /// The sink of a publisher, whose channel wakes by this hand. Whoever polls the adapter leaves its waker at the task's place.
+    /// `None` where the hand has no such place.
+    pub fn new<R: Wait>(
+        sink: PubSink<'s, B>,
+        hand: &'h Registrations<'_, R>,
+        task: TaskId,
+    ) -> Option<Self> {
+        match hand.place(task) {
+            Some(registration) => Some(SinkAdapter {
+                sink,
+                task,
+                registration,
+            }),
+            None => None,
+        }
+    }
+}
+
+// The answer of a poll, as `futures` tells it.
+fn told<A>(poll: Poll<A>) -> TaskPoll<A>
+    ensures { result ≡ told poll }
+{
+    match poll {
+        Poll::Ready(answer) => TaskPoll::Ready(answer),
+        Poll::Pending => TaskPoll::Pending,
+    }
+}
+
+impl<B: PubSubBehavior<Waker = TaskId>> Sink<B::Message> for SinkAdapter<'_, '_, B> {
+    type Error = Exhausted<B::Message>;
+
+    ghost is_flushed = { λ adapter. adapter.sink.request ≡ None };
+
+    ghost is_closed = { λ adapter. adapter.sink.request ≡ None };
+
+    ghost needs = { λ adapter s. s ≡ adapter.registration.now.source.id };
+
+    fn poll_ready(&mut self, cx: &mut TaskContext<'_>) -> TaskPoll<Result<(), Self::Error>> {
+        self.registration.register(cx);
+        told(self.sink.poll_ready(&Context::from_waker(self.task)))
+    }
+
+    fn start_send(&mut self, item: B::Message) -> Result<(), Self::Error> {
+        self.sink.start_send(item);
+        Ok(())
+    }
+
+    fn poll_flush(&mut self, cx: &mut TaskContext<'_>) -> TaskPoll<Result<(), Self::Error>> {
+        self.registration.register(cx);
+        told(self.sink.poll_flush(&Context::from_waker(self.task)))
+    }
+
+    fn poll_close(&mut self, cx: &mut TaskContext<'_>) -> TaskPoll<Result<(), Self::Error>> {
+        self.registration.register(cx);
+        told(self.sink.poll_close(&Context::from_waker(self.task)))
+    }
+}
