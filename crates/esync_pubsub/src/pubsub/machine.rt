@@ -648,6 +648,11 @@ pub trait PubSubSteps<const NAMES: usize, const K: usize> {
 
     ghost publishers: { ℕ };
 
+    /// Nobody is there, and the first message has the number `next`.
+    fn new_at(next: u64) -> Self
+        requires { 1 ≤ messages }
+        ensures { value result ≡ fresh subscribers next };
+
     /// Polls a request of one who has a number.
     fn turn(
         &mut self,
@@ -699,6 +704,10 @@ impl<
     ghost subscribers = { SUBS };
 
     ghost publishers = { PUBS };
+
+    fn new_at(next: u64) -> Self {
+        PubSubState::new_at(next)
+    }
 
     fn turn(
         &mut self,
@@ -773,6 +782,19 @@ impl<S: PubSubSteps<NAMES, K>, const NAMES: usize, const K: usize> Model for Eve
 }
 
 impl<S: PubSubSteps<NAMES, K>, const NAMES: usize, const K: usize> Events<S, NAMES, K> {
+    /// Nobody is there, and all numbers are free. The first message has the number `next`.
+    pub fn new_at(next: u64) -> Self
+        requires { 1 ≤ S.messages }
+        ensures state { S.value result.state ≡ fresh S.subscribers next }
+        ensures tables { result.tables ≡ record { subscribers = replicate NAMES None; publishers = replicate NAMES None } }
+    {
+        let tables = Tables::new();
+        Events {
+            state: S::new_at(next),
+            tables,
+        }
+    }
+
     /// All numbers are free. Nobody is there in the state.
     pub fn new(state: S) -> Self
         requires messages { 1 ≤ S.messages }
