@@ -37,14 +37,14 @@ impl<S: Summed> Carrier for Mailbox<S, TaskId> {
     }
 
     fn send(&mut self, message: u32, woken: &mut [u64], turn: &Turn) {
-        let mut wakes = Wakes::new();
+        let mut wakes: Wakes<TaskId, 1> = Wakes::new();
         let _ = self.try_send(message, &mut wakes);
         hand_out(&wakes, woken);
         turn.next();
     }
 
     fn receive(&mut self, woken: &mut [u64], turn: &Turn) -> u32 {
-        let mut wakes = Wakes::new();
+        let mut wakes: Wakes<TaskId, 1> = Wakes::new();
         let message = match self.try_receive(&mut wakes) {
             Ok(message) => message,
             Err(_) => 0,
@@ -55,7 +55,7 @@ impl<S: Summed> Carrier for Mailbox<S, TaskId> {
     }
 
     fn poll(&mut self, cx: &Context<TaskId>, woken: &mut [u64], turn: &Turn) -> u32 {
-        let mut wakes = Wakes::new();
+        let mut wakes: Wakes<TaskId, 1> = Wakes::new();
         let message = match self.poll_receive(cx, &mut wakes) {
             Poll::Ready(message) => message,
             Poll::Pending => 0,

@@ -30,7 +30,7 @@ impl<const N: usize> Pool for FairState<TaskId, N> {
         woken: &mut [u64],
         turn: &Turn,
     ) -> (u64, Option<Ticket>) {
-        let mut wakes = Wakes::new();
+        let mut wakes: Wakes<TaskId, 1> = Wakes::new();
         let (taken, ticket) = match self.poll_acquire(permits as usize, ticket, cx, &mut wakes) {
             FairPoll::Ready(answer) => (answer.unwrap_or(0), None),
             FairPoll::Pending(ticket) => (0, Some(ticket)),
@@ -47,7 +47,7 @@ impl<const N: usize> Pool for FairState<TaskId, N> {
     }
 
     fn release(&mut self, permits: u32, woken: &mut [u64], turn: &Turn) {
-        let mut wakes = Wakes::new();
+        let mut wakes: Wakes<TaskId, 1> = Wakes::new();
         FairState::release(self, permits as usize, &mut wakes);
         hand_out(&wakes, woken);
         turn.next();

@@ -30,7 +30,7 @@ impl Pool for State {
         woken: &mut [u64],
         turn: &Turn,
     ) -> (u64, ()) {
-        let mut wakes = Wakes::new();
+        let mut wakes: Wakes<TaskId, 1> = Wakes::new();
         let taken = match self.poll_acquire(permits as usize, cx, &mut wakes) {
             Poll::Ready(taken) => taken,
             Poll::Pending => 0,
@@ -47,7 +47,7 @@ impl Pool for State {
     }
 
     fn release(&mut self, permits: u32, woken: &mut [u64], turn: &Turn) {
-        let mut wakes = Wakes::new();
+        let mut wakes: Wakes<TaskId, 1> = Wakes::new();
         GreedyState::release(self, permits as usize, &mut wakes);
         hand_out(&wakes, woken);
         turn.next();

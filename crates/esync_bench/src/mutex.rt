@@ -21,7 +21,7 @@ fn lock_and_unlock(state: &mut State, messages: &[u32], woken: &mut [u64], turn:
         if locked {
             total += u64::from(*message);
         }
-        let mut wakes = Wakes::new();
+        let mut wakes: Wakes<TaskId, 1> = Wakes::new();
         state.unlock(&mut wakes);
         hand_out(&wakes, woken);
         turn.next();

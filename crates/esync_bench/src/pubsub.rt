@@ -50,13 +50,7 @@ fn read<const SUBS: usize>(
 }
 
 // A poll of the task for the subscriber's next message, or 0 where it waits.
-fn poll(
-    state: &mut State<4>,
-    id: &SubId,
-    task: u32,
-    woken: &mut [u64],
-    turn: &Turn,
-) -> u64 {
+fn poll(state: &mut State<4>, id: &SubId, task: u64, woken: &mut [u64], turn: &Turn) -> u64 {
     let cx = Context::from_waker(TaskId(task));
     let mut wakes: Wakes<TaskId, 4> = Wakes::new();
     let mut heard = 0;
@@ -110,13 +104,7 @@ fn publish_and_read_by_four(
 // Eight messages at a time are published at once, of which four are held. The subscriber hears how many it missed, and reads the
 // others.
 #[inline(never)]
-fn lag(
-    state: &mut State<1>,
-    id: &SubId,
-    messages: &[u32],
-    woken: &mut [u64],
-    turn: &Turn,
-) -> u64 {
+fn lag(state: &mut State<1>, id: &SubId, messages: &[u32], woken: &mut [u64], turn: &Turn) -> u64 {
     let mut total = 0u64;
     for chunk in messages.chunks(8) {
         for message in chunk {

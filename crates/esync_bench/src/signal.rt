@@ -15,7 +15,7 @@ fn signal_and_take(state: &mut State, messages: &[u32], woken: &mut [u64], turn:
 {
     let mut total = 0;
     for message in messages {
-        let mut wakes = Wakes::new();
+        let mut wakes: Wakes<TaskId, 1> = Wakes::new();
         state.signal(*message, &mut wakes);
         hand_out(&wakes, woken);
         turn.next();

@@ -12,6 +12,7 @@ mod passes;
 use anyhow::{Context, bail};
 use messages::messages;
 use passes::{Answer, Case};
+use std::alloc::Global;
 use std::env;
 use std::sync::Wait;
 use std::time::{Clock, Duration, Instant};
@@ -30,7 +31,7 @@ fn main(rt: HostRuntime) -> anyhow::Result<()> {
         Some(_) => bail!("`time` or nothing comes last"),
     };
     let messages = messages(rt.alloc())?;
-    let (answer, fastest) = fastest(&rt, case, passes, &messages)?;
+    let (answer, fastest) = fastest(&rt, rt.alloc(), case, passes, &messages)?;
     if timed {
         println!(rt; "{} {} {}", answer.total, answer.woken, fastest.as_nanos())?;
     } else {
@@ -42,6 +43,7 @@ fn main(rt: HostRuntime) -> anyhow::Result<()> {
 // The answer of the last pass, and how long the fastest one took.
 fn fastest<R: Wait + Clock>(
     rt: &R,
+    alloc: Global,
     case: Case,
     passes: u32,
     messages: &[u32],
@@ -50,7 +52,7 @@ fn fastest<R: Wait + Clock>(
     let mut fastest = Duration::MAX;
     for _ in 0..passes {
         let start = Instant::now(rt)?;
-        answer = case.pass(rt, messages);
+        answer = case.pass(rt, alloc, messages)?;
         fastest = fastest.min(start.elapsed(rt)?);
     }
     Ok((answer, fastest))

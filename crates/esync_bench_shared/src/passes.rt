@@ -5,7 +5,7 @@ use esync_base::waitqueue::{Context, Hand, Poll, TaskId, Wakes};
 use esync_cells::signal::Signal;
 use esync_channel::channel::{Channel, ChannelState};
 use esync_zerocopy::zerocopy_channel::ChannelState as SlotsState;
-use std::alloc::AllocError;
+use std::alloc::{AllocError, Global};
 use std::cell::Cell;
 use std::sync::Wait;
 
@@ -50,7 +50,12 @@ impl Case {
     /// # Errors
     ///
     /// `AllocError` where there is no memory for the two slots.
-    pub fn pass<R: Wait + Alloc>(self, rt: &R, messages: &[u32]) -> Result<Answer, AllocError> {
+    pub fn pass<R: Wait>(
+        self,
+        rt: &R,
+        alloc: Global,
+        messages: &[u32],
+    ) -> Result<Answer, AllocError> {
         let hand = Counting {
             rt,
             woken: Cell::new(0),
@@ -60,7 +65,7 @@ impl Case {
             Case::WaitAndWake => wait_and_wake(&Channel::new(&hand), messages),
             Case::SignalTake => signal_take(&Signal::new(&hand), messages),
             Case::Slots => {
-                let slots = vec![in rt.alloc(); [0; 1024], [0; 1024]]?;
+                let slots = vec![in alloc; [0; 1024], [0; 1024]]?;
                 slots_one_by_one(&mut SlotsState::new(slots), messages)
             }
             Case::Blocks => blocks(&mut ChannelState::new(), messages),
@@ -135,7 +140,7 @@ fn signal_take<'a, R: Wait>(
 
 // The last byte of a message, as a block of 1024.
 fn block(message: u32) -> [u8; 1024] {
-    [message as u8; 1024]
+    [(message & 0xFF) as u8; 1024]
 }
 
 #[inline(never)]
