@@ -1,4 +1,6 @@
 //! Passes over a channel for many, with one subscriber or four.
+ghost use Rattle.std.specs.Prelude.{◌≤◌};
+
 use crate::tasks::{Turn, hand_out};
 use esync_base::waitqueue::{Context, Poll, TaskId, Wakes};
 use esync_pubsub::pubsub::{PubSubState, SubId, WaitResult};
