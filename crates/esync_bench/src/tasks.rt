@@ -4,9 +4,9 @@ use std::sync::atomic::{AtomicU64, Ordering};
 
 /// Counts a wake of each task that a step hands out. A task that has no place in the row isn't counted.
 pub fn hand_out<const K: usize>(wakes: &Wakes<TaskId, K>, woken: &mut [u64]) {
-    for waker in wakes.as_slice() {
-        if let Some(TaskId(task)) = waker {
-            if let Some(count) = woken.get_mut(*task as usize) {
+    for i in 0..wakes.len() {
+        if let Some(TaskId(task)) = wakes.get(i) {
+            if let Some(count) = woken.get_mut(task as usize) {
                 *count = count.wrapping_add(1);
             }
         }

@@ -71,7 +71,9 @@ impl<W: Copy + Eq, const N: usize> MultiWakerRegistration<W, N> {
                 wakes.push(waker);
             }
         }
-        self.wakers = Wakes::new();
+        if !self.wakers.is_empty() {
+            self.wakers = Wakes::new();
+        }
     }
 
     // A waker that equals this one is registered.
