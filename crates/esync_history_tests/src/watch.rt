@@ -1,5 +1,5 @@
 use esync_base::waitqueue::TaskId;
-use esync_cells::watch::{Change, Judge, WatchState};
+use esync_cells::watch::{Change, Judge};
 use esync_history::executor::{Act, Executor, Outcome};
 use esync_run::primitive::Command;
 use esync_run::requests::Requests;
@@ -53,7 +53,7 @@ fn a_new_value_reaches_the_receiver_that_waits(rt: HostRuntime) -> Result<(), Fa
         (Reading::Changed, Outcome::Done),
         (Reading::GetAnd(Never {}), Outcome::Stalled),
     ] {
-        let watch: Watch = Requests::new(Watched::new(WatchState::new()));
+        let watch: Watch = Requests::new(Watched::new());
         let receives = vec![in alloc; calls(WatchCall::Receiver(0)), reads(read)]?;
         let sends = vec![in alloc; calls(WatchCall::Id), calls(WatchCall::Send(5))]?;
         let mut executor = Executor::new(alloc, watch, vec![in alloc; receives, sends]?)?;
