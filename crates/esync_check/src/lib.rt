@@ -112,9 +112,26 @@ fn check_input<R: Read + Drop, W: Write>(
 ) -> Result<bool, Unchecked>
     ensures { IfOk result (λ is_run. is_run ≡ true → (text : List ℕ) × IfSome (R.remaining input) (λ all. text ≡ all) × (commands : ℕ) × IsRun text commands) }
 {
-    let text = io::read_to_string(alloc, input).map_err(|error| unread(&error))?;
-    let verdict = check_script(alloc, text.as_str())?;
-    print_verdict(text.as_str(), &verdict, output)?;
+    let text = read_text(alloc, input)?;
+    check_text(alloc, text.as_str(), output)
+}
+
+// The text of the input.
+fn read_text<R: Read + Drop>(alloc: Global, input: R) -> Result<String, Unchecked>
+    ensures { IfOk result (λ text. IfSome (R.remaining input) (λ all. string_bytes text ≡ all)) }
+{
+    match io::read_to_string(alloc, input) {
+        Ok(text) => Ok(text),
+        Err(error) => Err(unread(&error)),
+    }
+}
+
+// Writes what the text is found to be: whether it is a run.
+fn check_text<W: Write>(alloc: Global, text: &str, output: &mut W) -> Result<bool, Unchecked>
+    ensures { IfOk result (λ is_run. is_run ≡ true → (commands : ℕ) × IsRun text.now commands) }
+{
+    let verdict = check_script(alloc, text)?;
+    print_verdict(text, &verdict, output)?;
     output.flush()?;
     match verdict {
         Verdict::Run(_) => Ok(true),
