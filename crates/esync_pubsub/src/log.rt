@@ -9,6 +9,8 @@ use esync_base::deque::Deque;
 use std::alloc::AllocError;
 use std::marker::Model;
 
+mod kept;
+
 // The number that each subscriber reads next, at its place.
 #[derive(Debug, Drop)]
 struct Positions<const SUBS: usize> {

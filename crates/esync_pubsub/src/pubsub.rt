@@ -19,6 +19,7 @@ use std::marker::Model;
 use thiserror::Error;
 
 mod handles;
+mod kept;
 mod shared;
 
 /// Why nobody came.

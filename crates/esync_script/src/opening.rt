@@ -212,7 +212,7 @@ fn pubsub<const N: usize>(first: u64) -> ManyRun<N>
     ensures object { ⟦<ManyRun<N> as Machine>⟧.semantics.object result ≡ new_object (a_new_topic first) }
     ensures registrations { ⟦<ManyRun<N> as Machine>⟧.semantics.registrations result ≡ no_lists }
 {
-    Requests::new(Events::new(PubSubState::new_at(first)))
+    Requests::new(Events::new_at(first))
 }
 
 // A value that is not set yet, with no request.

@@ -11,6 +11,7 @@ use std::marker::Model;
 use thiserror::Error;
 use turns::Turns;
 
+mod kept;
 pub mod machine;
 mod shared;
 mod turns;

@@ -20,6 +20,8 @@ use esync_machine::run::{Reply, run};
 use std::alloc::{AllocError, Global};
 use std::marker::Model;
 
+mod kept;
+
 /// What a request of a subscriber or a publisher waits for. The first part of each is the number of whom it belongs to.
 #[derive(Clone, Copy, Debug, PartialEq, Eq)]
 pub enum PubSubAsk<T> {
@@ -792,19 +794,6 @@ impl<S: PubSubSteps<NAMES, K>, const NAMES: usize, const K: usize> Events<S, NAM
         Events {
             state: S::new_at(next),
             tables,
-        }
-    }
-
-    /// All numbers are free. Nobody is there in the state.
-    pub fn new(state: S) -> Self
-        requires messages { 1 ≤ S.messages }
-        requires nobody { (places next : ℕ) × (S.value state ≡ fresh places next) }
-        ensures state { result.state ≡ state }
-        ensures tables { result.tables ≡ record { subscribers = replicate NAMES None; publishers = replicate NAMES None } }
-    {
-        Events {
-            state,
-            tables: Tables::new(),
         }
     }
 }

@@ -8,6 +8,8 @@ use super::{Side, SlotLent};
 use esync_base::waitqueue::{Context, Poll, WakerRegistration, Wakes};
 use std::marker::Model;
 
+mod kept;
+
 // A run of numbers of a ring: the first of them, and how many they are.
 #[derive(Clone, Copy, Debug)]
 struct Run {

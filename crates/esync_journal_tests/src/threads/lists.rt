@@ -1,0 +1,128 @@
+//! Threads that share a recorded list of messages: that of publishers and subscribers, or the slots of a zero-copy channel.
+ghost use Rattle.std.specs.Prelude.{◌≡◌, ◌<◌};
+
+use super::{CALLS, answered, has_both, makes, told};
+use esync_base::waitqueue::TaskId;
+use esync_history::recorded::Recorded;
+use esync_machine::primitive::{Answer, Command};
+use esync_machine::requests::Requests;
+use esync_machine::run::Machine;
+use esync_pubsub::pubsub::machine::{Events, PubSubCall, PubSubCommand, PubSubHeard, PubSubRun};
+use esync_pubsub::pubsub::{TryPublishError, WaitResult};
+use esync_zerocopy::zerocopy_channel::machine::{Lent, ZeroCall, ZeroCommand, ZeroHeard, ZeroRun};
+use esync_zerocopy::zerocopy_channel::{ChannelState, Side};
+use std::alloc::Global;
+use std::marker::Brand;
+use std::process::Abort;
+use std::sync::Wait;
+use std::sync::ledger::{Blank, Ledger};
+use std::test::Fail;
+use std::thread;
+use std::thread::Threads;
+
+type Topic = PubSubRun<u32, TaskId, 4, 4, 4, 16, 16, 4>;
+
+// A topic with the publishers and the subscribers 0 and 1.
+fn topic() -> Topic {
+    let mut topic: Topic = Requests::new(Events::new_at(0));
+    for number in [0, 1] {
+        topic.step(Command::Call(PubSubCall::Publisher(number)));
+        topic.step(Command::Call(PubSubCall::Join(number)));
+    }
+    topic
+}
+
+// The publisher of this number publishes a message, and the subscriber of this number reads one.
+fn publishes(number: usize, message: u32) -> [PubSubCommand<u32, TaskId>; 2] {
+    let publish = Command::Call(PubSubCall::TryPublish(number, message));
+    [publish, Command::Call(PubSubCall::Next(number))]
+}
+
+// Two threads publish to both, and read.
+fn pubsub<L: Ledger + Send + Sync, R: Threads + Wait + Abort + Sync>(
+    rt: &R,
+    alloc: Global,
+    blank: Blank,
+) -> Result<(), Fail>
+    requires ledger { blank.name ≡ L.name }
+    requires parts { blank.parts ≡ L.parts }
+    requires room { 2 < blank.parts }
+{
+    let (one, two) = (publishes(0, 5), publishes(1, 6));
+    let look = (Command::Call(PubSubCall::Len), told(PubSubHeard::Number(0)));
+    let receipts = call_by_two!(rt, alloc, blank, L, topic(), [one, two], look)?;
+    let published = [
+        Ok(()),
+        Err(TryPublishError::Full(5)),
+        Err(TryPublishError::Full(6)),
+    ]
+    .map(|published| Answer::Gives(PubSubHeard::TriedPublish(published)));
+    let read = [
+        None,
+        Some(WaitResult::Message(5)),
+        Some(WaitResult::Message(6)),
+    ]
+    .map(|read| Answer::Gives(PubSubHeard::Tried(read)));
+    for seat in [0, 1] {
+        assert_eq!(rt; answered(&receipts, seat, &published), CALLS / 2);
+        assert_eq!(rt; answered(&receipts, seat, &read), CALLS / 2);
+    }
+    Ok(())
+}
+
+#[test]
+fn two_threads_call_a_recorded_pubsub_channel(rt: HostRuntime) -> Result<(), Fail> {
+    pubsub::<Brand, _>(&rt, rt.alloc(), Blank::new(3))
+}
+
+fn tried(lent: Option<Lent<u32>>) -> Answer<ZeroHeard<u32>> {
+    Answer::Gives(ZeroHeard::Tried(lent))
+}
+
+// The side tries its next slot, and is done with it.
+fn turns(side: Side) -> [ZeroCommand<u32, TaskId>; 2] {
+    [
+        Command::Call(ZeroCall::Try(side)),
+        Command::Call(ZeroCall::Done(side)),
+    ]
+}
+
+// One thread sends slots, and the other gives them back. Each slot has its own value.
+fn zerocopy_channel<L: Ledger + Send + Sync, R: Threads + Wait + Abort + Sync>(
+    rt: &R,
+    alloc: Global,
+    blank: Blank,
+) -> Result<(), Fail>
+    requires ledger { blank.name ≡ L.name }
+    requires parts { blank.parts ≡ L.parts }
+    requires room { 2 < blank.parts }
+{
+    let slots = vec![in alloc; 5, 6, 7, 8]?;
+    let channel: ZeroRun<u32, TaskId, 16, 1> = Requests::new(ChannelState::new(slots));
+    let (sends, gives_back) = (turns(Side::Sender), turns(Side::Receiver));
+    let look = (
+        Command::Call(ZeroCall::FreeCapacity),
+        told(ZeroHeard::Count(4)),
+    );
+    let receipts = call_by_two!(rt, alloc, blank, L, channel, [sends, gives_back], look)?;
+    let spare = [0, 1, 2, 3].map(|slot| tried(Some(Lent::Spare(slot))));
+    let held = [(0, 5), (1, 6), (2, 7), (3, 8)].map(|(slot, value)| tried(Some(Lent::Held(
+        slot, value,
+    ))));
+    for (seat, lent) in [(0, spare), (1, held)] {
+        let [first, second, third, fourth] = lent;
+        let tries = [tried(None), first, second, third, fourth];
+        assert_eq!(rt; answered(&receipts, seat, &tries), CALLS / 2);
+        assert_eq!(rt;
+            answered(&receipts, seat, &[Answer::Done, Answer::NoSuch]),
+            CALLS / 2
+        );
+    }
+    assert!(rt; answered(&receipts, 0, &[Answer::Done]) >= 4);
+    Ok(())
+}
+
+#[test]
+fn two_threads_call_a_recorded_zerocopy_channel(rt: HostRuntime) -> Result<(), Fail> {
+    zerocopy_channel::<Brand, _>(&rt, rt.alloc(), Blank::new(3))
+}

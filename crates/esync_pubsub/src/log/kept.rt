@@ -1,0 +1,22 @@
+//! A log that is kept as it is now.
+use super::{Log, Positions};
+use esync_base::kept::Kept;
+use std::alloc::AllocError;
+
+impl<const SUBS: usize> Kept for Positions<SUBS> {
+    fn kept(&self) -> Result<Self, AllocError> {
+        Ok(Positions { row: self.row })
+    }
+}
+
+impl<T: Copy, const CAP: usize, const SUBS: usize> Kept for Log<T, CAP, SUBS> {
+    fn kept(&self) -> Result<Self, AllocError> {
+        Ok(Log {
+            messages: self.messages.kept()?,
+            counts: self.counts.kept()?,
+            next: self.next,
+            positions: self.positions.kept()?,
+            subscribers: self.subscribers,
+        })
+    }
+}

@@ -1,0 +1,23 @@
+//! A channel for many whose numbers are kept with it.
+use super::{Events, PubSubSteps, Tables};
+use esync_base::kept::Kept;
+use std::alloc::AllocError;
+
+impl<const NAMES: usize> Kept for Tables<NAMES> {
+    fn kept(&self) -> Result<Self, AllocError> {
+        Ok(Tables {
+            subscribers: self.subscribers.kept()?,
+            publishers: self.publishers.kept()?,
+        })
+    }
+}
+
+impl<S: PubSubSteps<NAMES, K> + Kept, const NAMES: usize, const K: usize> Kept
+    for Events<S, NAMES, K> {
+    fn kept(&self) -> Result<Self, AllocError> {
+        Ok(Events {
+            state: self.state.kept()?,
+            tables: self.tables.kept()?,
+        })
+    }
+}
