@@ -4,4 +4,5 @@ pub mod Turning
 pub mod Kept
 pub mod Stalling
 pub mod Starting
+pub mod Answering
 pub mod Entries

@@ -207,26 +207,26 @@ module _ {S Ask Command Reply : Type 0} (X : Semantics S Command Reply TaskId) (
       ]
 
   -- what a task uses after the turn it used before
-  used_before : (old new : Executing S Ask Command) (t : IsTurn X starting old new) (k : ℕ) (a : Todo Ask Command) (r : ℕ) → slice_get new.tasks k ≡ Some a → Uses r a → (b : Todo Ask Command) × (slice_get old.tasks k ≡ Some b) × Uses r b
+  used_before : (old new : Executing S Ask Command Reply) (t : IsTurn X starting old new) (k : ℕ) (a : Todo Ask Command) (r : ℕ) → slice_get new.tasks k ≡ Some a → Uses r a → (b : Todo Ask Command) × (slice_get old.tasks k ≡ Some b) × Uses r b
   used_before old new t k a r h u = elim (task_after old.tasks new.tasks t.number t.task t.left k a t.there t.tasks h) [
     | inl s ↦ (t.task, subst (λ x. slice_get old.tasks x ≡ Some t.task) (sym s.0) t.there, acts_use (record { 0 = t.number }) t.task.request t.task.acts t.steps t.back t.left r t.act (subst (λ x. Uses r x) s.1 u))
     | inr s ↦ (a, s.1, u)
   ]
 
-  pub apart_after : (old new : Executing S Ask Command) (t : IsTurn X starting old new) → AreStanding X old.machine old.tasks old.queue → (j k : ℕ) (a b : Todo Ask Command) (r : ℕ) → slice_get new.tasks j ≡ Some a → slice_get new.tasks k ≡ Some b → Uses r a → Uses r b → j ≡ k
+  pub apart_after : (old new : Executing S Ask Command Reply) (t : IsTurn X starting old new) → AreStanding X old.machine old.tasks old.queue → (j k : ℕ) (a b : Todo Ask Command) (r : ℕ) → slice_get new.tasks j ≡ Some a → slice_get new.tasks k ≡ Some b → Uses r a → Uses r b → j ≡ k
   apart_after old new t o j k a b r ha hb ua ub =
       let p = used_before old new t j a r ha ua in
       let q = used_before old new t k b r hb ub in
       o.apart j k p.0 q.0 r p.1 q.1 p.2 q.2
 
-  pub plain_after : (old new : Executing S Ask Command) (t : IsTurn X starting old new) → AreStanding X old.machine old.tasks old.queue → (k : ℕ) (a : Todo Ask Command) → slice_get new.tasks k ≡ Some a → ArePlain X.meaning a.acts
+  pub plain_after : (old new : Executing S Ask Command Reply) (t : IsTurn X starting old new) → AreStanding X old.machine old.tasks old.queue → (k : ℕ) (a : Todo Ask Command) → slice_get new.tasks k ≡ Some a → ArePlain X.meaning a.acts
   plain_after old new t o k a h = elim (task_after old.tasks new.tasks t.number t.task t.left k a t.there t.tasks h) [
     | inl s ↦ subst (λ x. ArePlain X.meaning x.acts) (sym s.1) (acts_plain (record { 0 = t.number }) t.task.request t.task.acts t.steps t.back t.left t.act (o.plain t.number t.task t.there))
     | inr s ↦ o.plain k a s.1
   ]
 
   -- the task whose turn it was
-  own_after : (old new : Executing S Ask Command) (t : IsTurn X starting old new) → has_ended t.left ≡ false → is_in t.number new.queue ≡ false → (r : ℕ) × (t.left.request ≡ Some r) × IsStanding X new.machine r (record { 0 = t.number })
+  own_after : (old new : Executing S Ask Command Reply) (t : IsTurn X starting old new) → has_ended t.left ≡ false → is_in t.number new.queue ≡ false → (r : ℕ) × (t.left.request ≡ Some r) × IsStanding X new.machine r (record { 0 = t.number })
   own_after old new t h q =
       let w : TaskId = record { 0 = t.number } in
       let ws = wakes_in X.meaning (map (λ s. s.reply) t.steps) in
@@ -246,7 +246,7 @@ module _ {S Ask Command Reply : Type 0} (X : Semantics S Command Reply TaskId) (
       ]
 
   -- another task that waits for no turn
-  other_after : (old new : Executing S Ask Command) (t : IsTurn X starting old new) → AreStanding X old.machine old.tasks old.queue → (k : ℕ) (a : Todo Ask Command) → (k ≡ t.number → ⊥) → slice_get old.tasks k ≡ Some a → slice_get new.tasks k ≡ Some a → has_ended a ≡ false → is_in k new.queue ≡ false → (r : ℕ) × (a.request ≡ Some r) × IsStanding X new.machine r (record { 0 = k })
+  other_after : (old new : Executing S Ask Command Reply) (t : IsTurn X starting old new) → AreStanding X old.machine old.tasks old.queue → (k : ℕ) (a : Todo Ask Command) → (k ≡ t.number → ⊥) → slice_get old.tasks k ≡ Some a → slice_get new.tasks k ≡ Some a → has_ended a ≡ false → is_in k new.queue ≡ false → (r : ℕ) × (a.request ≡ Some r) × IsStanding X new.machine r (record { 0 = k })
   other_after old new t o k a ne was is h q =
       let ws = wakes_in X.meaning (map (λ s. s.reply) t.steps) in
       let idle : is_in k (requeued new.tasks t.behind ws t.back t.number) ≡ false = subst (λ ns. is_in k ns ≡ false) t.queue q in
@@ -265,7 +265,7 @@ module _ {S Ask Command Reply : Type 0} (X : Semantics S Command Reply TaskId) (
         ],
       )
 
-  pub standing_after : (old new : Executing S Ask Command) → IsTurn X starting old new → AreStanding X old.machine old.tasks old.queue → AreStanding X new.machine new.tasks new.queue
+  pub standing_after : (old new : Executing S Ask Command Reply) → IsTurn X starting old new → AreStanding X old.machine old.tasks old.queue → AreStanding X new.machine new.tasks new.queue
   standing_after old new t o = record {
     apart = apart_after old new t o;
     plain = plain_after old new t o;

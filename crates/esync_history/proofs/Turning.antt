@@ -38,14 +38,14 @@ module _ {Command Reply : Type 0} (M : Meaning Command Reply TaskId) where
 
 module _ {S Ask Command Reply : Type 0} (X : Semantics S Command Reply TaskId) (starting : ℕ → Ask → Command) where
   -- the steps of the turns are those of the machine
-  turns_through : (t : ℕ) (old new : Executing S Ask Command) (steps : List (Step X.meaning.Object Command Reply)) → Turns X starting t old steps new → Through X old.machine steps new.machine
+  turns_through : (t : ℕ) (old new : Executing S Ask Command Reply) (steps : List (Step X.meaning.Object Command Reply)) → Turns X starting t old steps new → Through X old.machine steps new.machine
   turns_through zero old new steps h = subst (λ xs. Through X old.machine xs new.machine) (sym h.1) (ap (λ e. e.machine) h.0)
   turns_through (suc t) old new steps h =
       let turn = h.3.0 in
       subst (λ xs. Through X old.machine xs new.machine) (sym h.3.1) (joined X old.machine h.0.machine new.machine h.1 turn.steps (turns_through t old h.0 h.1 h.2) turn.run)
 
   -- one or two of them a turn
-  turns_count : (t : ℕ) (old new : Executing S Ask Command) (steps : List (Step X.meaning.Object Command Reply)) → Turns X starting t old steps new → (t ≤ length steps) × (length steps ≤ 2 * t)
+  turns_count : (t : ℕ) (old new : Executing S Ask Command Reply) (steps : List (Step X.meaning.Object Command Reply)) → Turns X starting t old steps new → (t ≤ length steps) × (length steps ≤ 2 * t)
   turns_count zero old new steps h = (omega (arith, ap length h.1), omega (arith, ap length h.1))
   turns_count (suc t) old new steps h =
       let turn = h.3.0 in
@@ -54,7 +54,7 @@ module _ {S Ask Command Reply : Type 0} (X : Semantics S Command Reply TaskId) (
       let all = ap length h.3.1 ∙ length-append h.1 turn.steps in
       (omega (arith, so_far.0, few.0, all), omega (arith, so_far.1, few.1, all))
 
-  pub ran : OwedAreIdle X → (limit t : ℕ) (old : Executing S Ask Command) (outcome : Outcome) (new : Executing S Ask Command) (steps : List (Step X.meaning.Object Command Reply)) → t ≤ limit → (outcome ≡ Limit → t ≡ limit) → Turns X starting t old steps new → Ran X starting limit old outcome new
+  pub ran : OwedAreIdle X → (limit t : ℕ) (old : Executing S Ask Command Reply) (outcome : Outcome) (new : Executing S Ask Command Reply) (steps : List (Step X.meaning.Object Command Reply)) → t ≤ limit → (outcome ≡ Limit → t ≡ limit) → Turns X starting t old steps new → Ran X starting limit old outcome new
   ran idle limit t old outcome new steps within limited taken =
       let count = turns_count t old new steps taken in
       record {

@@ -1,4 +1,5 @@
 pub mod Line
+pub mod Answered
 pub mod Todo
 pub mod Suited
 pub mod Turns

@@ -1,5 +1,5 @@
 -- Where the tasks stand that wait for no turn.
-use Rattle.std.specs.Prelude.{◌≡◌, ℕ, true, false, List, [], ◌∷◌, Some, None, ◌⊎◌, slice_get}
+use Rattle.std.specs.Prelude.{◌≡◌, ℕ, true, false, List, [], ◌∷◌, Some, None, ◌⊎◌, length, map, slice_get}
 use Rattle.std.specs.List.{list_any}
 use Rattle.esync_base.specs.Listed.{is_in}
 use Rattle.esync_base.specs.declared.waitqueue.TaskId.{TaskId}
@@ -7,8 +7,9 @@ use Rattle.esync_machine.specs.Runs.{Meaning, Semantics, IsIdle}
 use Rattle.esync_history.specs.declared.executor.Act.{Act}
 use Rattle.esync_history.specs.declared.executor.Act.TheVariants.{Await, Call}
 use Rattle.esync_history.specs.Line.{Line}
+use Rattle.esync_history.specs.Answered.{Answered}
 use Rattle.esync_history.specs.Suited.{awaits_at}
-use Rattle.esync_history.specs.Todo.{Todo, has_ended, IsOrderly}
+use Rattle.esync_history.specs.Todo.{Todo, has_ended, acts_left, IsOrderly}
 
 -- the task stands at the request, or has still to await it
 abbrev pub Uses : {Ask Command : Type 0} → ℕ → Todo Ask Command → Type 0
@@ -32,10 +33,12 @@ module _ {S Command Reply : Type 0} (X : Semantics S Command Reply TaskId) where
     pub plain : (k : ℕ) (t : Todo Ask Command) → slice_get tasks k ≡ Some t → ArePlain X.meaning t.acts
     pub idle : (k : ℕ) (t : Todo Ask Command) → slice_get tasks k ≡ Some t → has_ended t ≡ false → is_in k queue ≡ false → (r : ℕ) × (t.request ≡ Some r) × IsStanding m r (record { 0 = k })
 
-  -- What holds between two turns.
-  pub record IsBetweenTurns {Ask : Type 0} (m : S) (tasks : List (Todo Ask Command)) (queue : Line) : Type 0 where
+  -- What holds between two turns. What was heard has a place for each task, and room for the answers of all acts that are left.
+  pub record IsBetweenTurns {Ask : Type 0} (m : S) (tasks : List (Todo Ask Command)) (queue : Line) (heard : Answered Reply) : Type 0 where
     pub orderly : IsOrderly tasks queue
     pub standing : AreStanding m tasks queue.numbers
+    pub places : length heard.replies ≡ length tasks
+    pub room : heard.room ≡ map acts_left tasks
 
 module _ {Command Reply : Type 0} (M : Meaning Command Reply TaskId) where
   -- a poll of the request is now answered like this, and leaves this object

@@ -1,5 +1,7 @@
 -- Tasks, and the queue in which they wait for their turn.
-use Rattle.std.specs.Prelude.{◌≡◌, ℕ, ◌+◌, Bool, true, false, List, [], ◌∷◌, Option, Some, None, slice_get, length, if◌then◌else◌}
+use Rattle.std.specs.Prelude.{◌≡◌, ℕ, ◌+◌, Bool, true, false, List, [], ◌∷◌, Option, Some, None, map, slice_get, length, if◌then◌else◌}
+use Rattle.std.specs.Option.{option_to_list}
+use Rattle.std.specs.List.{zip}
 use Rattle.esync_base.specs.Listed.{is_in, NoTwice}
 use Rattle.esync_base.specs.declared.waitqueue.TaskId.{TaskId}
 use Rattle.esync_history.specs.declared.executor.Act.{Act}
@@ -12,11 +14,13 @@ pub record Todo (Ask Command : Type 0) : Type 0 where
   -- the acts that come after it
   pub acts : List (Act Ask Command)
 
--- A machine with its tasks, and the numbers of those that wait for a turn, the next one first.
-pub record Executing (S Ask Command : Type 0) : Type 0 where
+-- A machine with its tasks, the numbers of those that wait for a turn, the next one first, and what the acts of each task
+-- that are over answered, in order.
+pub record Executing (S Ask Command Reply : Type 0) : Type 0 where
   pub machine : S
   pub tasks : List (Todo Ask Command)
   pub queue : List ℕ
+  pub heard : List (List Reply)
 
 -- a task that was handed in
 abbrev pub fresh : {Ask Command : Type 0} → List (Act Ask Command) → Todo Ask Command
@@ -30,6 +34,14 @@ nothing_left (Some r) acts = false
 -- whether the last act of a task is over
 abbrev pub has_ended : {Ask Command : Type 0} → Todo Ask Command → Bool
 has_ended task = nothing_left task.request task.acts
+
+-- how many acts of a task aren't over
+abbrev pub acts_left : {Ask Command : Type 0} → Todo Ask Command → ℕ
+acts_left task = length (option_to_list task.request) + length task.acts
+
+-- how many acts each task has: those that are over, with an answer each, and those that are left
+abbrev pub act_counts : {S Ask Command Reply : Type 0} → Executing S Ask Command Reply → List ℕ
+act_counts e = map (λ p. length p.0 + acts_left p.1) (zip e.heard e.tasks)
 
 abbrev pub numbers_from : {Ask Command : Type 0} → ℕ → List (Todo Ask Command) → List ℕ
 numbers_from k [] = []

@@ -1,5 +1,5 @@
 -- The turns that an executor takes.
-use Rattle.std.specs.Prelude.{◌≡◌, ℕ, zero, suc, ◌*◌, ◌≤◌, length, Bool, true, false, List, [], ◌∷◌, ◌++◌, Option, Some, None, ◌⊎◌, map, slice_get, slice_set}
+use Rattle.std.specs.Prelude.{◌≡◌, ℕ, zero, suc, ◌*◌, ◌≤◌, length, Bool, true, false, List, [], ◌∷◌, ◌++◌, Option, Some, None, ◌⊎◌, map, is_none, slice_get, slice_set}
 use Rattle.std.specs.Option.{option_to_list}
 use Rattle.std.specs.List.{flat_map, list_all}
 use Rattle.esync_base.specs.declared.waitqueue.TaskId.{TaskId}
@@ -9,10 +9,11 @@ use Rattle.esync_history.specs.declared.executor.Act.{Act}
 use Rattle.esync_history.specs.declared.executor.Act.TheVariants.{Await, Call}
 use Rattle.esync_history.specs.declared.executor.Outcome.{Outcome}
 use Rattle.esync_history.specs.declared.executor.Outcome.TheVariants.{Done, Stalled, Limit}
+use Rattle.esync_history.specs.Answered.{noted}
 use Rattle.esync_history.specs.Todo.{Todo, Executing, has_ended, requeued}
 
 -- What each outcome tells. In the queue are tasks that haven't ended alone, so it is empty where all have.
-abbrev pub Tells : {S Ask Command : Type 0} → Outcome → Executing S Ask Command → Type 0
+abbrev pub Tells : {S Ask Command Reply : Type 0} → Outcome → Executing S Ask Command Reply → Type 0
 Tells Done e = (list_all has_ended e.tasks ≡ true) × (e.queue ≡ [])
 Tells Stalled e = (list_all has_ended e.tasks ≡ false) × (e.queue ≡ [])
 Tells Limit e = (list_all has_ended e.tasks ≡ false) × (e.queue ≡ [] → ⊥)
@@ -52,29 +53,33 @@ module _ {Command Reply : Type 0} (M : Meaning Command Reply TaskId) where
 
 -- of a machine, and the commands that start what is asked for at a number
 module _ {S Ask Command Reply : Type 0} (X : Semantics S Command Reply TaskId) (starting : ℕ → Ask → Command) where
-  -- A turn of the task at the front of the queue: it does its current act, by these steps of the machine.
-  pub record IsTurn (old new : Executing S Ask Command) : Type 0 where
+  -- A turn of the task at the front of the queue: it does its current act, by these steps of the machine. If the act is over then,
+  -- the last answer is what it answered.
+  pub record IsTurn (old new : Executing S Ask Command Reply) : Type 0 where
     pub number : ℕ
     pub behind : List ℕ
     pub task : Todo Ask Command
     pub left : Todo Ask Command
     pub steps : List (Step X.meaning.Object Command Reply)
     pub back : Bool
+    pub answer : Reply
     pub front : old.queue ≡ number ∷ behind
     pub there : slice_get old.tasks number ≡ Some task
     pub act : Acts X.meaning starting (record { 0 = number }) task.request task.acts steps back left
     pub run : Through X old.machine steps new.machine
     pub tasks : new.tasks ≡ slice_set old.tasks number left
     pub queue : new.queue ≡ requeued new.tasks behind (wakes_in X.meaning (map (λ s. s.reply) steps)) back number
+    pub last : (earlier : List Reply) × (map (λ s. s.reply) steps ≡ earlier ++ answer ∷ [])
+    pub heard : new.heard ≡ noted old.heard number (is_none left.request) answer
 
   -- as many turns, one after another, and all their steps
-  abbrev pub Turns : ℕ → Executing S Ask Command → List (Step X.meaning.Object Command Reply) → Executing S Ask Command → Type 0
+  abbrev pub Turns : ℕ → Executing S Ask Command Reply → List (Step X.meaning.Object Command Reply) → Executing S Ask Command Reply → Type 0
   Turns zero old steps new = (new ≡ old) × (steps ≡ [])
   Turns (suc t) old steps new =
-      (mid : Executing S Ask Command) × (earlier : List (Step X.meaning.Object Command Reply)) × Turns t old earlier mid × ((turn : IsTurn mid new) × (steps ≡ earlier ++ turn.steps))
+      (mid : Executing S Ask Command Reply) × (earlier : List (Step X.meaning.Object Command Reply)) × Turns t old earlier mid × ((turn : IsTurn mid new) × (steps ≡ earlier ++ turn.steps))
 
   -- What a run did: turns, at most as many as it was allowed. Their steps are a good run of the machine, one or two of them a turn.
-  pub record Ran (limit : ℕ) (old : Executing S Ask Command) (outcome : Outcome) (new : Executing S Ask Command) : Type 0 where
+  pub record Ran (limit : ℕ) (old : Executing S Ask Command Reply) (outcome : Outcome) (new : Executing S Ask Command Reply) : Type 0 where
     pub turns : ℕ
     pub steps : List (Step X.meaning.Object Command Reply)
     pub within : turns ≤ limit

@@ -1,13 +1,15 @@
 //! An executor of tasks over any machine.
-ghost use Rattle.std.specs.Prelude.{◌≡◌, [], map, ◌⊎◌, IfOk, Err};
+ghost use Rattle.std.specs.Prelude.{◌≡◌, ◌≤◌, [], length, map, slice_get, ◌⊎◌, IfOk, IfNone, Err};
+ghost use Rattle.std.specs.Option.{option_copied};
 ghost use Rattle.std.specs.Bool.{OnTrue, OnFalse};
 ghost use Rattle.esync_history.specs.Suited.{all_acts, AreSuited};
-ghost use Rattle.esync_history.specs.Todo.{fresh, unended};
+ghost use Rattle.esync_history.specs.Todo.{fresh, unended, act_counts};
 
 use crate::queue::Queue;
+use crate::replies::Replies;
 use crate::suited::are_suited;
 use crate::task::{Task, all_ended, make_tasks, queue_all};
-use crate::turn::{do_act, requeue};
+use crate::turn::{do_act, note, requeue};
 use esync_base::waitqueue::TaskId;
 use esync_machine::run::Awaits;
 use std::alloc::{AllocError, Global};
@@ -31,7 +33,7 @@ pub enum NewError {
     /// for.
     #[error("a request is used twice or isn't the machine's, or a call starts or polls")]
     NoSuch,
-    /// There was no memory for the tasks.
+    /// There was no memory for the tasks, or for what their acts will answer.
     #[error("there was no memory for the tasks")]
     NoMemory,
 }
@@ -64,22 +66,26 @@ impl From<AllocError> for NewError {
 /// task at the front of the queue and does its current act. Then the tasks that the machine woke go to the back of the queue,
 /// in order, and last the task itself, if its act is over or its poll had no memory. No task is queued twice, none is that has
 /// ended, and a waker that names no task is passed over.
+///
+/// What an act answered is kept once it is over: of an Await the answer of its last poll, or of its start where that named what
+/// isn't there, and of a Call its answer. `new` makes room for all of it.
 #[derive(Drop)]
 pub struct Executor<M: Awaits<Waker = TaskId>> {
     machine: M,
     tasks: Vec<Task<M::Ask, M::Command>>,
     queue: Queue,
+    replies: Replies<M::Reply>,
 }
 
 impl<M: Awaits<Waker = TaskId>> Model for Executor<M> {
     ghost use Rattle.esync_history.specs.Todo.{Executing};
     ghost use Rattle.esync_history.specs.Standing.{IsBetweenTurns};
 
-    ghost Value = { Executing M M.Ask M.Command };
+    ghost Value = { Executing M M.Ask M.Command M.Reply };
 
-    ghost view = { λ a. record { machine = a.machine; tasks = a.tasks.items; queue = a.queue.numbers } };
+    ghost view = { λ a. record { machine = a.machine; tasks = a.tasks.items; queue = a.queue.numbers; heard = a.replies.replies } };
 
-    ghost invariant = { λ a. IsBetweenTurns M.semantics a.machine a.tasks.items a.queue };
+    ghost invariant = { λ a. IsBetweenTurns M.semantics a.machine a.tasks.items a.queue a.replies };
 }
 
 impl<M: Awaits<Waker = TaskId> + Drop> Executor<M>
@@ -103,10 +109,12 @@ where
         ensures machine { IfOk result (λ executor. executor.machine ≡ machine) }
         ensures tasks { IfOk result (λ executor. executor.tasks ≡ map (λ acts. fresh acts.items) tasks.items) }
         ensures queue { IfOk result (λ executor. executor.queue ≡ unended executor.tasks) }
+        ensures heard { IfOk result (λ executor. executor.heard ≡ map (λ _. []) tasks.items) }
     {
         if !are_suited::<M>(&tasks) {
             return Err(NewError::NoSuch);
         }
+        let replies = Replies::new(alloc, &tasks)?;
         let tasks = make_tasks(alloc, tasks)?;
         let mut queue = Queue::new(alloc, tasks.len())?;
         queue_all(&tasks, &mut queue);
@@ -114,6 +122,7 @@ where
             machine,
             tasks,
             queue,
+            replies,
         })
     }
 
@@ -128,7 +137,9 @@ where
         };
         let task = &mut self.tasks[number];
         let heard = do_act(&mut self.machine, task, TaskId(number as u64));
+        let over = task.request().is_none();
         requeue::<M>(&self.tasks, &mut self.queue, &heard, number);
+        note(&mut self.replies, heard, number, over);
         true
     }
 
@@ -136,6 +147,7 @@ where
     fn outcome(&self) -> Outcome
         ensures tells { Tells result self.now }
         ensures standing { AreStanding M.semantics self.now.machine self.now.tasks self.now.queue }
+        ensures places { length self.now.heard ≡ length self.now.tasks }
     {
         if !self.queue.is_empty() {
             Outcome::Limit
@@ -152,6 +164,8 @@ where
     pub fn run(&mut self, limit: usize) -> Outcome
         ensures run { Ran M.semantics M.starting limit self.old result self.new }
         ensures outcome { Tells result self.new }
+        ensures places { length self.new.heard ≡ length self.new.tasks }
+        ensures counts { act_counts self.new ≡ act_counts self.old }
         ensures stalled { result ≡ Outcome.Stalled → AreStalled M.semantics.meaning (M.semantics.object self.new.machine) self.new.tasks }
     {
         for _turn in 0..limit {
@@ -160,6 +174,14 @@ where
             }
         }
         self.outcome()
+    }
+
+    /// What the acts of the task that are over answered, in order. `None` where there is no task of this number.
+    pub fn heard(&self, task: usize) -> Option<&[M::Reply]>
+        ensures heard { option_copied result ≡ slice_get self.now.heard task }
+        ensures none { IfNone result (length self.now.tasks ≤ task) }
+    {
+        self.replies.get(task)
     }
 
     /// The machine.
@@ -174,5 +196,13 @@ where
         ensures { result ≡ self.machine }
     {
         self.machine
+    }
+
+    /// The machine, and what each task heard, in the tasks' order.
+    pub fn into_parts(self) -> (M, Vec<Vec<M::Reply>>)
+        ensures machine { result.0 ≡ self.machine }
+        ensures heard { map (λ v. v.items) result.1.items ≡ self.heard }
+    {
+        (self.machine, self.replies.into_vec())
     }
 }

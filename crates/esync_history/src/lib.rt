@@ -4,6 +4,7 @@
 pub mod executor;
 mod queue;
 pub mod recorded;
+mod replies;
 mod suited;
 mod task;
 mod turn;

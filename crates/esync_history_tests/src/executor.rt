@@ -1,5 +1,5 @@
 use esync_base::waitqueue::TaskId;
-use esync_channel::channel::ChannelState;
+use esync_channel::channel::{ChannelState, TrySendError};
 use esync_history::executor::{Act, Executor, NewError, Outcome};
 use esync_machine::run::Machine;
 use esync_run::channel::{ChannelAsk, ChannelCall, ChannelCommand, ChannelHeard, ChannelRun};
@@ -35,6 +35,32 @@ fn held(channel: &mut Channel) -> Option<usize> {
     }
 }
 
+type ChannelAnswer = Answer<ChannelHeard<u32>>;
+
+fn received(message: u32) -> ChannelAnswer {
+    Answer::Gives(ChannelHeard::Received(message))
+}
+
+fn sent() -> ChannelAnswer {
+    Answer::Gives(ChannelHeard::TrySent(Ok(())))
+}
+
+// The acts of the task that are over answered this, in order.
+fn has_heard(executor: &Executor<Channel>, task: usize, answers: &[ChannelAnswer]) -> bool {
+    let Some(heard) = executor.heard(task) else {
+        return false;
+    };
+    if heard.len() != answers.len() {
+        return false;
+    }
+    for (reply, answer) in heard.iter().zip(answers) {
+        if reply.answer != *answer {
+            return false;
+        }
+    }
+    true
+}
+
 // One task for each act.
 fn one_act_each(alloc: Global, acts: &[ChannelAct]) -> Result<Tasks, AllocError> {
     let mut tasks = Vec::new(alloc);
@@ -51,6 +77,10 @@ fn a_message_reaches_the_task_that_waits(rt: HostRuntime) -> Result<(), Fail> {
     let mut executor = Executor::new(alloc, channel(), tasks)?;
     assert_eq!(rt; executor.run(10), Outcome::Done);
     assert_eq!(rt; executor.run(0), Outcome::Done);
+    assert!(rt; has_heard(&executor, 0, &[received(7)]));
+    assert!(rt; has_heard(&executor, 1, &[sent()]));
+    assert!(rt; executor.heard(2).is_none());
+    assert!(rt; executor.heard(usize::MAX).is_none());
     let mut channel = executor.into_machine();
     assert_eq!(rt; held(&mut channel), Some(0));
     Ok(())
@@ -62,8 +92,14 @@ fn a_run_goes_on_after_its_limit(rt: HostRuntime) -> Result<(), Fail> {
     let tasks = one_act_each(alloc, &[receive(0), try_send(7)])?;
     let mut executor = Executor::new(alloc, channel(), tasks)?;
     assert_eq!(rt; executor.run(0), Outcome::Limit);
+    assert!(rt; has_heard(&executor, 0, &[]));
+    assert!(rt; has_heard(&executor, 1, &[]));
     assert_eq!(rt; executor.run(2), Outcome::Limit);
+    assert!(rt; has_heard(&executor, 0, &[]));
+    assert!(rt; has_heard(&executor, 1, &[sent()]));
     assert_eq!(rt; executor.run(1), Outcome::Done);
+    assert!(rt; has_heard(&executor, 0, &[received(7)]));
+    assert!(rt; has_heard(&executor, 1, &[sent()]));
     Ok(())
 }
 
@@ -74,6 +110,7 @@ fn a_task_that_nobody_wakes_stalls(rt: HostRuntime) -> Result<(), Fail> {
     assert_eq!(rt; executor.run(0), Outcome::Limit);
     assert_eq!(rt; executor.run(1), Outcome::Stalled);
     assert_eq!(rt; executor.run(10), Outcome::Stalled);
+    assert!(rt; has_heard(&executor, 0, &[]));
     Ok(())
 }
 
@@ -84,6 +121,8 @@ fn two_receivers_wake_each_other_for_ever(rt: HostRuntime) -> Result<(), Fail> {
     let mut executor = Executor::new(alloc, channel(), tasks)?;
     assert_eq!(rt; executor.run(50), Outcome::Limit);
     assert_eq!(rt; executor.run(50), Outcome::Limit);
+    assert!(rt; has_heard(&executor, 0, &[]));
+    assert!(rt; has_heard(&executor, 1, &[]));
     Ok(())
 }
 
@@ -92,9 +131,11 @@ fn tasks_without_acts_have_ended(rt: HostRuntime) -> Result<(), Fail> {
     let alloc = rt.alloc();
     let mut nobody = Executor::new(alloc, channel(), Vec::new(alloc))?;
     assert_eq!(rt; nobody.run(0), Outcome::Done);
+    assert!(rt; nobody.heard(0).is_none());
     let empty = vec![in alloc; Vec::new(alloc)]?;
     let mut idle = Executor::new(alloc, channel(), empty)?;
     assert_eq!(rt; idle.run(0), Outcome::Done);
+    assert!(rt; has_heard(&idle, 0, &[]));
     let beside = vec![in alloc; Vec::new(alloc), vec![in alloc; try_send(7)]?]?;
     let mut executor = Executor::new(alloc, channel(), beside)?;
     assert_eq!(rt; executor.run(0), Outcome::Limit);
@@ -124,6 +165,7 @@ fn an_await_of_an_occupied_number_is_over(rt: HostRuntime) -> Result<(), Fail> {
     let acts = vec![in alloc; receive(3), try_send(7)]?;
     let mut executor = Executor::new(alloc, channel, vec![in alloc; acts]?)?;
     assert_eq!(rt; executor.run(2), Outcome::Done);
+    assert!(rt; has_heard(&executor, 0, &[Answer::NoSuch, sent()]));
     let mut channel = executor.into_machine();
     assert_eq!(rt; held(&mut channel), Some(1));
     Ok(())
@@ -135,6 +177,8 @@ fn an_await_whose_request_a_call_ends_stalls(rt: HostRuntime) -> Result<(), Fail
     let tasks = one_act_each(alloc, &[receive(0), Act::Call(Command::End(0))])?;
     let mut executor = Executor::new(alloc, channel(), tasks)?;
     assert_eq!(rt; executor.run(10), Outcome::Stalled);
+    assert!(rt; has_heard(&executor, 0, &[]));
+    assert!(rt; has_heard(&executor, 1, &[Answer::Done]));
     Ok(())
 }
 
@@ -143,10 +187,15 @@ fn acts_of_a_task_come_in_order(rt: HostRuntime) -> Result<(), Fail> {
     let alloc = rt.alloc();
     let acts = vec![in alloc; try_send(1), try_send(2), receive(4)]?;
     let mut executor = Executor::new(alloc, channel(), vec![in alloc; acts]?)?;
+    let full = Answer::Gives(ChannelHeard::TrySent(Err(TrySendError::Full(2))));
     assert_eq!(rt; executor.run(2), Outcome::Limit);
+    assert!(rt; has_heard(&executor, 0, &[sent(), full]));
     assert_eq!(rt; executor.run(1), Outcome::Done);
-    let mut channel = executor.into_machine();
+    assert!(rt; has_heard(&executor, 0, &[sent(), full, received(1)]));
+    let (mut channel, heard) = executor.into_parts();
     assert_eq!(rt; held(&mut channel), Some(0));
+    assert_eq!(rt; heard.len(), 1);
+    assert!(rt; heard.first().is_some_and(|answers| answers.len() == 3));
     Ok(())
 }
 

@@ -13,6 +13,12 @@ mod permits;
 mod pipe;
 #[cfg(test)]
 mod priority;
+#[cfg(test)]
+mod pubsub;
+#[cfg(test)]
+mod refused;
 pub mod stalls;
 #[cfg(test)]
 mod watch;
+#[cfg(test)]
+mod zerocopy;

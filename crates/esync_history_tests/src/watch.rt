@@ -1,33 +1,35 @@
 use esync_base::waitqueue::TaskId;
 use esync_cells::watch::{Change, Judge};
 use esync_history::executor::{Act, Executor, Outcome};
-use esync_run::primitive::Command;
+use esync_run::primitive::{Answer, Command};
 use esync_run::requests::Requests;
-use esync_run::watch::{Await, Reading, WatchCall, WatchCommand, WatchRun, Watched};
+use esync_run::watch::{Await, Reading, WatchCall, WatchCommand, WatchHeard, WatchRun, Watched};
+use std::alloc::AllocError;
+use std::cell::Cell;
 use std::test::Fail;
 
 // Lets no value pass, and changes none.
 #[derive(Clone, Copy)]
 struct Never {}
 
-impl Judge<u32> for Never {
+impl<T> Judge<T> for Never {
     ghost use Rattle.std.specs.Prelude.{false};
 
     ghost passes = { λ _ _. false };
 
-    fn holds(&self, _value: &u32) -> bool {
+    fn holds(&self, _value: &T) -> bool {
         false
     }
 }
 
-impl Change<u32> for Never {
+impl<T> Change<T> for Never {
     ghost use Rattle.std.specs.Prelude.{false, refl};
 
     ghost changed = { λ _ value. value };
 
     ghost tells = { λ _ _. false };
 
-    fn apply(&self, _value: &mut Option<u32>) -> bool {
+    fn apply(&self, _value: &mut Option<T>) -> bool {
         false
     }
 
@@ -60,5 +62,64 @@ fn a_new_value_reaches_the_receiver_that_waits(rt: HostRuntime) -> Result<(), Fa
         assert_eq!(rt; executor.run(4), Outcome::Limit);
         assert_eq!(rt; executor.run(1), outcome);
     }
+    Ok(())
+}
+
+// A value whose clone has no memory while the cell says so.
+#[derive(Drop)]
+struct Scarce<'a> {
+    is_refused: &'a Cell<bool>,
+    value: u32,
+}
+
+impl Clone for Scarce<'_> {
+    fn clone(&self) -> Result<Self, AllocError> {
+        if self.is_refused.get() {
+            return Err(AllocError);
+        }
+        Ok(Scarce {
+            is_refused: self.is_refused,
+            value: self.value,
+        })
+    }
+}
+
+type ScarceWatch<'a> = WatchRun<Scarce<'a>, TaskId, Never, Never, 2, 16, 16, 2>;
+
+// How many acts of the task are over, and the value of which the last one told.
+fn told(executor: &Executor<ScarceWatch<'_>>, task: usize) -> Option<(usize, Option<u32>)> {
+    let heard = executor.heard(task)?;
+    let value = match &heard.last()?.answer {
+        Answer::Gives(WatchHeard::Waited(scarce)) => Some(scarce.value),
+        _ => None,
+    };
+    Some((heard.len(), value))
+}
+
+#[test]
+fn want_of_memory_is_no_answer_that_is_kept(rt: HostRuntime) -> Result<(), Fail> {
+    let alloc = rt.alloc();
+    let is_refused = Cell::new(true);
+    let scarce = Scarce {
+        is_refused: &is_refused,
+        value: 5,
+    };
+    let watch: ScarceWatch<'_> = Requests::new(Watched::new());
+    let read = Await {
+        receiver: 0,
+        read: Reading::Changed,
+    };
+    let receives = vec![in alloc;
+        Act::Call(Command::Call(WatchCall::Receiver(0))),
+        Act::Await(0, read),
+    ]?;
+    let sends = vec![in alloc; Act::Call(Command::Call(WatchCall::Send(scarce)))]?;
+    let mut executor = Executor::new(alloc, watch, vec![in alloc; receives, sends]?)?;
+    assert_eq!(rt; executor.run(9), Outcome::Limit);
+    assert_eq!(rt; told(&executor, 0), Some((1, None)));
+    is_refused.set(false);
+    assert_eq!(rt; executor.run(1), Outcome::Done);
+    assert_eq!(rt; told(&executor, 0), Some((2, Some(5))));
+    assert_eq!(rt; told(&executor, 1), Some((1, None)));
     Ok(())
 }

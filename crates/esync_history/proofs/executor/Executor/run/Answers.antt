@@ -1,6 +1,8 @@
 use Rattle.std.proofs.Common.{◌≡◌, [], ◌++◌, add-one, arith, refl, sym, ap, subst, ◌∙◌}
+use Rattle.esync_history.specs.Todo.{act_counts}
 use Rattle.esync_history.specs.Turns.{Turns, Tells}
 use Rattle.esync_history.proofs.Turning.{ran}
+use Rattle.esync_history.proofs.Answering.{turns_counts}
 use Rattle.esync_history.proofs.Stalling.{all_stalled}
 use Rattle.esync_history.proofs.executor.Executor.run.Goals as goal
 
@@ -39,3 +41,11 @@ returns-clause-stalled g c e =
     let new = c.loop-turn.self in
     let told = subst (λ o. Tells o new) e c.outcome-2.ensures.tells in
     all_stalled g.M.Machine.semantics g.met.M.Machine.idle g.met.M.Machine.pending g.met.M.Machine.no_such new.machine new.tasks new.queue c.outcome-2.ensures.standing told.1
+
+pub returns-then-not-take_turn-clause-counts : goal.returns-then-not-take_turn-clause-counts
+returns-then-not-take_turn-clause-counts g c =
+    let i = c.loop-turn.invariant in
+    ap (λ e. act_counts e) c.if-not-take_turn.ensures.unchanged ∙ turns_counts g.M.Machine.semantics g.M.Awaits.starting c.loop-turn._turn c.args.self.now c.loop-turn.self i.0 i.1
+
+pub returns-clause-counts : goal.returns-clause-counts
+returns-clause-counts g c = (let i = c.loop-turn.invariant in turns_counts g.M.Machine.semantics g.M.Awaits.starting c.loop-turn._turn c.args.self.now c.loop-turn.self i.0 i.1)

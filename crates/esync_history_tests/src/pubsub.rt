@@ -1,0 +1,48 @@
+use esync_base::waitqueue::TaskId;
+use esync_history::executor::{Act, Executor, Outcome};
+use esync_machine::run::Machine;
+use esync_run::primitive::{Answer, Command};
+use esync_run::pubsub::{Events, PubSubAsk, PubSubCall, PubSubCommand, PubSubHeard, PubSubRun};
+use esync_run::requests::Requests;
+use std::alloc::Global;
+use std::test::Fail;
+
+type Topic = PubSubRun<u32, TaskId, 2, 4, 4, 4, 16, 4>;
+
+type TopicAct = Act<PubSubAsk<u32>, PubSubCommand<u32, TaskId>>;
+
+// A task publishes three messages to a topic of two. Another one does three calls, and then awaits so many messages.
+fn executor(alloc: Global, awaited: usize) -> Result<Executor<Topic>, Fail> {
+    let mut topic: Topic = Requests::new(Events::new_at(0));
+    topic.step(Command::Call(PubSubCall::Publisher(0)));
+    topic.step(Command::Call(PubSubCall::Join(0)));
+    let mut publisher: Vec<TopicAct> = Vec::new(alloc);
+    for (r, message) in [(8, 5), (9, 6), (10, 7)] {
+        publisher.push(Act::Await(r, PubSubAsk::Publish(0, message)))?;
+    }
+    let len = Act::Call(Command::Call(PubSubCall::Len));
+    let mut subscriber = vec![in alloc; len, len, len]?;
+    for r in 0..awaited {
+        subscriber.push(Act::Await(r, PubSubAsk::Message(0)))?;
+    }
+    Ok(Executor::new(alloc, topic, vec![in alloc; publisher, subscriber]?)?)
+}
+
+#[test]
+fn a_message_that_is_read_makes_room_for_the_task_that_publishes(
+    rt: HostRuntime,
+) -> Result<(), Fail> {
+    for (awaited, turns, outcome, held) in [
+        (0, 6, Outcome::Stalled, 2),
+        (1, 8, Outcome::Done, 2),
+        (3, 10, Outcome::Done, 0),
+        (4, 11, Outcome::Stalled, 0),
+    ] {
+        let mut executor = executor(rt.alloc(), awaited)?;
+        assert_eq!(rt; executor.run(turns - 1), Outcome::Limit, "{awaited}");
+        assert_eq!(rt; executor.run(1), outcome, "{awaited}");
+        let reply = executor.into_machine().step(Command::Call(PubSubCall::Len));
+        assert!(rt; reply.answer == Answer::Gives(PubSubHeard::Number(held)));
+    }
+    Ok(())
+}
