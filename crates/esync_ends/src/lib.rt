@@ -7,7 +7,7 @@ use crate::replay::{Player, Script, SyncRun};
 use crate::standing::{Standing, standing_of};
 use esync_words::fault::Fault;
 use std::alloc::Global;
-use std::io::{self, Read, Write};
+use std::io::{self, ErrorKind, Read, Write};
 
 pub mod replay;
 mod standing;
@@ -77,7 +77,7 @@ fn try_script<P: Player, R: Read + Drop, W: Write>(
     input: R,
     output: &mut W,
 ) -> Result<Tried, Fault> {
-    let text = io::read_to_string(alloc, input)?;
+    let text = read_text(alloc, input)?;
     player.play(alloc, &text)?;
     let script = Script::new(alloc, &text)?;
     let mut tried = Tried::default();
@@ -92,6 +92,22 @@ fn try_script<P: Player, R: Read + Drop, W: Write>(
     writeln!(output, "{ends} ends, {polls} polls, {untold} not told")?;
     output.flush()?;
     Ok(tried)
+}
+
+// The text of the input.
+fn read_text<R: Read + Drop>(alloc: Global, input: R) -> Result<String, Fault> {
+    match io::read_to_string(alloc, input) {
+        Ok(text) => Ok(text),
+        Err(error) => Err(unread(&error)),
+    }
+}
+
+// Why the input wasn't read to its end.
+fn unread(error: &io::Error) -> Fault {
+    if error.kind() == ErrorKind::OutOfMemory {
+        return Fault::OutOfMemory;
+    }
+    Fault::InputOutput
 }
 
 // Ends each request that is there after this many lines.

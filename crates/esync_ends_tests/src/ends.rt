@@ -37,7 +37,7 @@ fn assert_told(rt: &(impl Abort + AllocGlobal), script: &str) -> Result<(), Fail
 }
 
 /// Plays as `syncrun` does, and keeps back each list of wakes that is the waker 1 alone.
-struct KeepsBack {}
+pub struct KeepsBack {}
 
 impl Player for KeepsBack {
     fn play(&self, alloc: Global, script: &str) -> Result<String, Fault> {

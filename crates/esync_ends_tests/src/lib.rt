@@ -3,3 +3,5 @@
 
 #[cfg(test)]
 mod ends;
+#[cfg(test)]
+mod failures;
