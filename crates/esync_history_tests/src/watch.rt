@@ -4,7 +4,7 @@ use esync_history::executor::{Act, Executor, Outcome};
 use esync_run::primitive::{Answer, Command};
 use esync_run::requests::Requests;
 use esync_run::watch::{Await, Reading, WatchCall, WatchCommand, WatchHeard, WatchRun, Watched};
-use std::alloc::AllocError;
+use std::alloc::{AllocError, Global};
 use std::cell::Cell;
 use std::test::Fail;
 
@@ -96,15 +96,12 @@ fn told(executor: &Executor<ScarceWatch<'_>>, task: usize) -> Option<(usize, Opt
     Some((heard.len(), value))
 }
 
-#[test]
-fn want_of_memory_is_no_answer_that_is_kept(rt: HostRuntime) -> Result<(), Fail> {
-    let alloc = rt.alloc();
-    let is_refused = Cell::new(true);
-    let scarce = Scarce {
-        is_refused: &is_refused,
-        value: 5,
-    };
-    let watch: ScarceWatch<'_> = Requests::new(Watched::new());
+// A task makes a receiver and awaits a change, and another one sends this value.
+fn scarce_executor<'a>(
+    alloc: Global,
+    scarce: Scarce<'a>,
+) -> Result<Executor<ScarceWatch<'a>>, Fail> {
+    let watch: ScarceWatch<'a> = Requests::new(Watched::new());
     let read = Await {
         receiver: 0,
         read: Reading::Changed,
@@ -114,7 +111,17 @@ fn want_of_memory_is_no_answer_that_is_kept(rt: HostRuntime) -> Result<(), Fail>
         Act::Await(0, read),
     ]?;
     let sends = vec![in alloc; Act::Call(Command::Call(WatchCall::Send(scarce)))]?;
-    let mut executor = Executor::new(alloc, watch, vec![in alloc; receives, sends]?)?;
+    Ok(Executor::new(alloc, watch, vec![in alloc; receives, sends]?)?)
+}
+
+#[test]
+fn want_of_memory_is_no_answer_that_is_kept(rt: HostRuntime) -> Result<(), Fail> {
+    let is_refused = Cell::new(true);
+    let scarce = Scarce {
+        is_refused: &is_refused,
+        value: 5,
+    };
+    let mut executor = scarce_executor(rt.alloc(), scarce)?;
     assert_eq!(rt; executor.run(9), Outcome::Limit);
     assert_eq!(rt; told(&executor, 0), Some((1, None)));
     is_refused.set(false);
