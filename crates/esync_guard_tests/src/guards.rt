@@ -1,3 +1,4 @@
+use crate::threads::Deaf;
 use esync_base::waitqueue::{Context, Hand, Poll};
 use esync_guards::mutex::{LockFuture, Mutex, MutexGuard, Second, TryLockError};
 use esync_notes::{Notes, woken};
@@ -65,8 +66,7 @@ fn writes_second<H: Hand<u64>>(
 
 #[test]
 fn a_mapped_guard_that_is_dropped_unlocks(rt: HostRuntime) {
-    let notes = Notes::new(&rt);
-    let mutex = Mutex::new((0u32, 1u32), &notes);
+    let mutex: Mutex<(u32, u32), u64, Deaf<HostRuntime>> = Mutex::from((0, 1));
     writes_second(&rt, &mutex, (0, 1), 2);
     writes_second(&rt, &mutex, (0, 2), 3);
     assert_eq!(rt; *locks(&rt, &mutex).get(), (0, 3));

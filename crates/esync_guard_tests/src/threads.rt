@@ -1,21 +1,32 @@
 use esync_base::waitqueue::Hand;
 use esync_guards::mutex::{Mutex, TryLockError};
+use std::marker::PhantomData;
 use std::process::Abort;
 use std::sync::Wait;
 use std::sync::atomic::{AtomicU32, Ordering};
 use std::thread;
 
-// A hand that wakes nobody: nobody waits here.
+// A hand that is made of nothing, and wakes nobody: nobody waits for it. It may wait, as the runtime that it names.
 #[derive(Drop)]
-struct Deaf<'a, R> {
-    rt: &'a R,
+pub struct Deaf<R> {
+    runtime: PhantomData<R>,
 }
 
-impl<R: Wait> Hand<u64> for Deaf<'_, R> {
-    type Rt = R;
+impl<R> Default for Deaf<R> {
+    fn default() -> Self {
+        Deaf {
+            runtime: PhantomData,
+        }
+    }
+}
 
-    fn rt(&self) -> &R {
-        self.rt
+impl<R: Wait> Wait for Deaf<R> {}
+
+impl<R: Wait> Hand<u64> for Deaf<R> {
+    type Rt = Self;
+
+    fn rt(&self) -> &Self {
+        self
     }
 
     fn wake(&self, _waker: u64) {}
@@ -36,7 +47,7 @@ fn adds<H: Hand<u64>>(rt: &impl Wait, mutex: &Mutex<u32, u64, H>, rounds: u32) {
 
 #[test]
 fn what_two_threads_add_under_the_lock_is_all_there(rt: HostRuntime) {
-    let mutex = Mutex::new(0u32, Deaf { rt: &rt });
+    let mutex: Mutex<u32, u64, Deaf<HostRuntime>> = Mutex::default();
     let shared = &mutex;
     let here = &rt;
     thread::scope(thread::scope_env(), here, |scope| {
@@ -77,7 +88,7 @@ fn awaits(flag: &AtomicU32, reads: u32) -> u32 {
 
 #[test]
 fn another_thread_is_refused_while_a_guard_reads_and_writes(rt: HostRuntime) {
-    let mutex = Mutex::new(1u32, Deaf { rt: &rt });
+    let mutex: Mutex<u32, u64, Deaf<HostRuntime>> = Mutex::new(1, Deaf::default());
     let flag = AtomicU32::new(NOT_TRIED);
     let (shared, told, here) = (&mutex, &flag, &rt);
     thread::scope(thread::scope_env(), here, |scope| {
