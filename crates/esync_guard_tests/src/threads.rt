@@ -1,4 +1,4 @@
-use esync_base::waitqueue::Hand;
+use esync_base::waitqueue::{Context, Hand, Poll};
 use esync_guards::mutex::{Mutex, TryLockError};
 use std::marker::PhantomData;
 use std::process::Abort;
@@ -104,4 +104,74 @@ fn another_thread_is_refused_while_a_guard_reads_and_writes(rt: HostRuntime) {
         guard.end();
     });
     assert_eq!(rt; mutex.into_inner(), 7);
+}
+
+const WOKEN: u32 = 3;
+
+// A hand that lets another thread try the lock when it wakes, and then keeps what that was answered.
+#[derive(Drop)]
+struct Lets<'a, R> {
+    rt: &'a R,
+    woken: &'a AtomicU32,
+    told: &'a AtomicU32,
+}
+
+impl<R: Wait> Hand<u64> for Lets<'_, R> {
+    type Rt = R;
+
+    fn rt(&self) -> &R {
+        self.rt
+    }
+
+    fn wake(&self, _waker: u64) {
+        self.woken.store(WOKEN, Ordering::SeqCst);
+        let heard = awaits(self.told, 50_000_000);
+        self.woken.store(heard, Ordering::SeqCst);
+    }
+}
+
+// Tells what it is answered once it is woken.
+fn tells_once_woken<H: Hand<u64>>(
+    rt: &impl Wait,
+    mutex: &Mutex<u32, u64, H>,
+    woken: &AtomicU32,
+    flag: &AtomicU32,
+) {
+    for _read in rt.forever() {
+        if woken.load(Ordering::SeqCst) != NOT_TRIED {
+            break;
+        }
+    }
+    tells(mutex, flag);
+}
+
+#[test]
+fn who_is_woken_can_lock_at_once(rt: HostRuntime) {
+    let (woken, flag) = (AtomicU32::new(NOT_TRIED), AtomicU32::new(NOT_TRIED));
+    let (asked, told, here) = (&woken, &flag, &rt);
+    let mutex = Mutex::new(
+        1u32,
+        Lets {
+            rt: here,
+            woken: asked,
+            told,
+        },
+    );
+    let shared = &mutex;
+    thread::scope(thread::scope_env(), here, |scope| {
+        let Ok(guard) = shared.try_lock() else {
+            here.abort()
+        };
+        if let Poll::Ready(_) = shared.lock().poll(&Context::from_waker(1)) {
+            here.abort()
+        }
+        if scope
+            .spawn(move || tells_once_woken(here, shared, asked, told))
+            .is_err()
+        {
+            here.abort()
+        }
+        guard.end();
+    });
+    assert_eq!(rt; woken.load(Ordering::SeqCst), LOCKED);
 }
