@@ -14,7 +14,7 @@ use std::sync::{self, Wait};
 /// A value that tasks on several threads share by reference, and one at a time uses through a guard.
 ///
 /// Its lock is held for the length of a state call alone. A guard has the value to itself: it reads and writes it without
-/// a lock.
+/// waiting.
 #[derive(Drop)]
 pub struct Mutex<T, W, H> {
     state: Shared<MutexState<W>, W, H>,
@@ -35,7 +35,8 @@ impl<T, W: Copy + Eq, H: Hand<W>> Mutex<T, W, H> {
         LockFuture { mutex: self }
     }
 
-    /// Locks, if the mutex is not locked now. The error leaves everything as it is.
+    /// Locks, if the mutex is not locked now. The error leaves everything as it is. A mutex that is not locked, but whose value
+    /// can't be taken just now, is answered as a locked one.
     pub fn try_lock(&self) -> Result<MutexGuard<'_, T, W, H>, TryLockError> {
         let turn = try_turn(&self.inner, &mut self.state.guard());
         match turn {
@@ -128,7 +129,8 @@ pub struct LockFuture<'a, T, W, H> {
 }
 
 impl<'a, T, W: Copy + Eq, H: Hand<W>> LockFuture<'a, T, W, H> {
-    /// Locks, if the mutex is not locked now. Otherwise the context's waker waits for that.
+    /// Locks, if the mutex is not locked now. Otherwise the context's waker waits for that. Where the mutex is not locked, but its
+    /// value can't be taken just now, the answer is Pending too, and the context's waker is handed out, so that the task polls again.
     pub fn poll(&mut self, cx: &Context<W>) -> Poll<MutexGuard<'a, T, W, H>> {
         self.mutex.poll_lock(cx)
     }

@@ -78,8 +78,8 @@ fn reset<W: Copy + Eq>(turns: &mut Turns<W>, wakes: &mut Wakes<W, 1>)
 
 /// A channel of slots, which a sender and a receiver share by reference.
 ///
-/// Its lock is held for the length of a state call alone. A loan has the slot's value to itself: it reads and writes it without a
-/// lock.
+/// Its lock is held for the length of a state call alone. A loan has the slot's value to itself: it reads and writes it without
+/// waiting. A slot whose value can't be taken just now is answered as if there were none, and a poll hands out its own waker then.
 #[derive(Drop)]
 pub struct Channel<T, W, H> {
     slots: Vec<Slot<T>>,
@@ -326,7 +326,8 @@ pub type ZeroSend<'a, T, W, H> = ZeroRequest<'a, T, W, H>;
 pub type ZeroReceive<'a, T, W, H> = ZeroRequest<'a, T, W, H>;
 
 impl<'a, T, W: Copy + Eq, H: Hand<W>> ZeroRequest<'a, T, W, H> {
-    /// Lends the side's next slot, if there is one now. Otherwise the context's waker waits for one.
+    /// Lends the side's next slot, if there is one now. Otherwise the context's waker waits for one. Where there is one, but its value
+    /// can't be taken just now, the answer is Pending too, and the context's waker is handed out, so that the task polls again.
     pub fn poll(&mut self, cx: &Context<W>) -> Poll<SlotLoan<'a, T, W, H>> {
         self.channel.poll_lend(self.side, cx)
     }
