@@ -34,7 +34,7 @@ const fn program(name: &'static str, case: &'static str, upstream: Pass) -> Case
     }
 }
 
-pub const CASES: [Case; 41] = [
+pub const CASES: [Case; 42] = [
     state(
         "channel_ping_pong_4",
         ours::ping_pong_4,
@@ -216,6 +216,11 @@ pub const CASES: [Case; 41] = [
         upstream::pipe_wait_and_wake::<NoopRawMutex, 32, 16>,
     ),
     program("zerocopy_1024", "slots", upstream::slots::<NoopRawMutex>),
+    program(
+        "zerocopy_1024_beside_channel",
+        "slots",
+        upstream::blocks::<NoopRawMutex>,
+    ),
     program("channel_1024_bytes", "blocks", upstream::blocks::<NoopRawMutex>),
     program(
         "shared_ping_pong_4",
