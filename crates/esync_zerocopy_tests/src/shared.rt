@@ -147,3 +147,53 @@ fn what_was_written_stays_when_a_slot_is_lent_again(rt: HostRuntime) -> Result<(
     woken!(&rt, &notes, &[]);
     Ok(())
 }
+
+#[test]
+fn a_side_clears_once_the_other_sides_loan_has_ended(rt: HostRuntime) -> Result<(), Fail> {
+    let notes = Notes::new(&rt);
+    let seven = Context::from_waker(7);
+    let mut channel = Channel::new(vec![in rt.alloc(); Slot::new(4u32)]?, &notes);
+    let (mut sender, mut receiver) = channel.split();
+    sender.send_done();
+    pending(&rt, sender.poll_send(&seven));
+    let received = lent(&rt, receiver.try_receive());
+    assert_eq!(rt; sender.clear(), Err(SlotLent));
+    received.end();
+    woken!(&rt, &notes, &[]);
+    assert_eq!(rt; sender.clear(), Ok(()));
+    woken!(&rt, &notes, &[7]);
+    sender.send_done();
+    pending(&rt, sender.poll_send(&seven));
+    assert_eq!(rt; receiver.clear(), Ok(()));
+    woken!(&rt, &notes, &[7]);
+    Ok(())
+}
+
+#[test]
+fn both_sides_see_the_sizes_and_end_their_own_loans(rt: HostRuntime) -> Result<(), Fail> {
+    let notes = Notes::new(&rt);
+    let slots = vec![in rt.alloc(); Slot::new(0u32), Slot::new(0u32), Slot::new(0u32)]?;
+    let mut channel = Channel::new(slots, &notes);
+    channel.split().0.send_done();
+    let (mut sender, mut receiver) = channel.split();
+    assert_eq!(rt;
+        (sender.len(), sender.free_capacity(), sender.capacity()),
+        (1, 2, 3)
+    );
+    assert_eq!(rt;
+        (
+            receiver.len(),
+            receiver.free_capacity(),
+            receiver.capacity()
+        ),
+        (1, 2, 3)
+    );
+    assert!(rt; !sender.is_full() && !receiver.is_full());
+    let slot = lent(&rt, sender.try_send());
+    drop(lent(&rt, receiver.try_receive()));
+    assert_eq!(rt; receiver.clear(), Err(SlotLent));
+    slot.end();
+    assert_eq!(rt; receiver.clear(), Ok(()));
+    assert!(rt; sender.is_empty() && receiver.is_empty());
+    Ok(())
+}
