@@ -113,7 +113,7 @@ impl<T: Drop, W: Copy + Eq> OnceState<T, W> {
 
     /// Lends the value. Where there is none, it is first set to what the closure gives.
     pub fn get_or_init<F: FnOnce() -> T + Drop>(&mut self, f: F) -> &T
-        requires { F.pre f }
+        requires { IfNone self.old (F.pre f) }
         ensures* leaves { sem 𝓛 (follows_so (the_row T.row W.row) (the_row T.row W.row) self.entry.ghost_name none (λ _ _. ⊤) (λ v. v ≡ Some result.now)) }
         ensures there { IfSome self.old (λ value. result.now ≡ value) }
         ensures made { IfNone self.old (F.post f result.now) }
