@@ -3,12 +3,12 @@ use Rattle.std.specs.Prelude.{◌≡◌, ℕ, Bool, true, false, Option, Some, N
 use Rattle.std.specs.Coded.{Coded, code_by, coded×, coded_ℕ}
 use Rattle.esync_cells.specs.Watch.{found, Answers, seen_after}
 
--- what a test may answer of what is there: it isn't asked where nothing is
+-- what may be answered of a test of what is there: false where nothing is
 abbrev pub Tells : {T : Type 0} → (T → Bool → Type 0) → Option T → Bool → Type 0
 Tells Says None shows = shows ≡ false
 Tells Says (Some v) shows = Says v shows
 
--- the same of a test that is asked only where there is news
+-- the same where there is news, and false where there is none
 abbrev pub TellsIf : {T : Type 0} → Bool → (T → Bool → Type 0) → Option T → Bool → Type 0
 TellsIf false Says value shows = shows ≡ false
 TellsIf true Says value shows = Tells Says value shows
