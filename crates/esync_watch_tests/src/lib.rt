@@ -2,6 +2,8 @@
 #![tactic(auto)]
 
 #[cfg(test)]
+mod marks;
+#[cfg(test)]
 mod reads;
 #[cfg(test)]
 mod receivers;
