@@ -1,6 +1,7 @@
 use crate::reads::{Places, receives, sends};
+use esync_base::waitqueue::{Context, Poll};
 use esync_cells::watch::{DynReceiver, DynSender, Watch};
-use esync_notes::Notes;
+use esync_notes::{Notes, woken};
 use std::process::Abort;
 
 #[test]
@@ -59,6 +60,24 @@ fn dynamic_receiver_count(rt: HostRuntime) {
     let third = watch.receiver();
     assert!(rt; third.is_some());
     assert!(rt; watch.receiver().is_none());
+}
+
+#[test]
+fn an_end_gives_its_place_back_and_nothing_else(rt: HostRuntime) {
+    let notes = Notes::new(&rt);
+    let watch: Places<_, 2> = Watch::new_with(7, &notes);
+    let first = receives(&rt, watch.receiver()).as_dyn();
+    let mut second = receives(&rt, watch.receiver());
+    let mut changed = second.changed();
+    assert!(rt; changed.poll(&Context::from_waker(2)) == Ok(Poll::Pending));
+    drop(first);
+    woken!(&rt, &notes, &[]);
+    let third = watch.receiver();
+    assert!(rt; third.is_some());
+    assert!(rt; watch.receiver().is_none());
+    assert!(rt; watch.try_get() == Ok(Some(7)));
+    sends(&rt, &watch.sender(), 8);
+    woken!(&rt, &notes, &[2]);
 }
 
 #[test]

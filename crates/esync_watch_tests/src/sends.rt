@@ -1,7 +1,7 @@
 use crate::reads::{Places, receives, sends};
 use esync_base::waitqueue::{Context, Poll, Wakes};
 use esync_cells::watch::{Change, Watch, WatchState};
-use esync_notes::Notes;
+use esync_notes::{Notes, woken};
 use std::process::Abort;
 
 // Adds this much to a value, modulo 2^32.
@@ -24,6 +24,24 @@ impl Change<u32> for Adds {
     }
 
     ghost a_change_tells = { λ _ _ told. absurd cc };
+}
+
+// Leaves a value as it is.
+#[derive(Drop)]
+struct Leaves {}
+
+impl Change<u32> for Leaves {
+    ghost use Rattle.std.specs.Prelude.{false, refl};
+
+    ghost changed = { λ _ v. v };
+
+    ghost tells = { λ _ _. false };
+
+    fn apply(&self, _value: &mut Option<u32>) -> bool {
+        false
+    }
+
+    ghost a_change_tells = { λ _ _ _. refl };
 }
 
 #[test]
@@ -49,6 +67,40 @@ fn sender_modify(rt: HostRuntime) {
     assert!(rt; watch.sender().send_modify(&Adds(5)) == Ok(()));
     assert!(rt; receiver.try_changed() == Ok(Some(15)));
     assert!(rt; receiver.try_changed() == Ok(None));
+}
+
+#[test]
+fn a_change_wakes_where_it_tells(rt: HostRuntime) {
+    let notes = Notes::new(&rt);
+    let watch: Places<_, 1> = Watch::new_with(10, &notes);
+    let mut receiver = receives(&rt, watch.receiver());
+    let mut changed = receiver.changed();
+    let context = Context::from_waker(1);
+    assert!(rt; changed.poll(&context) == Ok(Poll::Pending));
+    assert!(rt; watch.sender().send_if_modified(&Leaves {}) == Ok(()));
+    woken!(&rt, &notes, &[]);
+    assert!(rt; changed.poll(&context) == Ok(Poll::Pending));
+    assert!(rt; watch.sender().send_if_modified(&Adds(5)) == Ok(()));
+    woken!(&rt, &notes, &[1]);
+    assert!(rt; changed.poll(&context) == Ok(Poll::Ready(15)));
+    assert_eq!(rt; watch.get_msg_id(), 1);
+}
+
+#[test]
+fn a_change_that_is_sent_wakes_whether_or_not_it_tells(rt: HostRuntime) {
+    let notes = Notes::new(&rt);
+    let watch: Places<_, 1> = Watch::new_with(10, &notes);
+    let mut receiver = receives(&rt, watch.receiver());
+    let mut changed = receiver.changed();
+    let context = Context::from_waker(1);
+    assert!(rt; changed.poll(&context) == Ok(Poll::Pending));
+    assert!(rt; watch.sender().send_modify(&Leaves {}) == Ok(()));
+    woken!(&rt, &notes, &[1]);
+    assert!(rt; changed.poll(&context) == Ok(Poll::Ready(10)));
+    assert!(rt; changed.poll(&context) == Ok(Poll::Pending));
+    assert!(rt; watch.sender().send_modify(&Adds(5)) == Ok(()));
+    woken!(&rt, &notes, &[1]);
+    assert_eq!(rt; watch.get_msg_id(), 2);
 }
 
 // Sends where no version is left.
