@@ -2,6 +2,8 @@
 #![tactic(auto)]
 
 #[cfg(test)]
+mod judges;
+#[cfg(test)]
 mod marks;
 #[cfg(test)]
 mod reads;
