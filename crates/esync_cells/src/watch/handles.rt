@@ -300,7 +300,8 @@ impl<'a, B: WatchBehavior> AnonRcv<'a, B> {
     pub fn try_get(&mut self) -> Result<Option<B::Value>, AllocError>
         ensures { ReadsSome B.Value.is_clone B.Value.is_infallible Always (λ v. true) self.old.seen result self.new.seen }
     {
-        self.watch.try_get(&mut self.seen)
+        let AnonRcv { watch, seen } = self;
+        watch.try_get(seen)
     }
 
     /// A clone of the value, if there is one that passes the test. Its version is marked as seen.
@@ -315,7 +316,8 @@ impl<'a, B: WatchBehavior> AnonRcv<'a, B> {
         requires { F.IsAlwaysCallable test }
         ensures { ReadsSome B.Value.is_clone B.Value.is_infallible (WherePassing (FnReturnsAt F.Fn test)) (λ v. false) self.old.seen result self.new.seen }
     {
-        self.watch.try_get_and(&test, &mut self.seen)
+        let AnonRcv { watch, seen } = self;
+        watch.try_get_and(&test, seen)
     }
 
     /// A clone of the value, if there is one and its version is newer than the one that was seen. A newer version is marked as seen,
@@ -327,7 +329,8 @@ impl<'a, B: WatchBehavior> AnonRcv<'a, B> {
     pub fn try_changed(&mut self) -> Result<Option<B::Value>, AllocError>
         ensures { ReadsSome B.Value.is_clone B.Value.is_infallible (WhereNewer self.old.seen) (nat_lt self.old.seen) self.old.seen result self.new.seen }
     {
-        self.watch.try_changed(&mut self.seen)
+        let AnonRcv { watch, seen } = self;
+        watch.try_changed(seen)
     }
 
     /// A clone of the value, if there is one that passes the test and its version is newer than the one that was seen. Its version is
@@ -343,7 +346,8 @@ impl<'a, B: WatchBehavior> AnonRcv<'a, B> {
         requires { F.IsAlwaysCallable test }
         ensures { ReadsSome B.Value.is_clone B.Value.is_infallible (WhereNewPassing (FnReturnsAt F.Fn test) self.old.seen) (λ v. false) self.old.seen result self.new.seen }
     {
-        self.watch.try_changed_and(&test, &mut self.seen)
+        let AnonRcv { watch, seen } = self;
+        watch.try_changed_and(&test, seen)
     }
 
     /// There is a value now.
