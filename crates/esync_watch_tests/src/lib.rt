@@ -2,6 +2,8 @@
 #![tactic(auto)]
 
 #[cfg(test)]
+mod clones;
+#[cfg(test)]
 mod judges;
 #[cfg(test)]
 mod marks;
