@@ -169,11 +169,18 @@ impl<M: Unlocks, G> Model for Guard<M, G> {
     ghost view = { λ a. a.value };
 }
 
-impl<M: Unlocks + Drop, G: Drop> Drop for Guard<M, G> {
-    fn drop(self) {
+impl<M: Unlocks, G: Drop> Guard<M, G> {
+    // Puts the value back, and gives the mutex alone: a state that is free never meets a value that is still out.
+    fn put_back(self) -> M {
         let Guard { mutex, value } = self;
         drop(value);
-        mutex.unlock();
+        mutex
+    }
+}
+
+impl<M: Unlocks + Drop, G: Drop> Drop for Guard<M, G> {
+    fn drop(self) {
+        self.put_back().unlock();
     }
 }
 

@@ -386,11 +386,18 @@ impl<S: EndsLoan, G> Model for Loan<S, G> {
     ghost view = { λ a. a.value };
 }
 
-impl<S: EndsLoan + Drop, G: Drop> Drop for Loan<S, G> {
-    fn drop(self) {
+impl<S: EndsLoan, G: Drop> Loan<S, G> {
+    // Puts the value back, and gives the side alone: a state that shows the slot never meets a value that is still out.
+    fn put_back(self) -> S {
         let Loan { side, value } = self;
         drop(value);
-        side.end();
+        side
+    }
+}
+
+impl<S: EndsLoan + Drop, G: Drop> Drop for Loan<S, G> {
+    fn drop(self) {
+        self.put_back().end();
     }
 }
 
@@ -420,9 +427,7 @@ impl<S: EndsLoan, G: Holds> Loan<S, G> {
         S: Drop,
         G: Drop,
     {
-        let Loan { side, value } = self;
-        drop(value);
-        side.done();
+        self.put_back().done();
     }
 
     /// Ends the loan, as a drop does.
