@@ -250,5 +250,9 @@ fn a_wait_acts_anew_after_it_was_ready(rt: HostRuntime) {
     assert!(rt; wait.poll(&cx) == Poll::Ready(6));
     signal.signal(7);
     assert!(rt; signal.poll_wait(&cx) == Poll::Ready(7));
+    assert!(rt; !signal.signaled());
+    signal.signal(8);
+    signal.reset();
+    assert_eq!(rt; signal.try_take(), None);
     woken!(&rt, &notes, &[]);
 }
