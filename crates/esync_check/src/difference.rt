@@ -1,5 +1,5 @@
 //! The first reply of a recorded run that is another than the object's.
-ghost use Rattle.std.specs.Prelude.{◌≡◌, ℕ, ◌+◌, ◌-◌, ◌^◌, min, IfOk, IfSome, string_bytes};
+ghost use Rattle.std.specs.Prelude.{◌≡◌, ℕ, ◌+◌, ◌-◌, ◌^◌, min, IfOk, IfErr, IfSome, string_bytes};
 ghost use Rattle.esync_check.specs.Recorded.{Differs};
 
 use crate::recording::split_line;
@@ -19,13 +19,14 @@ pub struct Difference {
 
 /// The first of the recorded replies that is another than the one given, where each has a line of its own.
 ///
-/// Behind the end of either nothing is compared.
+/// Behind the end of either nothing is compared. An error is want of memory.
 pub fn first_difference(
     alloc: Global,
     recorded: &str,
     given: &str,
 ) -> Result<Option<Difference>, Fault>
-    ensures { IfOk result (λ found. IfSome found (λ d. (n : ℕ) × Differs recorded.now given.now n (string_bytes d.recorded) (string_bytes d.given) × (d.line ≡ min (n + 2) (2 ^ 64 - 1)))) }
+    ensures ok { IfOk result (λ found. IfSome found (λ d. (n : ℕ) × Differs recorded.now given.now n (string_bytes d.recorded) (string_bytes d.given) × (d.line ≡ min (n + 2) (2 ^ 64 - 1)))) }
+    ensures err { IfErr result (λ fault. fault ≡ Fault.OutOfMemory) }
 {
     let mut line: u64 = 2;
     let mut others = recorded;
@@ -47,6 +48,7 @@ fn made(alloc: Global, line: u64, recorded: &str, given: &str) -> Result<Differe
     ensures line { IfOk result (λ d. d.line ≡ line) }
     ensures recorded { IfOk result (λ d. string_bytes d.recorded ≡ recorded.now) }
     ensures given { IfOk result (λ d. string_bytes d.given ≡ given.now) }
+    ensures err { IfErr result (λ fault. fault ≡ Fault.OutOfMemory) }
 {
     Ok(Difference {
         line,

@@ -1,7 +1,7 @@
 //! Recorded runs: whether what was recorded elsewhere is a run of the object, with exactly the wakers that the table of wakes says.
 #![tactic(auto)]
 
-ghost use Rattle.std.specs.Prelude.{◌≡◌, ◌≤◌, ℕ, List, true, IfOk, OnOk, IfSome, string_bytes};
+ghost use Rattle.std.specs.Prelude.{◌≡◌, ◌≤◌, ℕ, List, true, IfOk, OnOk, IfErr, IfSome, string_bytes};
 ghost use Rattle.std.specs.Io.KnownBytes.{Appends};
 ghost use Rattle.esync_words.specs.Lines.{first_line};
 ghost use Rattle.esync_check.specs.Checked.{Finds, IsRun, Judges, verdict_text, difference_text, heading_text, recorded_text, given_text};
@@ -9,7 +9,7 @@ ghost use Rattle.esync_check.specs.Checked.{Finds, IsRun, Judges, verdict_text, 
 use crate::difference::{Difference, first_difference};
 use crate::fault::Unchecked;
 use crate::recording::{Recording, split_line};
-use esync_script::play_script;
+use esync_script::play_text;
 use esync_words::fault::Fault;
 use esync_words::play::Replies;
 use std::alloc::Global;
@@ -33,13 +33,14 @@ pub enum Verdict {
 /// It is `Run` only where each line behind line 1 is so made, and the replies are those of one good run of the primitive
 /// that line 1 names, with exactly those wakers. `Another` has the first reply that isn't the primitive's. An error names
 /// the line that is no command or has no reply, where the replies before it are the primitive's, or says that memory was
-/// refused.
+/// refused. None says that a read or a write failed.
 pub fn check_script(alloc: Global, text: &str) -> Result<Verdict, Unchecked>
-    ensures { IfOk result (λ verdict. Finds text.now verdict) }
+    ensures ok { IfOk result (λ verdict. Finds text.now verdict) }
+    ensures err { IfErr result (λ unchecked. unchecked ≡ Unchecked.Script Fault.InputOutput → ⊥) }
 {
     let recording = Recording::read(alloc, text)?;
     let mut given = Vec::new(alloc);
-    let outcome = play_script(alloc, &Replies {}, recording.script.as_bytes(), &mut given);
+    let outcome = play_text(alloc, &Replies {}, recording.script.as_str(), &mut given);
     judge(alloc, &recording, &given, outcome)
 }
 
@@ -50,7 +51,8 @@ fn judge(
     given: &[u8],
     outcome: Result<(), Fault>,
 ) -> Result<Verdict, Unchecked>
-    ensures { IfOk result (λ verdict. Judges recording.now.commands recording.now.is_whole (string_bytes recording.now.replies) given.now outcome verdict) }
+    ensures ok { IfOk result (λ verdict. Judges recording.now.commands recording.now.is_whole (string_bytes recording.now.replies) given.now outcome verdict) }
+    ensures err { IfErr outcome (λ fault. fault ≡ Fault.InputOutput → ⊥) → IfErr result (λ unchecked. unchecked ≡ Unchecked.Script Fault.InputOutput → ⊥) }
 {
     let unchecked = match outcome {
         Ok(()) => {
@@ -62,7 +64,10 @@ fn judge(
         Err(Fault::NotACommand(number)) => Unchecked::Script(Fault::NotACommand(number)),
         Err(fault) => return Err(Unchecked::Script(fault)),
     };
-    let given = str::from_utf8(given).map_err(|_| Unchecked::Script(Fault::InputOutput))?;
+    // Replies are text: of other bytes nothing could be compared.
+    let Ok(given) = str::from_utf8(given) else {
+        return Err(unchecked);
+    };
     match first_difference(alloc, recording.replies.as_str(), given)? {
         Some(difference) => Ok(Verdict::Another(difference)),
         None => Err(unchecked),

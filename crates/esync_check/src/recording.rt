@@ -1,5 +1,5 @@
 //! A recorded run, taken apart into the script and the replies in it.
-ghost use Rattle.std.specs.Prelude.{◌≡◌, ℕ, ◌+◌, ◌-◌, ◌^◌, min, List, [], ◌++◌, length, OnOk, IfOk, string_bytes, false, true};
+ghost use Rattle.std.specs.Prelude.{◌≡◌, ℕ, ◌+◌, ◌-◌, ◌^◌, min, List, [], ◌++◌, length, OnOk, IfOk, IfErr, ◌⊎◌, string_bytes, false, true};
 ghost use Rattle.esync_words.specs.Lines.{first_line, other_lines};
 ghost use Rattle.esync_words.specs.Played.{Reads};
 ghost use Rattle.esync_check.specs.Recorded.{Records, Entry, entry_lines, commands_text, replies_text, line_text};
@@ -33,7 +33,8 @@ pub fn split_line(text: &str) -> (&str, &str)
 
 // Appends the line and a line feed.
 fn append_line(text: &mut String, line: &str) -> Result<(), Fault>
-    ensures { OnOk result (string_bytes text.new ≡ string_bytes text.old ++ line_text line.now) }
+    ensures ok { OnOk result (string_bytes text.new ≡ string_bytes text.old ++ line_text line.now) }
+    ensures err { IfErr result (λ fault. fault ≡ Fault.OutOfMemory) }
 {
     text.push_str(line).map_err(|_| Fault::OutOfMemory)?;
     text.push('\n').map_err(|_| Fault::OutOfMemory)?;
@@ -43,9 +44,10 @@ fn append_line(text: &mut String, line: &str) -> Result<(), Fault>
 impl Recording {
     /// Takes a recorded run apart.
     ///
-    /// An empty text has no line 1, which is `NotACommand(1)`.
+    /// An empty text has no line 1, which is `NotACommand(1)`. Any other error is want of memory.
     pub fn read(alloc: Global, text: &str) -> Result<Self, Fault>
-        ensures { IfOk result (λ recording. (rest : List ℕ) × Records text.now (string_bytes recording.script) (string_bytes recording.replies) recording.commands rest × (recording.is_whole ≡ true → rest ≡ [])) }
+        ensures ok { IfOk result (λ recording. (rest : List ℕ) × Records text.now (string_bytes recording.script) (string_bytes recording.replies) recording.commands rest × (recording.is_whole ≡ true → rest ≡ [])) }
+        ensures err { IfErr result (λ fault. (fault ≡ Fault.OutOfMemory) ⊎ ((text.now ≡ []) × (fault ≡ Fault.NotACommand 1))) }
     {
         if text.is_empty() {
             return Err(Fault::NotACommand(1));
@@ -65,7 +67,8 @@ impl Recording {
     // Reads the lines behind line 1, up to the first that has no reply, if there is one.
     fn read_entries(&mut self, lines: &str) -> Result<bool, Fault>
         requires { self.old.commands ≡ 0 }
-        ensures { IfOk result (λ is_whole. (entries : List Entry) × (rest : List ℕ) × Reads lines.now (entry_lines entries) rest × (string_bytes self.new.script ≡ string_bytes self.old.script ++ commands_text entries) × (string_bytes self.new.replies ≡ string_bytes self.old.replies ++ replies_text entries) × (self.new.commands ≡ min (length entries) (2 ^ 64 - 1)) × (is_whole ≡ true → rest ≡ [])) }
+        ensures ok { IfOk result (λ is_whole. (entries : List Entry) × (rest : List ℕ) × Reads lines.now (entry_lines entries) rest × (string_bytes self.new.script ≡ string_bytes self.old.script ++ commands_text entries) × (string_bytes self.new.replies ≡ string_bytes self.old.replies ++ replies_text entries) × (self.new.commands ≡ min (length entries) (2 ^ 64 - 1)) × (is_whole ≡ true → rest ≡ [])) }
+        ensures err { IfErr result (λ fault. fault ≡ Fault.OutOfMemory) }
     {
         let mut rest = lines;
         while !rest.is_empty() {
@@ -84,6 +87,7 @@ impl Recording {
         ensures script { OnOk result (string_bytes self.new.script ≡ string_bytes self.old.script ++ line_text command.now) }
         ensures replies { OnOk result (string_bytes self.new.replies ≡ string_bytes self.old.replies ++ line_text reply.now) }
         ensures commands { OnOk result (self.new.commands ≡ min (self.old.commands + 1) (2 ^ 64 - 1)) }
+        ensures err { IfErr result (λ fault. fault ≡ Fault.OutOfMemory) }
     {
         append_line(&mut self.script, command)?;
         append_line(&mut self.replies, reply)?;

@@ -1,7 +1,5 @@
 //! A script, and its plays.
-ghost use Rattle.std.specs.Prelude.{◌≡◌, IfErr};
-
-use esync_script::play_script;
+use esync_script::play_text;
 use esync_words::fault::Fault;
 use esync_words::play::Replies;
 use std::alloc::Global;
@@ -61,17 +59,7 @@ pub struct SyncRun {}
 impl Player for SyncRun {
     fn play(&self, alloc: Global, script: &str) -> Result<String, Fault> {
         let mut output = Vec::new(alloc);
-        play_in_memory(alloc, script, &mut output)?;
+        play_text(alloc, &Replies {}, script, &mut output)?;
         String::from_utf8(output).map_err(|_| Fault::InputOutput)
-    }
-}
-
-// Plays the script, and appends what that prints. No read of a text fails, and a write that finds no room is want of memory.
-fn play_in_memory(alloc: Global, script: &str, output: &mut Vec<u8>) -> Result<(), Fault>
-    ensures { IfErr result (λ fault. fault ≡ Fault.InputOutput → ⊥) }
-{
-    match play_script(alloc, &Replies {}, script.as_bytes(), output) {
-        Err(Fault::InputOutput) => Err(Fault::OutOfMemory),
-        outcome => outcome,
     }
 }

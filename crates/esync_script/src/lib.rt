@@ -1,7 +1,7 @@
 //! Scripts: commands for one primitive, a line each, and the lines that it answers.
 #![tactic(auto)]
 
-ghost use Rattle.std.specs.Prelude.{◌≡◌, ◌⊎◌, Result, Err, IsOk, OnOk, IfErr};
+ghost use Rattle.std.specs.Prelude.{◌≡◌, ◌⊎◌, Result, Some, Err, IsOk, OnOk, IfErr};
 ghost use Rattle.esync_script.specs.Opening.{PlaysScript, EndsScript, status_of_outcome};
 
 use esync_priority::prio::{Kind, Max, Min};
@@ -81,6 +81,24 @@ pub fn play_script<T: Telling, R: Read + Drop, W: Write>(
     match Lines::new(alloc, input) {
         Ok(mut lines) => opening::play_lines(alloc, telling, &mut lines, output),
         Err(fault) => Err(fault),
+    }
+}
+
+/// Plays a whole script that stands in memory, and appends what `telling` tells of it, as `play_script` does.
+///
+/// No read or write of it fails: an error says which line is no command, or that memory was refused, be it for `output`.
+pub fn play_text<T: Telling>(
+    alloc: Global,
+    telling: &T,
+    text: &str,
+    output: &mut Vec<u8>,
+) -> Result<(), Fault>
+    ensures plays { PlaysScript ⟦<u64 as PartialEq>⟧.eq T.tells ⟦<Max as Kind<u32>>⟧.above ⟦<Min as Kind<u32>>⟧.above T.opening (Some text.now) (Some output.old.items) (Some output.new.items) result }
+    ensures err { IfErr result (λ fault. fault ≡ Fault.InputOutput → ⊥) }
+{
+    match play_script(alloc, telling, text.as_bytes(), output) {
+        Err(Fault::InputOutput) => Err(Fault::OutOfMemory),
+        outcome => outcome,
     }
 }
 

@@ -2,8 +2,8 @@ use Rattle.std.proofs.Common.{◌<◌, ◌∙◌, ◌∷◌, ◌++◌, [], lengt
 use Rattle.esync_check.proofs.Recorded.{shorter, not_empty, line_read, differ, alike, next_line}
 use Rattle.esync_check.proofs.difference.first_difference.Goals as goal
 
-pub returns-then-ne : goal.returns-then-ne
-returns-then-ne c =
+pub returns-then-ne-clause-ok : goal.returns-then-ne-clause-ok
+returns-then-ne-clause-ok c =
     let kept = c.loop-others.invariant in
     let others = not_empty c.loop-others.others.now (sym c.is_empty.ensures ∙ c.loop-others-test.true) in
     let owns = not_empty c.loop-others.owns.now (sym c.is_empty-in-loop-others.ensures ∙ c.if-not-is_empty.true) in
