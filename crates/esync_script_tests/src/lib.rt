@@ -3,3 +3,5 @@
 
 #[cfg(test)]
 mod scripts;
+#[cfg(test)]
+mod streams;

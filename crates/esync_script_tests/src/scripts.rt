@@ -13,17 +13,17 @@ use std::test::Fail;
 
 /// What one read gives. After the last one the input is at its end.
 #[derive(Clone, Copy)]
-enum Piece {
+pub enum Piece {
     Bytes(&'static [u8]),
     Fails(ErrorKind),
 }
 
 /// A reader that gives one piece at each read, and notes how much was written before it.
 #[derive(Drop)]
-struct Pieces<'a> {
-    pieces: &'a [Piece],
-    written: &'a Cell<usize>,
-    seen: &'a Cell<usize>,
+pub struct Pieces<'a> {
+    pub pieces: &'a [Piece],
+    pub written: &'a Cell<usize>,
+    pub seen: &'a Cell<usize>,
 }
 
 impl Read for Pieces<'_> {
@@ -44,12 +44,14 @@ impl Read for Pieces<'_> {
     }
 }
 
-/// A writer with room for so many bytes. The write that finds none fails, and those after it find room again.
+/// A writer with room for so many bytes, of which each write takes `most` at most. The write that finds none fails, and those
+/// after it find room again.
 #[derive(Drop)]
-struct Room<'a> {
-    left: usize,
-    text: &'a mut Vec<u8>,
-    written: &'a Cell<usize>,
+pub struct Room<'a> {
+    pub left: usize,
+    pub most: usize,
+    pub text: &'a mut Vec<u8>,
+    pub written: &'a Cell<usize>,
 }
 
 impl Write for Room<'_> {
@@ -58,7 +60,7 @@ impl Write for Room<'_> {
             self.left = usize::MAX;
             return Err(io::Error::from(ErrorKind::StorageFull));
         }
-        let count = buf.len().min(self.left);
+        let count = buf.len().min(self.left).min(self.most);
         self.text.extend_from_slice(&buf[..count])?;
         self.left -= count;
         self.written.set(self.written.get().saturating_add(count));
@@ -89,7 +91,7 @@ fn play(alloc: Global, input: &[u8]) -> Played {
     }
 }
 
-const FAILED: &str = "input or output failed\n";
+pub const FAILED: &str = "input or output failed\n";
 
 /// The script ends with its last line, and prints this.
 fn assert_answers(rt: &(impl Abort + AllocGlobal), input: &str, output: &str) -> Result<(), Fail> {
@@ -702,6 +704,7 @@ fn answers_are_written_before_a_read_that_may_wait(rt: HostRuntime) -> Result<()
     let mut text = Vec::new(rt.alloc());
     let output = Room {
         left: usize::MAX,
+        most: usize::MAX,
         text: &mut text,
         written: &written,
     };
@@ -727,6 +730,7 @@ fn a_failed_write_ends_the_script(rt: HostRuntime) -> Result<(), Fail> {
             let (mut printed, mut reported) = (Vec::new(rt.alloc()), Vec::new(rt.alloc()));
             let output = Room {
                 left,
+                most: usize::MAX,
                 text: &mut printed,
                 written: &written,
             };
@@ -750,6 +754,7 @@ fn errors_that_cannot_be_written_change_no_status(rt: HostRuntime) -> Result<(),
         let (mut printed, mut reported) = (Vec::new(rt.alloc()), Vec::new(rt.alloc()));
         let errors = Room {
             left,
+            most: usize::MAX,
             text: &mut reported,
             written: &written,
         };
