@@ -3,6 +3,7 @@ ghost use Rattle.std.specs.Prelude.{◌≡◌, ◌<◌, ◌≤◌, ℕ, [], IfOk
 ghost use Rattle.std.proofs.Math.ListN.{replicate};
 ghost use Rattle.esync_base.specs.Keeping.{BoundedList};
 ghost use Rattle.esync_priority.specs.Prio.{Bag};
+ghost use Rattle.esync_pubsub.specs.PubSubRules.{most_wakes};
 ghost use Rattle.esync_script.specs.Opening.{places, capacity, opening, new_object, nobody_waits, no_slot, an_empty_pipe, not_made, a_free_lock, a_new_watch, a_new_topic, no_lists, zero_slots, no_side_waits, Plays, PlaysMessages, PlaysFair, PlaysPipe, PlaysSlots, PlaysWatch, PlaysPubSub, PlaysScript};
 ghost use Rattle.esync_words.specs.Commands.{says, command};
 ghost use Rattle.esync_words.specs.Played.{Played};
@@ -41,7 +42,7 @@ use esync_pipe::pipe::PipeState;
 use esync_pipe::pipe::machine::PipeRun;
 use esync_priority::prio::{Kind, Max, Min, PrioQueue};
 use esync_pubsub::pubsub::PubSubState;
-use esync_pubsub::pubsub::machine::Events;
+use esync_pubsub::pubsub::machine::{Events, PubSubSteps};
 use esync_words::fault::Fault;
 use esync_words::lines::Lines;
 use esync_words::play::{Opens, Parts, Telling, open, play};
@@ -203,14 +204,15 @@ fn pipe<const N: usize>() -> PipeRun<u64, N, REQS, 2>
     Requests::new(PipeState::new())
 }
 
-// A channel for at most four subscribers and four publishers, as a machine.
-type ManyRun<const N: usize> = Requests<Events<PubSubState<u32, u64, N, 4, 4>, REQS, 4>, REQS, 4>;
-
-// A channel for many in which nobody is, of `N` messages, of which the first has this number, with no request.
-fn pubsub<const N: usize>(first: u64) -> ManyRun<N>
-    requires { 1 ≤ N }
-    ensures object { ⟦<ManyRun<N> as Machine>⟧.semantics.object result ≡ new_object (a_new_topic first) }
-    ensures registrations { ⟦<ManyRun<N> as Machine>⟧.semantics.registrations result ≡ no_lists }
+// A channel for many in which nobody is, with four places for subscribers, of which the first message has this number, with no request.
+fn pubsub<S: PubSubSteps<REQS, 4, Message = u32, Waker = u64>>(
+    first: u64,
+) -> Requests<Events<S, REQS, 4>, REQS, 4>
+    requires messages { 1 ≤ S.messages }
+    requires subscribers { S.subscribers ≡ 4 }
+    requires wakes { most_wakes S.subscribers S.publishers ≤ 4 }
+    ensures object { ⟦<Requests<Events<S, REQS, 4>, REQS, 4> as Machine>⟧.semantics.object result ≡ new_object (a_new_topic first) }
+    ensures registrations { ⟦<Requests<Events<S, REQS, 4>, REQS, 4> as Machine>⟧.semantics.registrations result ≡ no_lists }
 {
     Requests::new(Events::new_at(first))
 }
@@ -364,7 +366,12 @@ fn serve_pipe<T: Telling, R: Read + Drop, W: Write>(
 // A script over a channel for many of at most `n` messages.
 macro_rules! serve_log {
     ($n:literal, $first:ident, $telling:ident, $lines:ident, $output:ident) => {
-        serve::<PubSubWords, _, T, R, W>($telling, pubsub::<$n>($first), $lines, $output)
+        serve::<PubSubWords, _, T, R, W>(
+            $telling,
+            pubsub::<PubSubState<u32, u64, $n, 4, 4>>($first),
+            $lines,
+            $output,
+        )
     };
 }
 
