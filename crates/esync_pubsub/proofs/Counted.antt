@@ -1,14 +1,14 @@
 -- Reader counts, as subscribers come, read and leave.
 use Rattle.std.proofs.Common.{◌≡◌, ℕ, zero, suc, ◌+◌, ◌-◌, ◌<◌, ◌≤◌, true, false, List, [], ◌∷◌, ◌++◌, inl, inr, length, drop, refl, sym, ◌∙◌, ap, arith, cond, not}
-use Rattle.std.specs.Prelude.{Option, Some, None, is_some, nat_lt, nat_eq, IsTrue, ◌↔◌, slice_get, slice_set, slice_index, slice_index_or}
+use Rattle.std.specs.Prelude.{Option, Some, None, is_some, nat_lt, slice_set, slice_index, slice_index_or}
 use Rattle.std.specs.List.{count_by}
 use Rattle.std.proofs.lemmas.Bool.Decides.{nat_tests}
 use Rattle.std.proofs.lemmas.List.Sums.{sum_by-set, sum_by-cons}
-use Rattle.std.proofs.lemmas.List.{length_push, length-drop, get_or-drop}
+use Rattle.std.proofs.lemmas.List.{length_push, length-drop, get_or-drop, get_or-set_same, get_or-set_other}
 use Rattle.std.proofs.Math.ListN.{get_or-append}
 use Rattle.std.proofs.Math.Seq.{drop-nil, get_or-append_seam}
-use Rattle.esync_base.specs.ListedLaws.{true_or_false}
-use Rattle.esync_pubsub.specs.Log.{is_above, is_read, trimmed, number_of}
+use Rattle.esync_base.specs.ListedLaws.{true_or_false, same_or_not}
+use Rattle.esync_pubsub.specs.Log.{is_above, is_read, trimmed}
 use Rattle.esync_pubsub.specs.Counts.{readers_of, unread, AreCounted}
 
 -- one, if the position is at or below the number
@@ -127,11 +127,30 @@ module _ {T : Type 0} where
     each = λ k l. a.each k l ∙ sym (h (f + k) (omega arith) (omega (arith, l)));
   }
 
-pub unread_front : (cs : List ℕ) (n : ℕ) → Some n ≡ slice_get cs 0 → IsTrue (nat_eq n 0) ↔ (0 < unread cs)
-unread_front [] n e = absurd cc
-unread_front (zero ∷ cs) n e = (let z : n ≡ 0 = ap number_of e in (λ t. omega arith, λ l. grind (arith, nat_tests)))
-unread_front (suc c ∷ cs) n e = (let z : n ≡ suc c = ap number_of e in (λ t. absurd (grind (arith, nat_tests)), λ l. absurd (omega (arith, l))))
+-- one more message behind those that leave
+pub unread_front : (cs : List ℕ) → 0 < unread cs → suc (unread (drop 1 cs)) ≡ unread cs
+unread_front [] l = absurd (omega (arith, l))
+unread_front (zero ∷ cs) l = refl
+unread_front (suc c ∷ cs) l = absurd (omega (arith, l))
 
-pub unread_empty : (cs : List ℕ) → None ≡ slice_get cs 0 → IsTrue false ↔ (0 < unread cs)
-unread_empty [] e = (λ t. absurd cc, λ l. absurd (omega (arith, l)))
-unread_empty (c ∷ cs) e = absurd cc
+-- one more count that is lowered, of those from `from` on
+module _ (cs0 cs : List ℕ) (from i n : ℕ) (start : from ≤ i) (here : i < length cs) (some : 0 < slice_index cs0 i) (rest : (k : ℕ) → i ≤ k → slice_index cs k ≡ slice_index cs0 k) where
+  abbrev lowered : List ℕ
+  lowered = slice_set cs i (slice_index cs i - 1)
+
+  lowered_other : (k : ℕ) → (k ≡ i → ⊥) → slice_index lowered k ≡ slice_index cs k
+  lowered_other k ne = get_or-set_other cs i k (slice_index cs i - 1) 0 ne
+
+  pub lowered_before : ((k : ℕ) → k < from → slice_index cs k ≡ slice_index cs0 k) → (k : ℕ) → k < from → slice_index lowered k ≡ slice_index cs0 k
+  lowered_before h k b = lowered_other k (λ e. omega (arith, e, b, start)) ∙ h k b
+
+  pub lowered_behind : ((k : ℕ) → from ≤ k → k < i → k < n → suc (slice_index cs k) ≡ slice_index cs0 k) → (k : ℕ) → from ≤ k → k < i + 1 → k < n → suc (slice_index lowered k) ≡ slice_index cs0 k
+  lowered_behind h k b m j = elim (same_or_not k i) [
+    | inl e ↦ (let s : slice_index lowered k ≡ slice_index cs i - 1 = ap (λ x. slice_index lowered x) e ∙ get_or-set_same cs i (slice_index cs i - 1) 0 here in
+        let z : slice_index cs0 k ≡ slice_index cs0 i = ap (λ x. slice_index cs0 x) e in
+        omega (arith, s, z, rest i (omega arith), some))
+    | inr o ↦ ap suc (lowered_other k o) ∙ h k b (omega (arith, m, o)) j
+  ]
+
+  pub lowered_rest : (k : ℕ) → i + 1 ≤ k → slice_index lowered k ≡ slice_index cs0 k
+  lowered_rest k b = lowered_other k (λ e. omega (arith, e, b)) ∙ rest k (omega (arith, b))

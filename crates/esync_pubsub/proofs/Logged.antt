@@ -5,7 +5,6 @@ use Rattle.std.specs.List.{count_by, list_all, list_any}
 use Rattle.std.proofs.lemmas.Bool.Decides.{nat_tests}
 use Rattle.std.proofs.lemmas.List.Sums.{sum_by-set, sum_by-cons}
 use Rattle.std.proofs.lemmas.List.{length_push, length-drop, length-set, length-replicate, get_or-set_same, get_or-set_other}
-use Rattle.std.proofs.lemmas.Option.{get_or_from_slice_get}
 use Rattle.esync_base.specs.ListedLaws.{true_or_false, same_or_not}
 use Rattle.esync_pubsub.specs.Log.{Log, is_read, trimmed, number_of, oldest, settled, moved, left, is_last, Takes, IsRefused, ClonesAt, MayFailAt}
 use Rattle.esync_pubsub.specs.Counts.{readers_of, unread, AreCounted, IsLog}
@@ -45,10 +44,6 @@ live_test ps (suc s) e = (let t : nat_lt 0 (suc s) ≡ true = grind (arith, nat_
 
 pub live_number : (ps : List (Option ℕ)) (s : ℕ) → s ≡ count_by is_some ps → list_any is_some ps ≡ true → 0 < s
 live_number ps s e h = omega (arith, e, live_counted ps h)
-
--- the count that was looked up
-pub got_count : (cs : List ℕ) (k k2 n : ℕ) → Some n ≡ slice_get cs k → k ≡ k2 → slice_index cs k2 ≡ n
-got_count cs k k2 n e q = ap (λ j. slice_index cs j) (sym q) ∙ get_or_from_slice_get cs k n 0 (sym e)
 
 -- what the test for room tells
 pub full_tells : (n cap : ℕ) → true ≡ not (nat_lt n cap) → cap ≤ n
@@ -238,14 +233,14 @@ module _ {T : Type 0} (cap subs : ℕ) where
       pub log_lowers : (k : ℕ) → p - (next - length ms) ≤ k → k < length ms → 0 < slice_index cs k
       log_lowers k h l = omega (arith, L.counted.each k l, readers_has (next - length ms + k) ps i p live_there e (omega (arith, h)))
 
-      module _ (cs2 : List ℕ) (from : ℕ) (start : from ≡ p - (next - length ms)) (same : length cs2 ≡ length cs) (before : (k : ℕ) → k < from → slice_index cs2 k ≡ slice_index cs k) (behind : (k : ℕ) → from ≤ k → k < length cs → suc (slice_index cs2 k) ≡ slice_index cs k) where
+      module _ (cs2 : List ℕ) (from : ℕ) (start : from ≡ p - (next - length ms)) (same : length cs2 ≡ length cs) (before : (k : ℕ) → k < from → slice_index cs2 k ≡ slice_index cs k) (behind : (k : ℕ) → from ≤ k → k < length ms → suc (slice_index cs2 k) ≡ slice_index cs k) where
         -- the counts once the subscriber is gone
         pub left_counted : AreCounted ms cs2 (next - length ms) (slice_set ps i None)
         left_counted = record {
           paired = same ∙ L.counted.paired;
           each = λ k l. elim (true_or_false (nat_lt k from)) [
             | inl t ↦ (let b : k < from = grind (arith, nat_tests) in let b2 : next - length ms + k < p = omega (arith, b, start) in before k b ∙ L.counted.each k l ∙ sym (readers_without_above (next - length ms + k) b2))
-            | inr t ↦ (let b : from ≤ k = grind (arith, nat_tests) in let b2 : p ≤ next - length ms + k = omega (arith, b, start) in omega (arith, behind k b (omega (arith, L.counted.paired, l)), L.counted.each k l, readers_without (next - length ms + k) b2))
+            | inr t ↦ (let b : from ≤ k = grind (arith, nat_tests) in let b2 : p ≤ next - length ms + k = omega (arith, b, start) in omega (arith, behind k b l, L.counted.each k l, readers_without (next - length ms + k) b2))
           ];
         }
 

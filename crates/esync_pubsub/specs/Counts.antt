@@ -1,7 +1,22 @@
 -- Reader counts: beside each held message, how many subscribers still read it.
-use Rattle.std.specs.Prelude.{◌≡◌, ℕ, zero, suc, ◌+◌, ◌-◌, ◌<◌, ◌≤◌, List, [], ◌∷◌, length, not, Option, Some, None, is_some, slice_index, slice_index_or}
+use Rattle.std.specs.Prelude.{◌≡◌, ℕ, zero, suc, ◌+◌, ◌-◌, ◌<◌, ◌≤◌, List, [], ◌∷◌, length, not, Option, Some, None, is_some, slice_index, slice_index_or, refl}
+use Rattle.std.specs.Coded.{Coded, code_by, coded×, coded_ℕ, coded_list}
 use Rattle.std.specs.List.{count_by}
+use Rattle.esync_base.specs.Ring.{next}
 use Rattle.esync_pubsub.specs.Log.{is_above}
+
+-- messages, oldest first, and the count beside each
+pub record Held (T : Type 0) : Type 0 where
+  pub messages : List T
+  pub counts : List ℕ
+
+abbrev pub held_code : {T : Type 0} → Coded T → Coded (Held T)
+held_code {T} t = code_by (List T × List ℕ) (coded× (coded_list t) (coded_list coded_ℕ)) (λ h. (h.messages, h.counts)) (λ p. record { messages = p.0; counts = p.1 }) (λ _. refl)
+
+-- so many numbers of a row of n, one behind the other from place f on, and the first one again behind the last
+abbrev pub beside : ℕ → ℕ → List ℕ → ℕ → List ℕ
+beside n f row zero = []
+beside n f row (suc k) = slice_index row f ∷ beside n (next n f) row k
 
 -- how many live positions are at or below the number
 abbrev pub readers_of : ℕ → List (Option ℕ) → ℕ

@@ -1,14 +1,14 @@
 //! Messages with consecutive numbers, and how far each subscriber has read.
-ghost use Rattle.std.specs.Prelude.{◌≡◌, ℕ, true, false, suc, not, nat_lt, ◌+◌, ◌-◌, ◌<◌, ◌≤◌, ◌↔◌, [], Some, None, length, drop, is_some, IsTrue, replicate, slice_get, slice_set, slice_index, slice_index_or, IfOk, OnOk, OnErr, IfSome, IfNone};
+ghost use Rattle.std.specs.Prelude.{◌≡◌, ℕ, true, false, not, nat_lt, ◌+◌, ◌-◌, ◌<◌, ◌≤◌, ◌↔◌, [], Some, None, length, is_some, IsTrue, replicate, slice_get, slice_set, slice_index_or, IfOk, OnOk, OnErr, IfSome, IfNone};
 ghost use Rattle.std.specs.List.{list_all};
-ghost use Rattle.esync_pubsub.specs.Counts.{unread};
 ghost use Rattle.esync_pubsub.specs.Log.{IsLeastFree, oldest, has_subscribers, last_number, published, with_room, is_last, settled, moved, is_live, position, left, cleared, Joins, Publishes, PublishesAtOnce, ClonesAt, MayFailAt, Takes, IsRefused, Reads, ReadsOn, caught, found};
 
 use crate::pubsub::{Exhausted, TryPublishError, WaitResult};
-use esync_base::deque::Deque;
+use held::Held;
 use std::alloc::AllocError;
 use std::marker::Model;
 
+mod held;
 mod kept;
 
 // The number that each subscriber reads next, at its place.
@@ -53,69 +53,10 @@ impl<const SUBS: usize> Positions<SUBS> {
     }
 }
 
-// One reader fewer for each message from place `from` on.
-fn lower_from<const N: usize>(counts: &mut Deque<usize, N>, from: usize)
-    requires { (k : ℕ) → from ≤ k → k < length counts.old.items → 0 < slice_index counts.old.items k }
-    ensures length { length counts.new.items ≡ length counts.old.items }
-    ensures before { (k : ℕ) → k < from → slice_index counts.new.items k ≡ slice_index counts.old.items k }
-    ensures behind { (k : ℕ) → from ≤ k → k < length counts.old.items → suc (slice_index counts.new.items k) ≡ slice_index counts.old.items k }
-{
-    for i in from..counts.len() {
-        let readers = *counts.get(i);
-        counts.replace(i, readers - 1);
-    }
-}
-
-// The oldest message leaves, with its count.
-fn take_front<T: Drop, const N: usize>(
-    messages: &mut Deque<T, N>,
-    counts: &mut Deque<usize, N>,
-) -> Option<T>
-    ensures item { slice_get messages.old.items 0 ≡ result }
-    ensures messages { messages.new.items ≡ drop 1 messages.old.items }
-    ensures counts { counts.new.items ≡ drop 1 counts.old.items }
-{
-    counts.pop_front();
-    messages.pop_front()
-}
-
-// The oldest message is dropped.
-fn pop<T: Drop, const N: usize>(messages: &mut Deque<T, N>, counts: &mut Deque<usize, N>)
-    ensures messages { messages.new.items ≡ drop 1 messages.old.items }
-    ensures counts { counts.new.items ≡ drop 1 counts.old.items }
-{
-    take_front(messages, counts);
-}
-
-// Nobody still reads the oldest message.
-fn is_unread<const N: usize>(counts: &Deque<usize, N>) -> bool
-    ensures { IsTrue result ↔ (0 < unread counts.now.items) }
-{
-    match counts.front() {
-        Some(readers) => *readers == 0,
-        None => false,
-    }
-}
-
-// The messages in front that nobody still reads leave.
-fn free<T: Drop, const N: usize>(messages: &mut Deque<T, N>, counts: &mut Deque<usize, N>)
-    ensures messages { messages.new.items ≡ drop (unread counts.old.items) messages.old.items }
-    ensures counts { counts.new.items ≡ drop (unread counts.old.items) counts.old.items }
-{
-    for _message in 0..counts.len() {
-        if !is_unread(counts) {
-            return;
-        }
-        pop(messages, counts);
-    }
-}
-
 /// At most `CAP` messages, and at most `SUBS` subscribers, known by their places.
 #[derive(Drop)]
 pub struct Log<T, const CAP: usize, const SUBS: usize> {
-    messages: Deque<T, CAP>,
-    // Beside each message, how many subscribers still read it.
-    counts: Deque<usize, CAP>,
+    held: Held<T, CAP>,
     next: u64,
     positions: Positions<SUBS>,
     subscribers: usize,
@@ -129,9 +70,9 @@ impl<T, const CAP: usize, const SUBS: usize> Model for Log<T, CAP, SUBS> {
 
     ghost coded = { log_code T.code };
 
-    ghost view = { λ a. record { held = a.messages.items; next = a.next; positions = a.positions.row } };
+    ghost view = { λ a. record { held = a.held.messages; next = a.next; positions = a.positions.row } };
 
-    ghost invariant = { λ a. IsLog CAP SUBS a.messages.items a.counts.items a.next a.positions.row a.subscribers };
+    ghost invariant = { λ a. IsLog CAP SUBS a.held.messages a.held.counts a.next a.positions.row a.subscribers };
 }
 
 impl<T: Drop, const CAP: usize, const SUBS: usize> Log<T, CAP, SUBS> {
@@ -141,8 +82,7 @@ impl<T: Drop, const CAP: usize, const SUBS: usize> Log<T, CAP, SUBS> {
         ensures { result ≡ record { held = []; next = next; positions = replicate SUBS None } }
     {
         Log {
-            messages: Deque::new(),
-            counts: Deque::new(),
+            held: Held::new(),
             next,
             positions: Positions::new(),
             subscribers: 0,
@@ -155,14 +95,14 @@ impl<T: Drop, const CAP: usize, const SUBS: usize> Log<T, CAP, SUBS> {
         ensures within { result ≤ CAP }
         ensures numbered { length self.now.held ≤ self.now.next }
     {
-        self.messages.len()
+        self.held.len()
     }
 
     /// No message is held.
     pub fn is_empty(&self) -> bool
         ensures { IsTrue result ↔ (self.now.held ≡ []) }
     {
-        self.messages.is_empty()
+        self.held.is_empty()
     }
 
     /// As many messages are held as there is room for.
@@ -170,7 +110,7 @@ impl<T: Drop, const CAP: usize, const SUBS: usize> Log<T, CAP, SUBS> {
         ensures answer { result ≡ not (nat_lt (length self.now.held) CAP) }
         ensures within { length self.now.held ≤ CAP }
     {
-        self.len() >= CAP
+        self.held.is_full()
     }
 
     /// A subscriber is at this place.
@@ -195,7 +135,7 @@ impl<T: Drop, const CAP: usize, const SUBS: usize> Log<T, CAP, SUBS> {
     fn oldest(&self) -> u64
         ensures { result ≡ oldest self.now }
     {
-        self.next - self.messages.len() as u64
+        self.next - self.held.len() as u64
     }
 
     // The number of the next message.
@@ -266,8 +206,8 @@ impl<T: Drop, const CAP: usize, const SUBS: usize> Log<T, CAP, SUBS> {
         let from = self.first_unread(position);
         self.positions.put(place, None);
         self.subscribers -= 1;
-        lower_from(&mut self.counts, from);
-        free(&mut self.messages, &mut self.counts);
+        self.held.lower_from(from);
+        self.held.free();
     }
 
     // Puts a message behind the others, for all who are live.
@@ -277,12 +217,7 @@ impl<T: Drop, const CAP: usize, const SUBS: usize> Log<T, CAP, SUBS> {
         requires live { has_subscribers self.old ≡ true }
         ensures { self.new ≡ published message self.old }
     {
-        let Ok(()) = self.messages.push_back(message) else {
-            unreachable!()
-        };
-        let Ok(()) = self.counts.push_back(self.subscribers) else {
-            unreachable!()
-        };
+        self.held.push(message, self.subscribers);
         self.next += 1;
     }
 
@@ -309,7 +244,7 @@ impl<T: Drop, const CAP: usize, const SUBS: usize> Log<T, CAP, SUBS> {
         ensures room { length self.new.held < CAP }
     {
         if self.is_full() {
-            pop(&mut self.messages, &mut self.counts);
+            self.held.pop();
         }
     }
 
@@ -332,8 +267,7 @@ impl<T: Drop, const CAP: usize, const SUBS: usize> Log<T, CAP, SUBS> {
     pub fn clear(&mut self)
         ensures { self.new ≡ cleared self.old }
     {
-        self.messages.clear();
-        self.counts.clear();
+        self.held.clear();
     }
 }
 
@@ -345,7 +279,7 @@ impl<T: Clone, const CAP: usize, const SUBS: usize> Log<T, CAP, SUBS> {
         requires held { position < self.now.next }
         ensures { result ≡ is_last place position self.now }
     {
-        *self.counts.get((position - self.oldest()) as usize) == 1
+        self.held.count((position - self.oldest()) as usize) == 1
     }
 
     // Reads the message itself, which is the oldest, and leaves.
@@ -357,7 +291,7 @@ impl<T: Clone, const CAP: usize, const SUBS: usize> Log<T, CAP, SUBS> {
         ensures message { slice_get self.old.held (position - oldest self.old) ≡ Some result }
         ensures state { self.new ≡ settled (moved place (position + 1) self.old) }
     {
-        let Some(message) = take_front(&mut self.messages, &mut self.counts) else {
+        let Some(message) = self.held.take_front() else {
             unreachable!()
         };
         self.positions.put(place, Some(position + 1));
@@ -376,9 +310,8 @@ impl<T: Clone, const CAP: usize, const SUBS: usize> Log<T, CAP, SUBS> {
         ensures err { OnErr result (self.new ≡ self.old) }
     {
         let index = (position - self.oldest()) as usize;
-        let message = self.messages.get(index).clone()?;
-        let readers = *self.counts.get(index);
-        self.counts.replace(index, readers - 1);
+        let message = self.held.message(index).clone()?;
+        self.held.lower(index);
         self.positions.put(place, Some(position + 1));
         Ok(message)
     }

@@ -12,8 +12,7 @@ impl<const SUBS: usize> Kept for Positions<SUBS> {
 impl<T: Copy, const CAP: usize, const SUBS: usize> Kept for Log<T, CAP, SUBS> {
     fn kept(&self) -> Result<Self, AllocError> {
         Ok(Log {
-            messages: self.messages.kept()?,
-            counts: self.counts.kept()?,
+            held: self.held.kept()?,
             next: self.next,
             positions: self.positions.kept()?,
             subscribers: self.subscribers,

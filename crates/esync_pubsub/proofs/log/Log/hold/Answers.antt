@@ -5,4 +5,4 @@ pub invariant_of-self : goal.invariant_of-self
 invariant_of-self g c =
     let a = c.self.inside in
     let l = c.self.invariant in
-    rw (c.in-Ok.ensures.ok, c.in-Ok-push_back.ensures.ok) (log_hold g.row.CAP g.row.SUBS a.messages.items a.counts.items a.next a.positions.row a.subscribers l c.args.message (live_number a.positions.row a.subscribers l.live (rw (← c.self.view_is) at c.requires.live)))
+    rw (c.push.ensures.messages, c.push.ensures.counts) (log_hold g.row.CAP g.row.SUBS a.held.messages a.held.counts a.next a.positions.row a.subscribers l c.args.message (live_number a.positions.row a.subscribers l.live (rw (← c.self.view_is) at c.requires.live)))

@@ -1,6 +1,6 @@
-use Rattle.std.proofs.Common.{◌-◌, ◌∙◌, sym, ap, length}
-use Rattle.std.specs.Prelude.{◌==◌}
-use Rattle.esync_pubsub.proofs.Logged.{last_test, got_count}
+use Rattle.std.proofs.Common.{◌-◌, ◌∙◌, ap}
+use Rattle.std.specs.Prelude.{◌==◌, slice_index}
+use Rattle.esync_pubsub.proofs.Logged.{last_test}
 use Rattle.esync_pubsub.proofs.log.Log.is_last.Goals as goal
 
 pub returns : goal.returns
@@ -10,4 +10,4 @@ returns g c =
     let from = rw (← c.self.view_is) at c.requires.from in
     let held = rw (← c.self.view_is) at c.requires.held in
     let o = rw (← c.self.view_is) at c.oldest.ensures in
-    rw (← c.self.view_is) (ap (λ n. n == 1) (sym (got_count a.counts.items (c.args.position - c.oldest.result) (c.args.position - (a.next - length a.messages.items)) c.get.result.now c.get.ensures (ap (λ x. c.args.position - x) o))) ∙ last_test g.row.CAP g.row.SUBS a.messages.items a.counts.items a.next a.positions.row a.subscribers c.self.invariant c.args.place c.args.position at from held)
+    rw (← c.self.view_is) (ap (λ n. n == 1) (c.count.ensures ∙ ap (λ x. slice_index a.held.counts (c.args.position - x)) o) ∙ last_test g.row.CAP g.row.SUBS a.held.messages a.held.counts a.next a.positions.row a.subscribers c.self.invariant c.args.place c.args.position at from held)

@@ -5,4 +5,4 @@ pub invariant_of-self : goal.invariant_of-self
 invariant_of-self g c =
     let a = c.self.inside in
     let found = c.in-Some.ensures in
-    rw (c.put.ensures) (log_join g.row.CAP g.row.SUBS a.messages.items a.counts.items a.next a.positions.row a.subscribers c.self.invariant c.in-Some.place found.found.free)
+    rw (c.put.ensures) (log_join g.row.CAP g.row.SUBS a.held.messages a.held.counts a.next a.positions.row a.subscribers c.self.invariant c.in-Some.place found.found.free)

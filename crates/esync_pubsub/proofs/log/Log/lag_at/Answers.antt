@@ -9,5 +9,5 @@ invariant_of-self g c =
     let live = rw (← c.self.view_is) at c.requires.live in
     let lags = rw (← c.self.view_is) at c.requires.lags in
     let within = rw (← c.self.view_is) at c.requires.within in
-    let at = log_position g.row.CAP g.row.SUBS a.messages.items a.counts.items a.next a.positions.row a.subscribers c.self.invariant c.args.place live in
-    rw (c.put.ensures) (log_lag g.row.CAP g.row.SUBS a.messages.items a.counts.items a.next a.positions.row a.subscribers c.self.invariant c.args.place (number_of (slice_index_or a.positions.row c.args.place None)) c.args.number at lags within)
+    let at = log_position g.row.CAP g.row.SUBS a.held.messages a.held.counts a.next a.positions.row a.subscribers c.self.invariant c.args.place live in
+    rw (c.put.ensures) (log_lag g.row.CAP g.row.SUBS a.held.messages a.held.counts a.next a.positions.row a.subscribers c.self.invariant c.args.place (number_of (slice_index_or a.positions.row c.args.place None)) c.args.number at lags within)

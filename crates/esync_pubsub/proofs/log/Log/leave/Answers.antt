@@ -5,7 +5,7 @@ use Rattle.esync_pubsub.proofs.log.Log.leave.Goals as goal
 pub overflow_sub-self : goal.overflow_sub-self
 overflow_sub-self g c =
     let a = c.self.inside in
-    log_some g.row.CAP g.row.SUBS a.messages.items a.counts.items a.next a.positions.row a.subscribers c.self.invariant c.args.place c.in-Some.position (sym c.get.ensures ∙ c.in-Some.is)
+    log_some g.row.CAP g.row.SUBS a.held.messages a.held.counts a.next a.positions.row a.subscribers c.self.invariant c.args.place c.in-Some.position (sym c.get.ensures ∙ c.in-Some.is)
 
 pub lower_from-requires : goal.lower_from-requires
 lower_from-requires g c =
@@ -13,8 +13,8 @@ lower_from-requires g c =
     let o = rw (← c.self.view_is) at c.first_unread-from.ensures in (
       search rules,
       λ k h l.
-          (let b : c.in-Some.position - (a.next - length a.messages.items) ≤ k = omega (arith, o, h) in
-          log_lowers g.row.CAP g.row.SUBS a.messages.items a.counts.items a.next a.positions.row a.subscribers c.self.invariant c.args.place c.in-Some.position (sym c.get.ensures ∙ c.in-Some.is) k b (omega (arith, l, c.self.invariant.counted.paired))),
+          (let b : c.in-Some.position - (a.next - length a.held.messages) ≤ k = omega (arith, o, h) in
+          log_lowers g.row.CAP g.row.SUBS a.held.messages a.held.counts a.next a.positions.row a.subscribers c.self.invariant c.args.place c.in-Some.position (sym c.get.ensures ∙ c.in-Some.is) k b l),
     )
 
 pub invariant_of-self : goal.invariant_of-self
@@ -22,15 +22,15 @@ invariant_of-self g c =
     let a = c.self.inside in
     let o = rw (← c.self.view_is) at c.first_unread-from.ensures in
     let f = c.lower_from.ensures in
-    rw (c.free.ensures.messages, c.free.ensures.counts, c.put.ensures)
-    (log_leave g.row.CAP g.row.SUBS a.messages.items a.counts.items a.next a.positions.row a.subscribers c.self.invariant c.args.place c.in-Some.position (sym c.get.ensures ∙ c.in-Some.is)
-    c.lower_from.new.counts.items c.first_unread-from.result o f.length f.before f.behind)
+    rw (c.free.ensures.messages, c.free.ensures.counts, c.lower_from.ensures.messages, c.put.ensures)
+    (log_leave g.row.CAP g.row.SUBS a.held.messages a.held.counts a.next a.positions.row a.subscribers c.self.invariant c.args.place c.in-Some.position (sym c.get.ensures ∙ c.in-Some.is)
+    c.lower_from.new.self.counts c.first_unread-from.result o f.length f.before f.behind)
 
 pub returns : goal.returns
 returns g c =
     let a = c.self.inside in
     let o = rw (← c.self.view_is) at c.first_unread-from.ensures in
     let f = c.lower_from.ensures in
-    rw (c.free.ensures.messages, c.put.ensures, ← c.self.view_is)
-    (log_left g.row.CAP g.row.SUBS a.messages.items a.counts.items a.next a.positions.row a.subscribers c.self.invariant c.args.place c.in-Some.position (sym c.get.ensures ∙ c.in-Some.is)
-    c.lower_from.new.counts.items c.first_unread-from.result o f.length f.before f.behind)
+    rw (c.free.ensures.messages, c.lower_from.ensures.messages, c.put.ensures, ← c.self.view_is)
+    (log_left g.row.CAP g.row.SUBS a.held.messages a.held.counts a.next a.positions.row a.subscribers c.self.invariant c.args.place c.in-Some.position (sym c.get.ensures ∙ c.in-Some.is)
+    c.lower_from.new.self.counts c.first_unread-from.result o f.length f.before f.behind)

@@ -1,17 +1,19 @@
-use Rattle.std.proofs.Common.{◌-◌, ap, length, arith}
-use Rattle.esync_pubsub.proofs.Logged.{got_count, shared_more, log_take, log_took}
+use Rattle.std.proofs.Common.{◌<◌, ◌-◌, arith, length, rules, subst, sym}
+use Rattle.std.specs.Prelude.{slice_index}
+use Rattle.esync_pubsub.proofs.Logged.{shared_more, log_take, log_took}
 use Rattle.esync_pubsub.proofs.log.Log.take_clone.Goals as goal
 
-pub overflow_sub-readers : goal.overflow_sub-readers
-overflow_sub-readers g c =
+pub lower-requires : goal.lower-requires
+lower-requires g c =
     let a = c.self.inside in
     let at = rw (← c.self.view_is) at c.requires.live in
     let from = rw (← c.self.view_is) at c.requires.from in
     let held = rw (← c.self.view_is) at c.requires.held in
     let o = rw (← c.self.view_is) at c.oldest.ensures in
     let shared = rw (← c.self.view_is) at c.requires.shared in
-    let n = got_count a.counts.items (c.args.position - c.oldest.result) (c.args.position - (a.next - length a.messages.items)) c.get-readers.result.now c.get-readers.ensures (ap (λ x. c.args.position - x) o) in
-    omega (arith, n, shared_more g.row.CAP g.row.SUBS a.messages.items a.counts.items a.next a.positions.row a.subscribers c.self.invariant c.args.place c.args.position at from held shared)
+    let more = shared_more g.row.CAP g.row.SUBS a.held.messages a.held.counts a.next a.positions.row a.subscribers c.self.invariant c.args.place c.args.position at from held shared in
+    let some : 0 < slice_index a.held.counts (c.args.position - (a.next - length a.held.messages)) = omega (arith, more) in
+    (search rules, (omega (arith, o, held, from, c.self.invariant.numbered), subst (λ n. 0 < slice_index a.held.counts (c.args.position - n)) (sym o) some))
 
 pub invariant_of-self : goal.invariant_of-self
 invariant_of-self g c =
@@ -21,8 +23,7 @@ invariant_of-self g c =
     let held = rw (← c.self.view_is) at c.requires.held in
     let o = rw (← c.self.view_is) at c.oldest.ensures in
     let shared = rw (← c.self.view_is) at c.requires.shared in
-    let n = got_count a.counts.items (c.args.position - c.oldest.result) (c.args.position - (a.next - length a.messages.items)) c.get-readers.result.now c.get-readers.ensures (ap (λ x. c.args.position - x) o) in
-    rw (c.replace.ensures.items, c.put.ensures, o, ← n) (log_take g.row.CAP g.row.SUBS a.messages.items a.counts.items a.next a.positions.row a.subscribers c.self.invariant c.args.place c.args.position at from held (shared_more g.row.CAP g.row.SUBS a.messages.items a.counts.items a.next a.positions.row a.subscribers c.self.invariant c.args.place c.args.position at from held shared))
+    rw (c.lower.ensures.messages, c.lower.ensures.counts, c.put.ensures, o) (log_take g.row.CAP g.row.SUBS a.held.messages a.held.counts a.next a.positions.row a.subscribers c.self.invariant c.args.place c.args.position at from held (shared_more g.row.CAP g.row.SUBS a.held.messages a.held.counts a.next a.positions.row a.subscribers c.self.invariant c.args.place c.args.position at from held shared))
 
 pub returns-clause-state : goal.returns-clause-state
 returns-clause-state g c =
@@ -32,5 +33,4 @@ returns-clause-state g c =
     let held = rw (← c.self.view_is) at c.requires.held in
     let o = rw (← c.self.view_is) at c.oldest.ensures in
     let shared = rw (← c.self.view_is) at c.requires.shared in
-    let n = got_count a.counts.items (c.args.position - c.oldest.result) (c.args.position - (a.next - length a.messages.items)) c.get-readers.result.now c.get-readers.ensures (ap (λ x. c.args.position - x) o) in
-    rw (c.put.ensures, ← c.self.view_is) (log_took g.row.CAP g.row.SUBS a.messages.items a.counts.items a.next a.positions.row a.subscribers c.self.invariant c.args.place c.args.position at from held (shared_more g.row.CAP g.row.SUBS a.messages.items a.counts.items a.next a.positions.row a.subscribers c.self.invariant c.args.place c.args.position at from held shared))
+    rw (c.lower.ensures.messages, c.put.ensures, ← c.self.view_is) (log_took g.row.CAP g.row.SUBS a.held.messages a.held.counts a.next a.positions.row a.subscribers c.self.invariant c.args.place c.args.position at from held (shared_more g.row.CAP g.row.SUBS a.held.messages a.held.counts a.next a.positions.row a.subscribers c.self.invariant c.args.place c.args.position at from held shared))

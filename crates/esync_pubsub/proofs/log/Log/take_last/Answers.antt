@@ -10,8 +10,8 @@ invariant_of-self g c =
     let from = rw (← c.self.view_is) at c.requires.from in
     let held = rw (← c.self.view_is) at c.requires.held in
     let last = rw (← c.self.view_is) at c.requires.last in
-    let one = last_one g.row.CAP g.row.SUBS a.messages.items a.counts.items a.next a.positions.row a.subscribers c.self.invariant c.args.place c.args.position at from held last in
-    rw (c.take_front.ensures.messages, c.take_front.ensures.counts, c.put.ensures) (log_take_last g.row.CAP g.row.SUBS a.messages.items a.counts.items a.next a.positions.row a.subscribers c.self.invariant c.args.place c.args.position at from held one)
+    let one = last_one g.row.CAP g.row.SUBS a.held.messages a.held.counts a.next a.positions.row a.subscribers c.self.invariant c.args.place c.args.position at from held last in
+    rw (c.take_front.ensures.messages, c.take_front.ensures.counts, c.put.ensures) (log_take_last g.row.CAP g.row.SUBS a.held.messages a.held.counts a.next a.positions.row a.subscribers c.self.invariant c.args.place c.args.position at from held one)
 
 pub returns-clause-message : goal.returns-clause-message
 returns-clause-message g c =
@@ -20,9 +20,9 @@ returns-clause-message g c =
     let from = rw (← c.self.view_is) at c.requires.from in
     let held = rw (← c.self.view_is) at c.requires.held in
     let last = rw (← c.self.view_is) at c.requires.last in
-    let front = log_front g.row.CAP g.row.SUBS a.messages.items a.counts.items a.next a.positions.row a.subscribers c.self.invariant c.args.place c.args.position at from held (last_one g.row.CAP g.row.SUBS a.messages.items a.counts.items a.next a.positions.row a.subscribers c.self.invariant c.args.place c.args.position at from held last) in
-    let zero : c.args.position - (a.next - length a.messages.items) ≡ 0 = omega (arith, front) in
-    rw (← c.self.view_is) (ap (λ k. slice_get a.messages.items k) zero ∙ c.in-Some.ensures.item)
+    let front = log_front g.row.CAP g.row.SUBS a.held.messages a.held.counts a.next a.positions.row a.subscribers c.self.invariant c.args.place c.args.position at from held (last_one g.row.CAP g.row.SUBS a.held.messages a.held.counts a.next a.positions.row a.subscribers c.self.invariant c.args.place c.args.position at from held last) in
+    let zero : c.args.position - (a.next - length a.held.messages) ≡ 0 = omega (arith, front) in
+    rw (← c.self.view_is) (ap (λ k. slice_get a.held.messages k) zero ∙ c.in-Some.ensures.item)
 
 pub returns-clause-state : goal.returns-clause-state
 returns-clause-state g c =
@@ -31,5 +31,5 @@ returns-clause-state g c =
     let from = rw (← c.self.view_is) at c.requires.from in
     let held = rw (← c.self.view_is) at c.requires.held in
     let last = rw (← c.self.view_is) at c.requires.last in
-    let one = last_one g.row.CAP g.row.SUBS a.messages.items a.counts.items a.next a.positions.row a.subscribers c.self.invariant c.args.place c.args.position at from held last in
-    rw (c.take_front.ensures.messages, c.put.ensures, ← c.self.view_is) (log_took_last g.row.CAP g.row.SUBS a.messages.items a.counts.items a.next a.positions.row a.subscribers c.self.invariant c.args.place c.args.position at from held one)
+    let one = last_one g.row.CAP g.row.SUBS a.held.messages a.held.counts a.next a.positions.row a.subscribers c.self.invariant c.args.place c.args.position at from held last in
+    rw (c.take_front.ensures.messages, c.put.ensures, ← c.self.view_is) (log_took_last g.row.CAP g.row.SUBS a.held.messages a.held.counts a.next a.positions.row a.subscribers c.self.invariant c.args.place c.args.position at from held one)
