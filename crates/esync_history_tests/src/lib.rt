@@ -4,6 +4,8 @@
 #[cfg(test)]
 mod cells;
 #[cfg(test)]
+mod counters;
+#[cfg(test)]
 mod executor;
 #[cfg(test)]
 mod mutex;
