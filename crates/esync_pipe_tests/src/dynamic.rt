@@ -74,6 +74,28 @@ fn dynamic_dispatch_pipe(rt: HostRuntime) -> Result<(), AllocError> {
     Ok(())
 }
 
+// The growth of the reader is the only one of this test. Where all memory is given, it is there at once: `rt try --test
+// --fail-alloc 1` refuses it.
+#[test]
+fn a_refused_reader_is_made_again(rt: HostRuntime) -> Result<(), AllocError> {
+    let shared: Pipe<TaskId, _, 3> = Pipe::new(Turns {
+        rt,
+        next: Cell::new(1),
+    });
+    let pipe: &dyn DynamicPipe = &shared;
+    let writer: DynamicWriter<&dyn DynamicPipe> = DynamicWriter::new(pipe);
+    assert!(rt; writer.try_write(&[42, 43]) == Ok(2));
+    let mut reader: DynamicReader<&dyn DynamicPipe> = match DynamicReader::new(rt.alloc(), pipe) {
+        Ok(reader) => reader,
+        Err(AllocError) => {
+            assert_eq!(rt; shared.len(), 2);
+            DynamicReader::new(rt.alloc(), pipe)?
+        }
+    };
+    fills(&rt, &mut reader, &[42, 43]);
+    Ok(())
+}
+
 // The bytes that are still to be written once a future of these was polled, if there was room.
 fn writes_some<'a, P: DynamicPipe>(
     writer: &DynamicWriter<P>,
