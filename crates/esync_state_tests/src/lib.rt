@@ -29,3 +29,5 @@ mod signal;
 mod wakers;
 #[cfg(test)]
 mod watch;
+#[cfg(test)]
+mod watch_runs;

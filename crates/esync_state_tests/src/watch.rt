@@ -7,7 +7,7 @@ use std::process::Abort;
 
 // Passes values below a limit.
 #[derive(Drop)]
-struct Below(u32);
+pub struct Below(pub u32);
 
 impl Judge<u32> for Below {
     ghost use Rattle.std.specs.Prelude.{nat_lt};
@@ -40,7 +40,7 @@ impl Change<u32> for Put {
 
 // Changes nothing, and notes that it was asked.
 #[derive(Drop)]
-struct Asked<'a>(&'a Cell<bool>);
+pub struct Asked<'a>(pub &'a Cell<bool>);
 
 impl Change<u32> for Asked<'_> {
     ghost use Rattle.std.specs.Prelude.{false, refl};
