@@ -1,9 +1,16 @@
 use crate::steps::{Two, has, joins};
 use esync_base::waitqueue::Wakes;
+use esync_machine::primitive::{Answer, Command};
+use esync_machine::requests::Requests;
+use esync_pubsub::pubsub::machine::{
+    Events, PubSubAsk as Ask, PubSubCall as Call, PubSubCommand, PubSubHeard as Heard, PubSubReply,
+    PubSubRun, run_pubsub,
+};
 use esync_pubsub::pubsub::{PubSubState, SubId, WaitResult};
-use std::alloc::AllocError;
+use std::alloc::{AllocError, Global};
 use std::cell::Cell;
 use std::process::Abort;
+use std::test::Fail;
 
 // A message that counts its clones, and whose clone has no memory while the cell says so.
 #[derive(Drop)]
@@ -118,4 +125,61 @@ fn a_refused_pure_read_leaves_its_lag(rt: HostRuntime) {
         )
     );
     has(&rt, &state, &first, 2);
+}
+
+type Topic<'a> = PubSubRun<Counted<'a>, u64, 2, 2, 2, 2, 1, 2>;
+
+// The text of the message that was read.
+fn text(reply: Option<&PubSubReply<Counted<'_>, u64, 2>>) -> Option<&'static str> {
+    match &reply?.answer {
+        Answer::Gives(Heard::Read(WaitResult::Message(message))) => Some(message.text),
+        Answer::Gives(Heard::ReadPure(message)) => Some(message.text),
+        Answer::Gives(Heard::Streamed(Some(message))) => Some(message.text),
+        _ => None,
+    }
+}
+
+// The reply tells of want of memory.
+fn is_refusal(reply: Option<&PubSubReply<Counted<'_>, u64, 2>>) -> bool {
+    reply.is_some_and(|reply| matches!(reply.answer, Answer::NoMemory))
+}
+
+// Two join, a message is published, and the first one's request of this kind is polled.
+fn commands<'a>(
+    alloc: Global,
+    message: Counted<'a>,
+    ask: Ask<Counted<'a>>,
+) -> Result<Vec<PubSubCommand<Counted<'a>, u64>>, AllocError> {
+    Ok(vec![in alloc;
+        Command::Call(Call::Join(0)),
+        Command::Call(Call::Join(1)),
+        Command::Call(Call::Immediate(message)),
+        Command::Start(0, ask),
+        Command::Poll(0, 9),
+    ]?)
+}
+
+// The reply to one more poll of the request.
+fn polls_again<'a>(
+    alloc: Global,
+    topic: &mut Topic<'a>,
+) -> Result<Vec<PubSubReply<Counted<'a>, u64, 2>>, AllocError> {
+    run_pubsub(alloc, topic, vec![in alloc; Command::Poll(0, 9)]?)
+}
+
+#[test]
+fn a_request_whose_clone_is_refused_reads_later(rt: HostRuntime) -> Result<(), Fail> {
+    let alloc = rt.alloc();
+    let is_refused = Cell::new(true);
+    for ask in [Ask::Message(0), Ask::MessagePure(0), Ask::Stream(0)] {
+        is_refused.set(true);
+        let mut topic: Topic<'_> = Requests::new(Events::new_at(0));
+        let commands = commands(alloc, message(&is_refused, "x"), ask)?;
+        let replies = run_pubsub(alloc, &mut topic, commands)?;
+        assert!(rt; is_refusal(replies.last()));
+        is_refused.set(false);
+        let replies = polls_again(alloc, &mut topic)?;
+        assert!(rt; text(replies.last()) == Some("x"));
+    }
+    Ok(())
 }
