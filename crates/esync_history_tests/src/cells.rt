@@ -1,9 +1,11 @@
 use esync_base::waitqueue::TaskId;
+use esync_cells::lazy_lock::Given;
 use esync_cells::once_lock::OnceState;
 use esync_cells::signal::SignalState;
 use esync_history::executor::{Act, Executor, Outcome};
+use esync_run::lazy_lock::{LazyCall, LazyHolder, LazyRun};
 use esync_run::once_lock::{Get, OnceCall, OnceRun};
-use esync_run::primitive::Command;
+use esync_run::primitive::{Answer, Command};
 use esync_run::requests::Requests;
 use esync_run::signal::{SignalCall, SignalCommand, SignalRun, Wait};
 use std::alloc::Global;
@@ -63,5 +65,36 @@ fn a_wait_for_a_value_that_is_set_once_wakes_itself(rt: HostRuntime) -> Result<(
     let mut hears = once(rt.alloc(), true)?;
     assert_eq!(rt; hears.run(2), Outcome::Limit);
     assert_eq!(rt; hears.run(1), Outcome::Done);
+    Ok(())
+}
+
+type Lazy = LazyRun<u32, Given<u32>, TaskId, 16, 1>;
+
+// A task that asks for the value, and one that takes it out and then asks for it.
+fn lazy(alloc: Global) -> Result<Executor<Lazy>, Fail> {
+    let lazy: Lazy = Requests::new(LazyHolder::new(Given { value: 5 }));
+    let asks = vec![in alloc; Act::Call(Command::Call(LazyCall::Get))]?;
+    let takes = vec![in alloc;
+        Act::Call(Command::Call(LazyCall::Into)),
+        Act::Call(Command::Call(LazyCall::Get)),
+    ]?;
+    Ok(Executor::new(alloc, lazy, vec![in alloc; asks, takes]?)?)
+}
+
+#[test]
+fn nothing_is_there_once_a_task_took_the_value_out(rt: HostRuntime) -> Result<(), Fail> {
+    let mut executor = lazy(rt.alloc())?;
+    assert_eq!(rt; executor.run(2), Outcome::Limit);
+    assert_eq!(rt; executor.run(1), Outcome::Done);
+    for (task, answers) in [
+        (0, &[Answer::Gives(5)][..]),
+        (1, &[Answer::Gives(5), Answer::NoSuch][..]),
+    ] {
+        let heard = executor.heard(task).unwrap_or(&[]);
+        assert_eq!(rt; heard.len(), answers.len());
+        for (reply, answer) in heard.iter().zip(answers.iter()) {
+            assert!(rt; reply.answer == *answer);
+        }
+    }
     Ok(())
 }
