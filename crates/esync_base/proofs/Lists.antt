@@ -1,6 +1,7 @@
 -- Rows of optional items.
 use Rattle.std.proofs.Common.{◌≡◌, ℕ, zero, suc, ◌+◌, ◌-◌, ◌<◌, List, [], ◌∷◌, ◌++◌, length, Some, None, Option, refl, sym, ◌∙◌, ap, get_or, set, take, append_assoc, arith}
 use Rattle.std.specs.Prelude.{map, slice_get}
+use Rattle.std.specs.Iterator.{YieldsFirst}
 use Rattle.std.proofs.Math.ListN.{replicate}
 use Rattle.std.proofs.lemmas.List.{length_push}
 use Rattle.esync_base.specs.Rows.{items_of, row_of, IsRow}
@@ -13,6 +14,24 @@ items_of-replicate (suc n) = items_of-replicate n
 pub items_of-row : {A : Type 0} (xs : List A) (n : ℕ) → items_of (map Some xs ++ replicate n None) ≡ xs
 items_of-row [] n = items_of-replicate n
 items_of-row (x ∷ xs) n = ap (λ ys. x ∷ ys) (items_of-row xs n)
+
+pub items_of-all : {A : Type 0} (xs : List A) → items_of (map Some xs) ≡ xs
+items_of-all [] = refl
+items_of-all (x ∷ xs) = ap (λ ys. x ∷ ys) (items_of-all xs)
+
+-- a row whose places all hold an item: its first place, and the others
+module _ {A : Type 0} where
+  abbrev tail_of : List (Option A) → List (Option A)
+  tail_of [] = []
+  tail_of (o ∷ row) = row
+
+  pub filled_rest : (o : Option A) (row : List (Option A)) → o ∷ row ≡ map Some (items_of (o ∷ row)) → row ≡ map Some (items_of row)
+  filled_rest (Some x) row h = ap tail_of h
+  filled_rest None row h = elim (items_of row) as (λ xs. None ∷ row ≡ map Some xs → row ≡ map Some (items_of row)) [ [] ↦ λ e. cc | x ∷ xs ↦ λ e. cc ] h
+
+  pub filled_first : (o : Option A) (row : List (Option A)) → o ∷ row ≡ map Some (items_of (o ∷ row)) → YieldsFirst (λ xs. xs) (items_of (o ∷ row)) o (items_of row)
+  filled_first (Some x) row h = refl
+  filled_first None row h = elim (items_of row) as (λ xs. None ∷ row ≡ map Some xs → YieldsFirst (λ xs. xs) (items_of row) None (items_of row)) [ [] ↦ λ e. cc | x ∷ xs ↦ λ e. cc ] h
 
 pub set-row : {A : Type 0} (xs : List A) (n : ℕ) (w : A) → set (map Some xs ++ replicate (suc n) None) (length xs) (Some w) ≡ map Some (xs ++ w ∷ []) ++ replicate n None
 set-row [] n w = refl

@@ -1,11 +1,11 @@
 -- Places of a ring whose first ones are filled, and the bytes that stand there.
-use Rattle.std.proofs.Common.{◌≡◌, ℕ, zero, suc, ◌+◌, ◌-◌, ◌<◌, ◌≤◌, List, [], ◌∷◌, ◌++◌, take, drop, length, inl, inr, refl, sym, ap, ◌∙◌, append_assoc, arith, length-append, length-drop, length-take}
+use Rattle.std.proofs.Common.{◌≡◌, ℕ, zero, suc, ◌+◌, ◌-◌, ◌<◌, ◌≤◌, List, [], ◌∷◌, ◌++◌, take, drop, length, inl, inr, refl, sym, ap, ◌∙◌, append_assoc, arith, length-append, length-drop}
 use Rattle.std.proofs.Math.Seq.{take-append-add, drop-append-add, take-add}
 use Rattle.std.proofs.lemmas.List.{take-append-drop, take-append-le, drop-append-le, take-take, take_at, take_all, drop_all, drop-take, drop-drop, length-take-le, append-nil}
 use Rattle.std.proofs.lemmas.Bool.Decides.{nat_tests}
 use Rattle.esync_base.specs.Ring.{slot}
 use Rattle.esync_base.specs.Places.{read_from}
-use Rattle.esync_base.specs.RingBuffer.{Stretch, free_run, filled_run, begins, written, laid, IsLaid}
+use Rattle.esync_base.specs.RingBuffer.{Stretch, free_run, begins, written, laid, IsLaid}
 use Rattle.esync_base.proofs.Places.{lt_or_le, slot-is}
 
 -- the free places behind the filled ones end at the last place at the latest

@@ -262,6 +262,14 @@ impl<T: Drop, const N: usize> Deque<T, N> {
         }
     }
 
+    /// The place where the next item goes. At a full ring it is that of the oldest one.
+    pub fn slot_of_next(&self) -> usize
+        ensures place { result ≡ slot N self.now.front (length self.now.items) }
+        ensures within { result ≤ N - 1 }
+    {
+        self.end
+    }
+
     /// Drops all items.
     pub fn clear(&mut self)
         ensures items { self.new.items ≡ [] }

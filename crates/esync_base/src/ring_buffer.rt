@@ -14,12 +14,14 @@ use std::ops::Range;
 /// Which of the `N` places of a ring are filled: a number of them from a first one on, and behind the last place the first again.
 #[derive(Debug, Drop)]
 pub struct RingBuffer<const N: usize> {
+    end: usize,
     start: usize,
     len: usize,
 }
 
 impl<const N: usize> Model for RingBuffer<N> {
-    ghost use Rattle.std.specs.Prelude.{◌-◌, ◌≤◌};
+    ghost use Rattle.std.specs.Prelude.{◌≡◌, ◌-◌, ◌≤◌};
+    ghost use Rattle.esync_base.specs.Ring.{slot};
     ghost use Rattle.esync_base.specs.RingBuffer.{Stretch, stretch_code};
 
     ghost Value = { Stretch };
@@ -28,7 +30,7 @@ impl<const N: usize> Model for RingBuffer<N> {
 
     ghost view = { λ a. record { front = a.start; count = a.len } };
 
-    ghost invariant = { λ a. (a.start ≤ N - 1) × (a.len ≤ N) };
+    ghost invariant = { λ a. (a.start ≤ N - 1) × (a.len ≤ N) × (a.end ≡ slot N a.start a.len) };
 }
 
 impl<const N: usize> RingBuffer<N> {
@@ -36,22 +38,19 @@ impl<const N: usize> RingBuffer<N> {
     pub fn new() -> Self
         ensures { result ≡ record { front = 0; count = 0 } }
     {
-        RingBuffer { start: 0, len: 0 }
+        RingBuffer {
+            end: 0,
+            start: 0,
+            len: 0,
+        }
     }
 
-    // The place so many places behind the first. The subtraction stands before the branch: else `pop` may load both fields as one vector,
-    // right behind a store of one, for which the processor waits.
-    fn place(&self, behind: usize) -> usize
-        requires { behind ≤ N }
-        ensures { result ≡ slot N self.now.front behind }
+    // The place behind the newest byte, where the next one goes.
+    fn end(&self) -> usize
+        ensures value { result ≡ slot N self.now.front self.now.count }
+        ensures within { result ≤ N - 1 }
     {
-        let before_end = N - self.start;
-        let from_first = behind.saturating_sub(before_end);
-        if behind < before_end {
-            self.start + behind
-        } else {
-            from_first
-        }
+        self.end
     }
 
     // The place of the oldest byte, or where the next one goes if there is none.
@@ -92,7 +91,7 @@ impl<const N: usize> RingBuffer<N> {
         ensures end { result.end ≡ result.start + free_run N self.now }
         ensures within { result.end ≤ N }
     {
-        run(self.place(self.len), self.free_run())
+        run(self.end, self.free_run())
     }
 
     /// The free places: those of `push_buf`, and behind the wrap the others.
@@ -105,7 +104,7 @@ impl<const N: usize> RingBuffer<N> {
     {
         let first = self.free_run();
         let rest = N - self.len - first;
-        (run(self.place(self.len), first), 0..rest)
+        (run(self.end, first), 0..rest)
     }
 
     /// Fills so many of the free places, in order. There have to be so many.
@@ -113,6 +112,7 @@ impl<const N: usize> RingBuffer<N> {
         requires { self.old.count + n ≤ N }
         ensures { self.new ≡ record self.old { count = self.old.count + n } }
     {
+        self.end = behind::<N>(self.end, n);
         self.len += n;
     }
 
@@ -142,7 +142,7 @@ impl<const N: usize> RingBuffer<N> {
         requires { n ≤ self.old.count }
         ensures { self.new ≡ record { front = slot N self.old.front n; count = self.old.count - n } }
     {
-        self.start = self.place(n);
+        self.start = behind::<N>(self.start, n);
         self.len -= n;
     }
 
@@ -172,8 +172,25 @@ impl<const N: usize> RingBuffer<N> {
     pub fn clear(&mut self)
         ensures { self.new ≡ record { front = 0; count = 0 } }
     {
+        self.end = 0;
         self.start = 0;
         self.len = 0;
+    }
+}
+
+// The place so many places behind this one. The subtraction stands before the branch: else `pop` may load two fields as one vector,
+// right behind a store of one, for which the processor waits.
+fn behind<const N: usize>(place: usize, count: usize) -> usize
+    requires place { place ≤ N - 1 }
+    requires count { count ≤ N }
+    ensures { result ≡ slot N place count }
+{
+    let before_end = N - place;
+    let from_first = count.saturating_sub(before_end);
+    if count < before_end {
+        place + count
+    } else {
+        from_first
     }
 }
 
@@ -346,9 +363,9 @@ impl<const N: usize> ByteRing<N> {
         let held = self.ring.len();
         let free = N - held;
         let n = if from.len() < free { from.len() } else { free };
-        let start = self.ring.place(held);
-        self.row.copy_in_runs(start, N - start, &from[..n]);
+        let start = self.ring.end();
         self.ring.push(n);
+        self.row.copy_in_runs(start, N - start, &from[..n]);
         n
     }
 
@@ -363,8 +380,8 @@ impl<const N: usize> ByteRing<N> {
         let held = self.ring.len();
         let n = if to.len() < held { to.len() } else { held };
         let start = self.ring.first();
-        self.row.copy_out_runs(start, N - start, &mut to[..n]);
         self.ring.pop(n);
+        self.row.copy_out_runs(start, N - start, &mut to[..n]);
         n
     }
 
@@ -401,6 +418,7 @@ impl<const N: usize> Kept for ByteRing<N> {
         Ok(ByteRing {
             row: self.row,
             ring: RingBuffer {
+                end: self.ring.end,
                 start: self.ring.start,
                 len: self.ring.len,
             },

@@ -34,10 +34,8 @@ impl<V, W: Copy, H: Hand<W>> Shared<V, W, H> {
 
     /// Gives the wakers to the hand, in order.
     pub fn wake<const K: usize>(&self, wakes: &Wakes<W, K>) {
-        for waker in wakes.as_slice() {
-            if let Some(waker) = waker {
-                self.hand.wake(*waker);
-            }
+        for waker in wakes {
+            self.hand.wake(waker);
         }
     }
 

@@ -8,6 +8,7 @@ pub use atomic_waker::{AtomicWaker, AtomicWakerState, GenericAtomicWaker};
 pub use multi_waker::MultiWakerRegistration;
 use std::alloc::AllocError;
 use std::fmt;
+use std::iter::FusedIterator;
 use std::marker::Model;
 use std::sync::Wait;
 
@@ -161,6 +162,51 @@ impl<W: fmt::Debug, const K: usize> fmt::Debug for Wakes<W, K> {
     }
 }
 
+/// The wakers of a list, in order.
+#[derive(Drop)]
+pub struct Iter<'a, W> {
+    rest: &'a [Option<W>],
+}
+
+impl<'a, W> Model for Iter<'a, W> {
+    ghost use Rattle.std.specs.Prelude.{◌≡◌, List, Some, map};
+    ghost use Rattle.esync_base.specs.Rows.{items_of};
+
+    ghost Value = { List W };
+
+    ghost view = { λ a. items_of a.rest.now };
+
+    ghost invariant = { λ a. a.rest.now ≡ map Some (items_of a.rest.now) };
+}
+
+impl<'a, W: Copy> Iterator for Iter<'a, W> {
+    ghost use Rattle.std.specs.Iterator.{YieldsFirst, item_count};
+
+    type Item = W;
+
+    ghost next_gives = { YieldsFirst (λ s. s) };
+
+    ghost remaining = { item_count (λ s. s) };
+
+    fn next(&mut self) -> Option<W> {
+        let (first, rest) = self.rest.split_first()?;
+        self.rest = rest;
+        *first
+    }
+}
+
+impl<'a, W: Copy> FusedIterator for Iter<'a, W> {}
+
+impl<'a, W: Copy, const K: usize> IntoIterator for &'a Wakes<W, K> {
+    type Item = W;
+
+    type IntoIter = Iter<'a, W>;
+
+    fn into_iter(self) -> Iter<'a, W> {
+        self.iter()
+    }
+}
+
 impl<W, const K: usize> Wakes<W, K> {
     // The places that have a waker.
     fn filled(&self) -> &[Option<W>]
@@ -168,6 +214,15 @@ impl<W, const K: usize> Wakes<W, K> {
     {
         let Wakes { row, len } = self;
         &row.places[..*len]
+    }
+
+    /// An iterator over the wakers, in order.
+    pub fn iter(&self) -> Iter<'_, W>
+        ensures { result ≡ self.now }
+    {
+        Iter {
+            rest: self.filled(),
+        }
     }
 }
 

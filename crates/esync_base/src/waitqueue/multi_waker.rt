@@ -1,5 +1,5 @@
 //! A list for the wakers of several tasks.
-ghost use Rattle.std.specs.Prelude.{◌≡◌, ◌+◌, ◌≤◌, ◌++◌, [], length};
+ghost use Rattle.std.specs.Prelude.{◌≡◌, ◌↔◌, ◌+◌, ◌≤◌, ◌++◌, [], length, IsTrue};
 ghost use Rattle.esync_base.specs.Registration.{among, registered, displaced};
 
 use super::Wakes;
@@ -74,6 +74,13 @@ impl<W: Copy + Eq, const N: usize> MultiWakerRegistration<W, N> {
         if !self.wakers.is_empty() {
             self.wakers = Wakes::new();
         }
+    }
+
+    /// No waker is registered.
+    pub fn is_empty(&self) -> bool
+        ensures { IsTrue result ↔ (self.now ≡ []) }
+    {
+        self.wakers.is_empty()
     }
 
     // A waker that equals this one is registered.

@@ -1,4 +1,4 @@
-use Rattle.std.proofs.Common.{◌≡◌, ◌≤◌, ◌-◌, ◌++◌, length, take, drop, ap, arith}
+use Rattle.std.proofs.Common.{◌≡◌, ◌≤◌, ◌++◌, length, take, drop, ap, arith}
 use Rattle.std.proofs.lemmas.List.{length-take-le}
 use Rattle.esync_base.proofs.Stretches.{laid-left, laid-rest, oldest-to-end}
 use Rattle.esync_base.proofs.ring_buffer.ByteRing.read.Goals as goal

@@ -11,6 +11,5 @@ returns-clause-items g c =
     let small : c.if-from-free.n ≤ length c.args.from.now = elim c.if-from-free.branch [ then-from-free w ↦ omega arith | else-from-free w ↦ omega arith ] in
     let room : c.if-from-free.n ≤ g.row.N - a.ring.count = elim c.if-from-free.branch [ then-from-free w ↦ omega arith | else-from-free w ↦ omega arith ] in
     let t : length ys ≡ c.if-from-free.n = length-take-le c.if-from-free.n c.args.from.now small in
-    let len : c.len-held.result ≡ a.ring.count = c.len-held.ensures.value in
     let held = rw t at (laid-to-end g.row.N a.row.bytes a.ring ys c.self.invariant (let f = c.self.invariant.fits in omega arith)) in
-    rw (c.push.ensures, c.copy_in_runs.ensures, c.place-start.ensures, len, ← c.self.view_is) held
+    rw (c.push.ensures, c.copy_in_runs.ensures, c.end-start.ensures.value, ← c.self.view_is) held

@@ -7,12 +7,14 @@ use Rattle.esync_base.proofs.ring_buffer.RingBuffer.push_buf.Goals as goal
 pub run-requires : goal.run-requires
 run-requires g c =
     let a = c.self.inside in
-    let w = subst (λ (v : Stretch). slot g.row.N v.front a.len + free_run g.row.N v ≤ g.row.N) c.self.view_is (free-within g.row.N (record { front = a.start; count = a.len }) c.self.invariant.0 c.self.invariant.1) in
-    omega (arith, c.place.ensures, c.free_run.ensures)
+    let i = c.self.invariant in
+    let w : a.end + free_run g.row.N c.args.self.now ≤ g.row.N = rw i.2 (subst (λ (v : Stretch). slot g.row.N a.start a.len + free_run g.row.N v ≤ g.row.N) c.self.view_is (free-within g.row.N (record { front = a.start; count = a.len }) i.0 i.1)) in
+    omega (arith, c.free_run.ensures)
 
 pub returns-clause-within : goal.returns-clause-within
 returns-clause-within g c =
     let a = c.self.inside in
-    let w = subst (λ (v : Stretch). slot g.row.N v.front a.len + free_run g.row.N v ≤ g.row.N) c.self.view_is (free-within g.row.N (record { front = a.start; count = a.len }) c.self.invariant.0 c.self.invariant.1) in
-    let b = begins-within c.place.result c.free_run.result in
-    omega (arith, c.place.ensures, c.free_run.ensures, c.run.ensures.start, c.run.ensures.end)
+    let i = c.self.invariant in
+    let w : a.end + free_run g.row.N c.args.self.now ≤ g.row.N = rw i.2 (subst (λ (v : Stretch). slot g.row.N a.start a.len + free_run g.row.N v ≤ g.row.N) c.self.view_is (free-within g.row.N (record { front = a.start; count = a.len }) i.0 i.1)) in
+    let b = begins-within a.end c.free_run.result in
+    omega (arith, c.free_run.ensures, c.run.ensures.start, c.run.ensures.end)
