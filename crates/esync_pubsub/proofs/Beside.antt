@@ -58,8 +58,7 @@ module _ (n f : ℕ) (row : List ℕ) where
 
 module _ {T : Type 0} (n : ℕ) (row : List ℕ) (f f2 : ℕ) (ms ms2 : List T) where
   -- the count of a message that comes behind the others
-  pub count_push : (m : T) (p last c : ℕ) → length row ≡ n → last ≡ length ms → length ms < n → ms2 ≡ ms ++ m ∷ [] → f2 ≡ f → p ≡ slot n f2 last → p < n → beside n f2 (slice_set row p c) (length ms2) ≡ beside n f row (length ms) ++ c ∷ []
-  count_push m p last c long l room e front place below =
-      let at : p ≡ slot n f (length ms) = place ∙ ap (λ g. slot n g last) front ∙ ap (slot n f) l in
+  pub count_push : (m : T) (p c : ℕ) → length row ≡ n → length ms < n → ms2 ≡ ms ++ m ∷ [] → f2 ≡ f → p ≡ slot n f (length ms) → p < n → beside n f2 (slice_set row p c) (length ms2) ≡ beside n f row (length ms) ++ c ∷ []
+  count_push m p c long room e front at below =
       let many : length ms2 ≡ suc (length ms) = (let long2 : length ms2 ≡ length ms + 1 = ap length e ∙ length_push ms m in omega (arith, long2)) in
       rw (many, front, at) (beside_push n row long c f (length ms) (omega (arith, at, below)) room)

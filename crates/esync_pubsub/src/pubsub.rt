@@ -213,6 +213,9 @@ impl<T: Drop, W: Copy + Eq, const CAP: usize, const SUBS: usize, const PUBS: usi
         ensures state { self.new ≡ record self.old { lists = lists_after_room (nat_lt (length self.old.log.held) held) self.old.lists } }
         ensures wakes { wakes.new ≡ wakes.old ++ wakes_of_room (nat_lt (length self.old.log.held) held) self.old.lists }
     {
+        if self.publisher_wakers.is_empty() {
+            return;
+        }
         if self.has_freed(held) {
             self.publisher_wakers.wake(wakes);
         }

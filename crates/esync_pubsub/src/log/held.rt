@@ -118,11 +118,10 @@ impl<T: Drop, const N: usize> Held<T, N> {
         ensures messages { self.new.messages ≡ self.old.messages ++ message ∷ [] }
         ensures counts { self.new.counts ≡ self.old.counts ++ count ∷ [] }
     {
-        let last = self.messages.len();
+        let place = self.messages.slot_of_next();
         let Ok(()) = self.messages.push_back(message) else {
             unreachable!()
         };
-        let place = self.messages.slot_of(last);
         self.counts.put(place, count);
     }
 

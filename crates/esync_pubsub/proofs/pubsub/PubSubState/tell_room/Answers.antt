@@ -1,7 +1,28 @@
-use Rattle.std.proofs.Common.{◌≡◌, true, false, length, rules, refl, sym, ◌∙◌}
+use Rattle.std.proofs.Common.{◌≡◌, Bool, true, false, [], length, rules, refl, sym, ap, ◌∙◌}
 use Rattle.std.specs.Prelude.{nat_lt}
 use Rattle.std.proofs.lemmas.List.{append-nil}
+use Rattle.esync_pubsub.specs.PubSub.{Lists, lists_after_room, wakes_of_room}
 use Rattle.esync_pubsub.proofs.pubsub.PubSubState.tell_room.Goals as goal
+
+-- where nobody waits for room, room wakes nobody
+module _ {W : Type 0} (l : Lists W) (nobody : l.publishers ≡ []) where
+  stays : (freed : Bool) → lists_after_room freed l ≡ l
+  stays true = ap (λ ws. record l { publishers = ws }) (sym nobody)
+  stays false = refl
+
+  unwoken : (freed : Bool) → wakes_of_room freed l ≡ []
+  unwoken true = nobody
+  unwoken false = refl
+
+pub returns-then-is_empty-clause-state : goal.returns-then-is_empty-clause-state
+returns-then-is_empty-clause-state g c =
+    let nobody : c.args.self.now.lists.publishers ≡ [] = rw (← c.self.view_is) (c.is_empty.ensures.0 c.if-is_empty.true) in
+    rw (stays c.args.self.now.lists nobody (nat_lt (length c.args.self.now.log.held) c.args.held)) refl
+
+pub returns-then-is_empty-clause-wakes : goal.returns-then-is_empty-clause-wakes
+returns-then-is_empty-clause-wakes g c =
+    let nobody : c.args.self.now.lists.publishers ≡ [] = rw (← c.self.view_is) (c.is_empty.ensures.0 c.if-is_empty.true) in
+    rw (unwoken c.args.self.now.lists nobody (nat_lt (length c.args.self.now.log.held) c.args.held)) (sym (append-nil c.args.wakes.now))
 
 pub returns-else-has_freed-clause-wakes : goal.returns-else-has_freed-clause-wakes
 returns-else-has_freed-clause-wakes g c =
