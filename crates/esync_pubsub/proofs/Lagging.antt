@@ -1,9 +1,9 @@
 -- A subscriber at another position, and a log in which it caught up.
-use Rattle.std.proofs.Common.{◌≡◌, ℕ, ◌-◌, ◌<◌, ◌≤◌, true, false, List, length, refl, sym, ◌∙◌, ap, arith}
+use Rattle.std.proofs.Common.{◌≡◌, ℕ, ◌-◌, ◌<◌, ◌≤◌, Bool, true, false, List, length, refl, sym, ◌∙◌, ap, arith}
 use Rattle.std.specs.Prelude.{Option, Some, None, is_some, nat_lt, slice_set, slice_index_or}
 use Rattle.std.proofs.lemmas.Bool.Decides.{nat_tests}
 use Rattle.std.proofs.lemmas.List.{set-set, set-get_or, get_or-set_same}
-use Rattle.esync_pubsub.specs.Log.{Log, number_of, is_read, oldest, position, is_live, is_last, moved, lags, gap, caught, Reads, IsRefused}
+use Rattle.esync_pubsub.specs.Log.{Log, number_of, is_read, oldest, position, is_live, is_last, moved, lags, gap, caught_if, caught, Reads, IsRefused}
 use Rattle.esync_pubsub.specs.PubSub.{frees}
 use Rattle.esync_pubsub.specs.declared.pubsub.WaitResult.TheVariants.{Lagged}
 use Rattle.esync_pubsub.proofs.Logged.{place_below}
@@ -46,11 +46,19 @@ module _ {T : Type 0} (place : ℕ) (log : Log T) where
   pub refused_moved : (I : T → Type 0) (n q : ℕ) → IsRefused I place n (moved place q log) → IsRefused I place n log
   refused_moved I n q r = record { from = r.from; shared = sym (moved_last n q) ∙ r.shared; fails = r.fails }
 
+  refused_if : (b : Bool) (I : T → Type 0) (n : ℕ) → IsRefused I place n (caught_if b place log) → IsRefused I place n log
+  refused_if true I n r = refused_moved I n (oldest log) r
+  refused_if false I n r = r
+
   pub caught_lagging : position place log < oldest log → caught place log ≡ moved place (oldest log) log
   caught_lagging l = (let e : lags place log ≡ true = grind (arith, nat_tests) in rw e refl)
 
   pub caught_up : oldest log ≤ position place log → caught place log ≡ log
   caught_up l = (let e : lags place log ≡ false = grind (arith, nat_tests) in rw e refl)
+
+  -- a clone that is refused once the subscriber has caught up
+  pub refused_caught : (I : T → Type 0) (n : ℕ) → IsRefused I place n (caught place log) → IsRefused I place n log
+  refused_caught I n r = refused_if (lags place log) I n r
 
   module _ (C : T → T → Type 0) (log2 : Log T) where
     -- a lag was read

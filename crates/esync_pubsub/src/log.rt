@@ -169,6 +169,19 @@ impl<T: Drop, const CAP: usize, const SUBS: usize> Log<T, CAP, SUBS> {
         self.positions.put(place, Some(number));
     }
 
+    // Where the subscriber at this place lags, it goes on from the oldest message.
+    fn catch_up(&mut self, place: usize)
+        requires { IsTrue (is_live place self.old) }
+        ensures state { self.new ≡ caught place self.old }
+        ensures live { IsTrue (is_live place self.new) }
+        ensures from { oldest self.new ≤ position place self.new }
+    {
+        let oldest = self.oldest();
+        if self.position(place) < oldest {
+            self.lag_at(place, oldest);
+        }
+    }
+
     /// There are subscribers.
     pub fn has_subscribers(&self) -> bool
         ensures { result ≡ has_subscribers self.now }
@@ -378,14 +391,13 @@ impl<T: Clone, const CAP: usize, const SUBS: usize> Log<T, CAP, SUBS> {
     {
         let position = self.position(place);
         let oldest = self.oldest();
-        if oldest <= position {
-            return self.take_next(place);
-        }
-        self.lag_at(place, oldest);
+        self.catch_up(place);
         match self.take_next(place) {
             Ok(answer) => Ok(answer),
             Err(error) => {
-                self.lag_at(place, position);
+                if position < oldest {
+                    self.lag_at(place, position);
+                }
                 Err(error)
             }
         }

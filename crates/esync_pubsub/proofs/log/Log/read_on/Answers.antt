@@ -1,32 +1,33 @@
-use Rattle.std.proofs.Common.{arith, rules, ◌<◌}
-use Rattle.esync_pubsub.specs.Log.{position, oldest, moved}
-use Rattle.esync_pubsub.proofs.Lagging.{moved_live, moved_up, moved_down, moved_back, refused_moved, caught_lagging}
+use Rattle.std.proofs.Common.{◌≡◌, ◌<◌, ◌≤◌, ◌∙◌, ap, sym, arith, rules}
+use Rattle.esync_pubsub.specs.Log.{position, oldest, moved, caught, IsRefused}
+use Rattle.esync_pubsub.proofs.Lagging.{moved_live, moved_down, moved_back, caught_lagging, caught_up, refused_caught}
+use Rattle.esync_pubsub.proofs.log.Log.read_on.Goals.{then-position-oldest, else-position-oldest}
 use Rattle.esync_pubsub.proofs.log.Log.read_on.Goals as goal
 
-pub take_next-requires-2 : goal.take_next-requires-2
-take_next-requires-2 g c =
+pub lag_at-requires : goal.lag_at-requires
+lag_at-requires g c =
     let log = c.args.self.now in
-    rw c.lag_at.ensures (search rules, (moved_live c.args.place log c.requires c.oldest-oldest.result, moved_up c.args.place log c.requires c.oldest-oldest.result c.oldest-oldest.ensures))
+    let at = c.oldest-oldest.result in
+    let l : position c.args.place log < oldest log = omega (arith, c.if-position-oldest.true, c.oldest-oldest.ensures, c.position-position.ensures.value) in
+    let there : c.take_next.new.self ≡ moved c.args.place at log = c.in-Err.ensures.err ∙ c.catch_up.ensures.state ∙ caught_lagging c.args.place log l ∙ ap (λ n. moved c.args.place n log) (sym c.oldest-oldest.ensures) in
+    rw there (search rules, (moved_live c.args.place log c.requires at, (moved_down c.args.place log c.requires at c.oldest-oldest.ensures, omega (arith, c.if-position-oldest.true, c.oldest-oldest.ensures))))
 
-pub lag_at-requires-in-Err : goal.lag_at-requires-in-Err
-lag_at-requires-in-Err g c =
+pub returns-after-position-oldest-clause-refused : goal.returns-after-position-oldest-clause-refused
+returns-after-position-oldest-clause-refused g c =
     let log = c.args.self.now in
-    rw (c.in-Err.ensures.err, c.lag_at.ensures) (search rules, (moved_live c.args.place log c.requires c.oldest-oldest.result, (moved_down c.args.place log c.requires c.oldest-oldest.result c.oldest-oldest.ensures, omega (arith, c.if-oldest-position.false, c.oldest-oldest.ensures))))
+    let refused : IsRefused g.T.Clone.is_infallible c.args.place (position c.args.place (caught c.args.place log)) (caught c.args.place log) = rw c.catch_up.ensures.state at c.in-Err.ensures.refused in
+    refused_caught c.args.place log g.T.Clone.is_infallible (position c.args.place (caught c.args.place log)) refused
 
-pub returns-in-Ok-clause-ok : goal.returns-in-Ok-clause-ok
-returns-in-Ok-clause-ok g c =
+pub returns-after-position-oldest-clause-err : goal.returns-after-position-oldest-clause-err
+returns-after-position-oldest-clause-err g c =
     let log = c.args.self.now in
-    let l : position c.args.place log < oldest log = omega (arith, c.if-oldest-position.false, c.oldest-oldest.ensures, c.position-position.ensures.value) in
-    let read = rw (c.lag_at.ensures, c.oldest-oldest.ensures) at c.in-Ok.ensures.ok in
-    rw (caught_lagging c.args.place log l) read
-
-pub returns-in-Err-clause-refused : goal.returns-in-Err-clause-refused
-returns-in-Err-clause-refused g c =
-    let log = c.args.self.now in
-    let l : position c.args.place log < oldest log = omega (arith, c.if-oldest-position.false, c.oldest-oldest.ensures, c.position-position.ensures.value) in
-    let refused = rw (c.lag_at.ensures, c.oldest-oldest.ensures) at c.in-Err.ensures.refused in
-    rw (caught_lagging c.args.place log l) (refused_moved c.args.place log g.T.Clone.is_infallible (position c.args.place (moved c.args.place (oldest log) log)) (oldest log) refused)
-
-pub returns-in-Err-clause-err : goal.returns-in-Err-clause-err
-returns-in-Err-clause-err g c =
-    rw (c.lag_at-in-Err.ensures, c.in-Err.ensures.err, c.lag_at.ensures) (moved_back c.args.place c.args.self.now c.position-position.result c.oldest-oldest.result c.position-position.ensures.live)
+    let back : c.take_next.new.self ≡ caught c.args.place log = c.in-Err.ensures.err ∙ c.catch_up.ensures.state in
+    elim c.if-position-oldest.branch [
+      | then-position-oldest w ↦
+          let l : position c.args.place log < oldest log = omega (arith, w.if-position-oldest.true, c.oldest-oldest.ensures, c.position-position.ensures.value) in
+          let moved_is = back ∙ caught_lagging c.args.place log l in
+          w.self-is ∙ w.lag_at.ensures ∙ ap (moved c.args.place c.position-position.result) moved_is ∙ moved_back c.args.place log c.position-position.result (oldest log) c.position-position.ensures.live
+      | else-position-oldest w ↦
+          let l : oldest log ≤ position c.args.place log = omega (arith, w.if-position-oldest.false, c.oldest-oldest.ensures, c.position-position.ensures.value) in
+          w.self-is ∙ back ∙ caught_up c.args.place log l
+    ]
