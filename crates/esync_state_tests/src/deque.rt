@@ -20,8 +20,10 @@ fn ring_goes_round(rt: HostRuntime) {
     assert!(rt; ring.is_full() && ring.push_back(4) == Err(4));
     stands_at(&rt, &ring, &[0, 1, 2]);
     assert!(rt; ring.pop_front() == Some(1));
+    assert_eq!(rt; ring.slot_of_next(), 0);
     assert!(rt; ring.push_back(4) == Ok(()));
     stands_at(&rt, &ring, &[1, 2, 0]);
+    assert_eq!(rt; ring.slot_of_next(), 1);
     for item in [2, 3, 4] {
         assert!(rt; ring.front() == Some(&item));
         assert!(rt; ring.pop_front() == Some(item));

@@ -40,8 +40,10 @@ fn a_context_lends_its_waker(rt: HostRuntime) {
 #[test]
 fn a_full_list_is_handed_out_for_another(rt: HostRuntime) {
     let mut list: MultiWakerRegistration<u32, 2> = MultiWakerRegistration::new();
+    assert!(rt; list.is_empty());
     let mut wakes: Wakes<u32, 8> = Wakes::new();
     list.register(1, &mut wakes);
+    assert!(rt; !list.is_empty());
     list.register(2, &mut wakes);
     list.register(1, &mut wakes);
     assert!(rt; wakes.is_empty());
@@ -72,4 +74,20 @@ fn an_atomic_waker_is_woken_again(rt: HostRuntime) {
         (wakes.get(0), wakes.get(1), wakes.len()),
         (Some(2), Some(2), 2)
     );
+}
+
+#[test]
+fn a_list_gives_its_wakers_in_order(rt: HostRuntime) {
+    let mut wakes: Wakes<u32, 3> = Wakes::new();
+    assert!(rt; wakes.iter().next().is_none());
+    wakes.push(5);
+    wakes.push(3);
+    let mut given = wakes.iter();
+    assert_eq!(rt; (given.next(), given.next()), (Some(5), Some(3)));
+    assert!(rt; given.next().is_none() && given.next().is_none());
+    let mut last = None;
+    for waker in &wakes {
+        last = Some(waker);
+    }
+    assert_eq!(rt; last, Some(3));
 }
