@@ -12,10 +12,12 @@ use std::marker::Model;
 use std::ops::Range;
 
 /// Which of the `N` places of a ring are filled: a number of them from a first one on, and behind the last place the first again.
+// A read changes `start` and `len`, which don't stand side by side: else both may be loaded as one vector, right behind a write's store of
+// one, for which the processor waits.
 #[derive(Debug, Drop)]
 pub struct RingBuffer<const N: usize> {
-    end: usize,
     start: usize,
+    end: usize,
     len: usize,
 }
 
@@ -178,19 +180,17 @@ impl<const N: usize> RingBuffer<N> {
     }
 }
 
-// The place so many places behind this one. The subtraction stands before the branch: else `pop` may load two fields as one vector,
-// right behind a store of one, for which the processor waits.
+// The place so many places behind this one.
 fn behind<const N: usize>(place: usize, count: usize) -> usize
     requires place { place ≤ N - 1 }
     requires count { count ≤ N }
     ensures { result ≡ slot N place count }
 {
     let before_end = N - place;
-    let from_first = count.saturating_sub(before_end);
     if count < before_end {
         place + count
     } else {
-        from_first
+        count - before_end
     }
 }
 
