@@ -22,6 +22,12 @@ pub struct Snd<'a, B> {
 }
 
 impl<'a, B> Clone for Snd<'a, B> {
+    ghost use Rattle.std.specs.Prelude.{◌≡◌};
+
+    ghost is_clone = { λ s r. r ≡ s };
+
+    ghost is_infallible = { λ _. Unit {0} };
+
     fn clone(&self) -> Result<Self, AllocError> {
         Ok(*self)
     }
