@@ -150,8 +150,9 @@ impl<W: Copy + Eq, const N: usize> PipeState<W, N> {
             return Err(TryReadError::Empty);
         }
         let was_full = self.is_full();
+        let taken = self.buffer.read(to);
         wake_if(was_full, &mut self.write_waker, wakes);
-        Ok(self.buffer.read(to))
+        Ok(taken)
     }
 
     /// Takes the oldest bytes out into the front of the slice, as many as there are and as it has places, and tells how many. Reading
@@ -271,8 +272,9 @@ impl<W: Copy + Eq, const N: usize> PipeState<W, N> {
             return Err(TryWriteError::Full);
         }
         let was_empty = self.is_empty();
+        let written = self.buffer.write(from);
         wake_if(was_empty, &mut self.read_waker, wakes);
-        Ok(self.buffer.write(from))
+        Ok(written)
     }
 
     /// Puts as many of the bytes behind the others as there is room for, and tells how many. Writing into an empty pipe wakes who waits
