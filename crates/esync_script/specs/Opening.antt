@@ -2,6 +2,7 @@
 use Rattle.std.specs.Prelude.{◌≡◌, ℕ, ◌==◌, Bool, List, [], Option, Some, None, ◌⊎◌, Result, Ok, Err, if◌then◌else◌, codes, false, nat_lt}
 use Rattle.std.proofs.Math.ListN.{replicate}
 use Rattle.std.specs.Option.{option_map, unwrap_or}
+use Rattle.std.specs.Io.KnownBytes.{Appends}
 use Rattle.esync_base.specs.Keeping.{Keeping, BoundedList}
 use Rattle.esync_machine.specs.declared.primitive.Answer.{Answer}
 use Rattle.esync_machine.specs.Rules.{Rules}
@@ -166,9 +167,13 @@ tells_change change value = adds change.amount value
 abbrev pub passes : Below → ℕ → Bool
 passes below value = nat_lt value below.limit
 
+-- Behind lines that were played so, the foot is written, and that is how the script ended, unless a write or memory failed.
+abbrev pub Closes : List ℕ → Option (List ℕ) → Option (List ℕ) → Result (Unit {0}) Fault → Result (Unit {0}) Fault → Type 0
+Closes foot before after played outcome = IsJudged outcome → (outcome ≡ played) × Appends before after foot
+
 -- What is played behind line n: a run of the named primitive, which begins as that line says, without requests and with no waker
 -- registered. A step hands out so many wakers at most.
-module _ (eq : ℕ → ℕ → Bool) (tells : (A : Type 0) → (A → List ℕ) → List ℕ → Giver → Answer A → List ℕ → List ℕ) where
+module _ (eq : ℕ → ℕ → Bool) (tells : (A : Type 0) → (A → List ℕ) → ℕ → List ℕ → Giver → Answer A → List ℕ → List ℕ) where
   abbrev pub PlaysAs : {Ask Held C A : Type 0} (most : ℕ) (R : Rules Ask Held C A) (T : Wakings R.Core Held C A ℕ) → (List ℕ → List (List ℕ) → Option Ask) → (List ℕ → List (List ℕ) → Option C) → (A → List ℕ) → R.Core → T.Registered → ℕ → Option (List ℕ) → Option (List ℕ) → Option (List ℕ) → Result (Unit {0}) Fault → Type 0
   PlaysAs {A = A} most R T asks calls text core registered n left before after outcome =
       Played (requests_meaning R T eq most) (says (command asks calls)) (tells_of (λ a. a.answer) (λ a. a.wakes) (tells A text)) (new_object core) registered n left before after outcome
@@ -222,17 +227,17 @@ module _ (eq : ℕ → ℕ → Bool) (tells : (A : Type 0) → (A → List ℕ) 
   Plays max_above min_above (Zerocopy c) n left before after outcome = PlaysSlots (places c) n left before after outcome
   Plays max_above min_above (Watch c value) n left before after outcome = PlaysWatch (places c) value n left before after outcome
 
-  -- A whole script: line 1 names a primitive, and the lines behind it are played; or it names none; or a read, a write or memory
-  -- failed before.
-  abbrev pub PlaysScript : (max_above min_above : ℕ → ℕ → Bool) → (List ℕ → List ℕ) → Option (List ℕ) → Option (List ℕ) → Option (List ℕ) → Result (Unit {0}) Fault → Type 0
-  PlaysScript max_above min_above head left before after outcome =
-      ((o : Opening) × (rest mid : Option (List ℕ)) × Opened (says opening) head o left rest before mid × Plays max_above min_above o 1 rest mid after outcome)
+  -- A whole script: line 1 names a primitive, and the lines behind it are played, with this written at the head and at the foot; or
+  -- it names none; or a read, a write or memory failed before.
+  abbrev pub PlaysScript : (max_above min_above : ℕ → ℕ → Bool) → (List ℕ → List ℕ) → List ℕ → Option (List ℕ) → Option (List ℕ) → Option (List ℕ) → Result (Unit {0}) Fault → Type 0
+  PlaysScript max_above min_above head foot left before after outcome =
+      ((o : Opening) × (rest mid last : Option (List ℕ)) × (played : Result (Unit {0}) Fault) × Opened (says opening) head o left rest before mid × Plays max_above min_above o 1 rest mid last played × Closes foot last after played outcome)
       ⊎ ((fault : Fault) × (outcome ≡ Err fault) × (IsJudged (Err fault) → NotOpened (says opening) fault left before after))
 
   -- A script that ended so, at its end or at a line that is no command, was played to there.
-  abbrev pub EndsScript : (max_above min_above : ℕ → ℕ → Bool) → (List ℕ → List ℕ) → Option (List ℕ) → Result (Unit {0}) Fault → Type 0
-  EndsScript max_above min_above head left outcome =
-      IsJudged outcome → (before after : Option (List ℕ)) × PlaysScript max_above min_above head left before after outcome
+  abbrev pub EndsScript : (max_above min_above : ℕ → ℕ → Bool) → (List ℕ → List ℕ) → List ℕ → Option (List ℕ) → Result (Unit {0}) Fault → Type 0
+  EndsScript max_above min_above head foot left outcome =
+      IsJudged outcome → (before after : Option (List ℕ)) × PlaysScript max_above min_above head foot left before after outcome
 
 -- the status that tells of this outcome
 abbrev pub status_of_outcome : Result (Unit {0}) Fault → ℕ

@@ -5,7 +5,7 @@ ghost use Rattle.std.specs.Prelude.{◌≡◌, ◌⊎◌, Result, Some, Err, IsO
 ghost use Rattle.esync_script.specs.Opening.{PlaysScript, EndsScript, status_of_outcome};
 
 use esync_priority::prio::{Kind, Max, Min};
-use esync_words::diagram::Diagram;
+use esync_words::diagram::{Diagram, Pages};
 use esync_words::fault::Fault;
 use esync_words::lines::Lines;
 use esync_words::play::{Replies, Telling};
@@ -45,24 +45,40 @@ pub fn script<R: Read + Drop, W: Write + Drop, E: Write + Drop>(
     output: W,
     errors: E,
 ) -> u8
-    ensures { (outcome : Result (Unit {0}) Fault) × (result ≡ status_of_outcome outcome) × EndsScript ⟦<u64 as PartialEq>⟧.eq ⟦<Replies as Telling>⟧.tells ⟦<Max as Kind<u32>>⟧.above ⟦<Min as Kind<u32>>⟧.above ⟦<Replies as Telling>⟧.opening (R.remaining input) outcome }
+    ensures { (outcome : Result (Unit {0}) Fault) × (result ≡ status_of_outcome outcome) × EndsScript ⟦<u64 as PartialEq>⟧.eq ⟦<Replies as Telling>⟧.tells ⟦<Max as Kind<u32>>⟧.above ⟦<Min as Kind<u32>>⟧.above ⟦<Replies as Telling>⟧.opening ⟦<Replies as Telling>⟧.closing (R.remaining input) outcome }
 {
     run(alloc, &Replies {}, input, output, errors)
 }
 
 /// Reads a script, writes it as a sequence diagram in the language of Mermaid, and returns the status, as `script` does.
 ///
-/// There is a lane for each request, for the primitive and for each task that is woken, and an arrow for each command, for
-/// its answer, and for each waker that is handed out.
+/// There is a lane for the primitive, for each task, by its waker, and for who calls; an arrow for each command, with the number
+/// of its line, for its answer, and for each waker that is handed out; and a note where a task waits. So the poll that a task
+/// makes stands in the lane in which it was woken.
 pub fn trace<R: Read + Drop, W: Write + Drop, E: Write + Drop>(
     alloc: Global,
     input: R,
     output: W,
     errors: E,
 ) -> u8
-    ensures { (outcome : Result (Unit {0}) Fault) × (result ≡ status_of_outcome outcome) × EndsScript ⟦<u64 as PartialEq>⟧.eq ⟦<Diagram as Telling>⟧.tells ⟦<Max as Kind<u32>>⟧.above ⟦<Min as Kind<u32>>⟧.above ⟦<Diagram as Telling>⟧.opening (R.remaining input) outcome }
+    ensures { (outcome : Result (Unit {0}) Fault) × (result ≡ status_of_outcome outcome) × EndsScript ⟦<u64 as PartialEq>⟧.eq ⟦<Diagram as Telling>⟧.tells ⟦<Max as Kind<u32>>⟧.above ⟦<Min as Kind<u32>>⟧.above ⟦<Diagram as Telling>⟧.opening ⟦<Diagram as Telling>⟧.closing (R.remaining input) outcome }
 {
     run(alloc, &Diagram {}, input, output, errors)
+}
+
+/// Reads a script, writes it as a document of Markdown, and returns the status, as `script` does.
+///
+/// The document has the diagram of `trace` in pages of at most 50 lines, each in a fence of its own: viewers of Mermaid take no
+/// more than 50,000 bytes of a diagram, and a line is drawn by at most 840.
+pub fn trace_pages<R: Read + Drop, W: Write + Drop, E: Write + Drop>(
+    alloc: Global,
+    input: R,
+    output: W,
+    errors: E,
+) -> u8
+    ensures { (outcome : Result (Unit {0}) Fault) × (result ≡ status_of_outcome outcome) × EndsScript ⟦<u64 as PartialEq>⟧.eq ⟦<Pages as Telling>⟧.tells ⟦<Max as Kind<u32>>⟧.above ⟦<Min as Kind<u32>>⟧.above ⟦<Pages as Telling>⟧.opening ⟦<Pages as Telling>⟧.closing (R.remaining input) outcome }
+{
+    run(alloc, &Pages {}, input, output, errors)
 }
 
 /// Plays a whole script, and writes what `telling` tells of it.
@@ -76,7 +92,7 @@ pub fn play_script<T: Telling, R: Read + Drop, W: Write>(
     input: R,
     output: &mut W,
 ) -> Result<(), Fault>
-    ensures { PlaysScript ⟦<u64 as PartialEq>⟧.eq T.tells ⟦<Max as Kind<u32>>⟧.above ⟦<Min as Kind<u32>>⟧.above T.opening (R.remaining input) (W.contents output.old) (W.contents output.new) result }
+    ensures { PlaysScript ⟦<u64 as PartialEq>⟧.eq T.tells ⟦<Max as Kind<u32>>⟧.above ⟦<Min as Kind<u32>>⟧.above T.opening T.closing (R.remaining input) (W.contents output.old) (W.contents output.new) result }
 {
     match Lines::new(alloc, input) {
         Ok(mut lines) => opening::play_lines(alloc, telling, &mut lines, output),
@@ -93,7 +109,7 @@ pub fn play_text<T: Telling>(
     text: &str,
     output: &mut Vec<u8>,
 ) -> Result<(), Fault>
-    ensures plays { PlaysScript ⟦<u64 as PartialEq>⟧.eq T.tells ⟦<Max as Kind<u32>>⟧.above ⟦<Min as Kind<u32>>⟧.above T.opening (Some text.now) (Some output.old.items) (Some output.new.items) result }
+    ensures plays { PlaysScript ⟦<u64 as PartialEq>⟧.eq T.tells ⟦<Max as Kind<u32>>⟧.above ⟦<Min as Kind<u32>>⟧.above T.opening T.closing (Some text.now) (Some output.old.items) (Some output.new.items) result }
     ensures err { IfErr result (λ fault. fault ≡ Fault.InputOutput → ⊥) }
 {
     match play_script(alloc, telling, text.as_bytes(), output) {
@@ -109,7 +125,7 @@ fn run<T: Telling, R: Read + Drop, W: Write + Drop, E: Write + Drop>(
     output: W,
     mut errors: E,
 ) -> u8
-    ensures { (outcome : Result (Unit {0}) Fault) × (result ≡ status_of_outcome outcome) × EndsScript ⟦<u64 as PartialEq>⟧.eq T.tells ⟦<Max as Kind<u32>>⟧.above ⟦<Min as Kind<u32>>⟧.above T.opening (R.remaining input) outcome }
+    ensures { (outcome : Result (Unit {0}) Fault) × (result ≡ status_of_outcome outcome) × EndsScript ⟦<u64 as PartialEq>⟧.eq T.tells ⟦<Max as Kind<u32>>⟧.above ⟦<Min as Kind<u32>>⟧.above T.opening T.closing (R.remaining input) outcome }
 {
     match perform(alloc, telling, input, output) {
         Ok(()) => 0,
@@ -131,7 +147,7 @@ fn perform<T: Telling, R: Read + Drop, W: Write + Drop>(
     input: R,
     output: W,
 ) -> Result<(), Fault>
-    ensures { EndsScript ⟦<u64 as PartialEq>⟧.eq T.tells ⟦<Max as Kind<u32>>⟧.above ⟦<Min as Kind<u32>>⟧.above T.opening (R.remaining input) result }
+    ensures { EndsScript ⟦<u64 as PartialEq>⟧.eq T.tells ⟦<Max as Kind<u32>>⟧.above ⟦<Min as Kind<u32>>⟧.above T.opening T.closing (R.remaining input) result }
 {
     let mut output = BufWriter::new(alloc, output).map_err(|_| Fault::OutOfMemory)?;
     let outcome = play_script(alloc, telling, input, &mut output);

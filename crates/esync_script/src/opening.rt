@@ -4,7 +4,7 @@ ghost use Rattle.std.proofs.Math.ListN.{replicate};
 ghost use Rattle.esync_base.specs.Keeping.{BoundedList};
 ghost use Rattle.esync_priority.specs.Prio.{Bag};
 ghost use Rattle.esync_pubsub.specs.PubSubRules.{most_wakes};
-ghost use Rattle.esync_script.specs.Opening.{places, capacity, opening, new_object, nobody_waits, no_slot, an_empty_pipe, not_made, a_free_lock, a_new_watch, a_new_topic, no_lists, zero_slots, no_side_waits, Plays, PlaysMessages, PlaysFair, PlaysPipe, PlaysSlots, PlaysWatch, PlaysPubSub, PlaysScript};
+ghost use Rattle.esync_script.specs.Opening.{places, capacity, opening, new_object, nobody_waits, no_slot, an_empty_pipe, not_made, a_free_lock, a_new_watch, a_new_topic, no_lists, zero_slots, no_side_waits, Closes, Plays, PlaysMessages, PlaysFair, PlaysPipe, PlaysSlots, PlaysWatch, PlaysPubSub, PlaysScript};
 ghost use Rattle.esync_words.specs.Commands.{says, command};
 ghost use Rattle.esync_words.specs.Played.{Played};
 ghost use Rattle.esync_words.specs.Tells.{tells_of};
@@ -466,6 +466,21 @@ fn serve_opening<T: Telling, R: Read + Drop, W: Write>(
     }
 }
 
+// Writes what comes behind lines that were played so, unless a write has failed.
+fn close<T: Telling, W: Write>(
+    telling: &T,
+    played: Result<(), Fault>,
+    output: &mut W,
+) -> Result<(), Fault>
+    ensures { Closes T.closing (W.contents output.old) (W.contents output.new) played result }
+{
+    if let Err(Fault::InputOutput) = played {
+        return Err(Fault::InputOutput);
+    }
+    telling.close(output)?;
+    played
+}
+
 /// Plays a whole script, whose lines haven't been read.
 pub fn play_lines<T: Telling, R: Read + Drop, W: Write>(
     alloc: Global,
@@ -474,10 +489,13 @@ pub fn play_lines<T: Telling, R: Read + Drop, W: Write>(
     output: &mut W,
 ) -> Result<(), Fault>
     requires { lines.old.number ≡ 0 }
-    ensures { PlaysScript ⟦<u64 as PartialEq>⟧.eq T.tells ⟦<Max as Kind<u32>>⟧.above ⟦<Min as Kind<u32>>⟧.above T.opening lines.old.left (W.contents output.old) (W.contents output.new) result }
+    ensures { PlaysScript ⟦<u64 as PartialEq>⟧.eq T.tells ⟦<Max as Kind<u32>>⟧.above ⟦<Min as Kind<u32>>⟧.above T.opening T.closing lines.old.left (W.contents output.old) (W.contents output.new) result }
 {
     match open::<Opening, T, R, W>(telling, lines, output) {
-        Ok(opening) => serve_opening(alloc, telling, opening, lines, output),
+        Ok(opening) => {
+            let played = serve_opening(alloc, telling, opening, lines, output);
+            close(telling, played, output)
+        }
         Err(fault) => Err(fault),
     }
 }

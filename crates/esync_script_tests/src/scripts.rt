@@ -2,7 +2,7 @@ use esync_base::waitqueue::Wakes;
 use esync_channel::channel::machine::ChannelHeard;
 use esync_machine::primitive::Answer;
 use esync_script::channel::ChannelWords;
-use esync_script::{script, trace};
+use esync_script::{script, trace, trace_pages};
 use esync_words::fault::Fault;
 use esync_words::printing::{print_answer, print_reply};
 use std::alloc::Global;
@@ -324,24 +324,26 @@ fn each_primitive_has_its_capacity(rt: HostRuntime) -> Result<(), Fail> {
 /// The picture in the README.
 const PICTURE: &str = "sequenceDiagram
     participant object as channel 1
-    request_1->>object: start 1 receive
-    object-->>request_1: Ok
-    request_1->>object: poll 1 1
-    object-->>request_1: Pending
-    request_2->>object: start 2 receive
-    object-->>request_2: Ok
-    request_2->>object: poll 2 2
-    object-->>request_2: Pending
+    caller->>object: 2: start 1 receive
+    object-->>caller: Ok
+    task_1->>object: 3: poll 1 1
+    object-->>task_1: Pending
+    Note over task_1: waits
+    caller->>object: 4: start 2 receive
+    object-->>caller: Ok
+    task_2->>object: 5: poll 2 2
+    object-->>task_2: Pending
+    Note over task_2: waits
     object-)task_1: wake
-    caller->>object: try-send 7
+    caller->>object: 6: try-send 7
     object-->>caller: Ok
     object-)task_2: wake
-    request_2-xobject: dropped
-    object-->>request_2: Ok
-    request_1->>object: poll 1 1
-    object-->>request_1: Ready(7)
-    request_1->>object: poll 1 1
-    object-->>request_1: Err(NoSuch)
+    caller-xobject: 7: drop 2
+    object-->>caller: Ok
+    task_1->>object: 8: poll 1 1
+    object-->>task_1: Ready(7)
+    task_1->>object: 9: poll 1 1
+    object-->>task_1: Err(NoSuch)
 ";
 
 #[test]
@@ -362,10 +364,69 @@ fn a_trace_ends_as_its_script_does(rt: HostRuntime) -> Result<(), Fail> {
     let input = "signal 1\nsignal 5\npop\n";
     let status = trace(rt.alloc(), input.as_bytes(), &mut output, &mut errors);
     let drawn =
-        "sequenceDiagram\n    participant object as signal 1\n    caller->>object: signal 5\n    object-->>caller: Ok\n";
+        "sequenceDiagram\n    participant object as signal 1\n    caller->>object: 2: signal 5\n    object-->>caller: Ok\n";
     assert_eq!(rt; str::from_utf8(&output)?, drawn);
     assert_eq!(rt; str::from_utf8(&errors)?, "line 3: not a command\n");
     assert_eq!(rt; status, 2);
+    Ok(())
+}
+
+/// What `trace_pages` writes of the script, and to the errors, with its status.
+fn pages_of(alloc: Global, input: &str) -> (Vec<u8>, Vec<u8>, u8) {
+    let (mut output, mut errors) = (Vec::new(alloc), Vec::new(alloc));
+    let status = trace_pages(alloc, input.as_bytes(), &mut output, &mut errors);
+    (output, errors, status)
+}
+
+#[test]
+fn a_document_is_the_picture_in_a_fence(rt: HostRuntime) -> Result<(), Fail> {
+    let (output, errors, status) = pages_of(rt.alloc(), "signal 1\nsignal 5\nend 1\npop\n");
+    assert_eq!(rt;
+        str::from_utf8(&output)?,
+        "```mermaid\nsequenceDiagram\n    participant object as signal 1\n    caller->>object: 2: signal 5\n    object-->>caller: Ok\n    caller-xobject: 3: drop 1\n    object-->>caller: Err(NoSuch)\n```\n"
+    );
+    assert_eq!(rt; str::from_utf8(&errors)?, "line 4: not a command\n");
+    assert_eq!(rt; status, 2);
+    let (output, errors, status) = pages_of(rt.alloc(), "signal\n");
+    assert!(rt; output.is_empty());
+    assert_eq!(rt; str::from_utf8(&errors)?, "line 1: not a command\n");
+    assert_eq!(rt; status, 2);
+    Ok(())
+}
+
+#[test]
+fn a_document_has_fifty_lines_a_page(rt: HostRuntime) -> Result<(), Fail> {
+    let alloc = rt.alloc();
+    for (commands, pages, last) in [(49, 1, 50), (50, 2, 51), (99, 2, 100), (100, 3, 101)] {
+        let mut input = String::from_str(alloc, "signal 1\n")?;
+        for _ in 0..commands {
+            input.push_str("reset\n")?;
+        }
+        let (output, _, status) = pages_of(alloc, &input);
+        let output = str::from_utf8(&output)?;
+        assert_eq!(rt; status, 0);
+        assert_eq!(rt;
+            output
+                .matches("```mermaid\nsequenceDiagram\n    participant object")
+                .count(),
+            pages
+        );
+        assert_eq!(rt; output.matches("```\n").count(), pages);
+        let end = format!(in alloc;
+            "caller->>object: {last}: reset\n    object-->>caller: Ok\n```\n"
+        )?;
+        assert!(rt; output.ends_with(end.as_str()), "{commands} commands");
+    }
+    let mut input = String::from_str(alloc, "signal 1\n")?;
+    for _ in 0..50 {
+        input.push_str("reset\n")?;
+    }
+    let (output, _, _) = pages_of(alloc, &input);
+    assert!(rt;
+        str::from_utf8(&output)?.ends_with(
+            "50: reset\n    object-->>caller: Ok\n```\n\nFrom line 51:\n\n```mermaid\nsequenceDiagram\n    participant object\n    caller->>object: 51: reset\n    object-->>caller: Ok\n```\n"
+        )
+    );
     Ok(())
 }
 

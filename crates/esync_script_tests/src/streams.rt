@@ -14,9 +14,9 @@ const ANSWERED: [&str; 4] = ["", "Ok | -\n", "Pending | -\n", "Ok | 1\n"];
 /// What is drawn of each line.
 const DRAWN: [&str; 4] = [
     "sequenceDiagram\n    participant object as channel 1\n",
-    "    request_1->>object: start 1 receive\n    object-->>request_1: Ok\n",
-    "    request_1->>object: poll 1 1\n    object-->>request_1: Pending\n",
-    "    caller->>object: try-send 7\n    object-->>caller: Ok\n    object-)task_1: wake\n",
+    "    caller->>object: 2: start 1 receive\n    object-->>caller: Ok\n",
+    "    task_1->>object: 3: poll 1 1\n    object-->>task_1: Pending\n    Note over task_1: waits\n",
+    "    caller->>object: 4: try-send 7\n    object-->>caller: Ok\n    object-)task_1: wake\n",
 ];
 
 /// What is written of the lines that stand whole among the first bytes.

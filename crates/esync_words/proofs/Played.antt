@@ -15,16 +15,16 @@ use Rattle.esync_words.specs.declared.fault.Fault.TheVariants.{NotACommand, Inpu
 use Rattle.esync_words.specs.Lines.{Source, IsRead, first_line, other_lines}
 use Rattle.esync_words.specs.Words.{words_of}
 use Rattle.esync_words.specs.Commands.{says, named, is_readable}
-use Rattle.esync_words.specs.Played.{IsJudged, Reads, AreSaid, told, Ends, Played, line_number}
+use Rattle.esync_words.specs.Played.{IsJudged, Reads, AreSaid, told, Ends, Played, line_number, next_number}
 use Rattle.esync_words.proofs.Known.{appends_nothing, appends_kept, appends_more}
 
 true_or_false : (b : Bool) → (b ≡ true) ⊎ (b ≡ false)
 true_or_false true = inl refl
 true_or_false false = inr refl
 
-line_number-more : (n : ℕ) (ls : List (List ℕ)) (l : List ℕ) → line_number n (ls ++ l ∷ []) ≡ min (line_number n ls + 1) (2 ^ 64 - 1)
+line_number-more : (n : ℕ) (ls : List (List ℕ)) (l : List ℕ) → line_number n (ls ++ l ∷ []) ≡ next_number (line_number n ls)
 line_number-more n [] l = refl
-line_number-more n (x ∷ ls) l = rw (line_number-more n ls l) refl
+line_number-more n (x ∷ ls) l = line_number-more (next_number n) ls l
 
 reads_more : (text : List ℕ) (ls : List (List ℕ)) (mid : List ℕ) → Reads text ls mid → (mid ≡ [] → ⊥) → Reads text (ls ++ first_line mid ∷ []) (other_lines mid)
 reads_more text [] mid h n = (λ e. n (h ∙ e), ap first_line h, ap other_lines h)
@@ -55,12 +55,12 @@ same_length : {S C A W : Type 0} {X : Semantics S C A W} {old new : S} {cs : Lis
 same_length h = ap length h.answers.0 ∙ length-map h.steps (λ s. s.command) ∙ sym (ap length h.answers.1 ∙ length-map h.steps (λ s. s.reply))
 
 -- behind a fault that isn't told of a line, nothing is said of what is left
-pub ends_unjudged : {C A W : Type 0} (M : Meaning C A W) (command : List ℕ → Option C) (tells : List ℕ → C → A → List ℕ) (n : ℕ) (rest : List ℕ) (fault : Fault) → (IsJudged (Err fault) → ⊥) → Ends M command tells n rest (Err fault)
+pub ends_unjudged : {C A W : Type 0} (M : Meaning C A W) (command : List ℕ → Option C) (tells : ℕ → List ℕ → C → A → List ℕ) (n : ℕ) (rest : List ℕ) (fault : Fault) → (IsJudged (Err fault) → ⊥) → Ends M command tells n rest (Err fault)
 ends_unjudged M command tells n rest (NotACommand k) h = absurd (h tt)
 ends_unjudged M command tells n rest InputOutput h = tt
 ends_unjudged M command tells n rest OutOfMemory h = tt
 
-module _ {S C A W : Type 0} (X : Semantics S C A W) (command : List ℕ → Option C) (tells : List ℕ → C → A → List ℕ) where
+module _ {S C A W : Type 0} (X : Semantics S C A W) (command : List ℕ → Option C) (tells : ℕ → List ℕ → C → A → List ℕ) where
   -- the commands so far, and what was written
   pub record SoFar (old now : S) (n : ℕ) (left : Option (List ℕ)) (number : ℕ) (rest : Option (List ℕ)) (before after : Option (List ℕ)) : Type 0 where
     pub lines : List (List ℕ)
@@ -70,7 +70,7 @@ module _ {S C A W : Type 0} (X : Semantics S C A W) (command : List ℕ → Opti
     pub history : History X old commands replies now
     pub read : IfSome left (λ text. (r : List ℕ) × (rest ≡ Some r) × Reads text lines r)
     pub numbered : number ≡ line_number n lines
-    pub printed : Appends before after (told X.meaning command tells lines commands replies)
+    pub printed : Appends before after (told X.meaning command tells n lines commands replies)
 
   read_none : (left : Option (List ℕ)) → IfSome left (λ text. (r : List ℕ) × (left ≡ Some r) × Reads text [] r)
   read_none None = tt
@@ -94,13 +94,15 @@ module _ {S C A W : Type 0} (X : Semantics S C A W) (command : List ℕ → Opti
   said_more [] (d ∷ cs) l c h e = absurd h
   said_more (m ∷ ls) [] l c h e = absurd h
 
-  told_more : (ls : List (List ℕ)) (cs : List C) (as' : List A) (l : List ℕ) (c : C) (a : A) → AreSaid X.meaning command tells ls cs → length cs ≡ length as' → told X.meaning command tells (ls ++ l ∷ []) (cs ++ c ∷ []) (as' ++ a ∷ []) ≡ told X.meaning command tells ls cs as' ++ tells l c a
-  told_more [] [] [] l c a h e = append-nil (tells l c a)
-  told_more (m ∷ ls) (d ∷ cs) (b ∷ as') l c a h e = ap (λ xs. tells m d b ++ xs) (told_more ls cs as' l c a h.1 (omega (arith, e))) ∙ sym (append_assoc (tells m d b) (told X.meaning command tells ls cs as') (tells l c a))
-  told_more [] [] (b ∷ as') l c a h e = absurd cc
-  told_more (m ∷ ls) (d ∷ cs) [] l c a h e = absurd cc
-  told_more [] (d ∷ cs) as' l c a h e = absurd h
-  told_more (m ∷ ls) [] as' l c a h e = absurd h
+  told_more : (n : ℕ) (ls : List (List ℕ)) (cs : List C) (as' : List A) (l : List ℕ) (c : C) (a : A) → AreSaid X.meaning command tells ls cs → length cs ≡ length as' → told X.meaning command tells n (ls ++ l ∷ []) (cs ++ c ∷ []) (as' ++ a ∷ []) ≡ told X.meaning command tells n ls cs as' ++ tells (next_number (line_number n ls)) l c a
+  told_more n [] [] [] l c a h e = append-nil (tells (next_number n) l c a)
+  told_more n (m ∷ ls) (d ∷ cs) (b ∷ as') l c a h e =
+      let k = next_number n in
+      ap (λ xs. tells k m d b ++ xs) (told_more k ls cs as' l c a h.1 (omega (arith, e))) ∙ sym (append_assoc (tells k m d b) (told X.meaning command tells k ls cs as') (tells (next_number (line_number k ls)) l c a))
+  told_more n [] [] (b ∷ as') l c a h e = absurd cc
+  told_more n (m ∷ ls) (d ∷ cs) [] l c a h e = absurd cc
+  told_more n [] (d ∷ cs) as' l c a h e = absurd h
+  told_more n (m ∷ ls) [] as' l c a h e = absurd h
 
   read_more : (left rest : Option (List ℕ)) (ls : List (List ℕ)) (s : Source) → IfSome left (λ text. (r : List ℕ) × (rest ≡ Some r) × Reads text ls r) → IfSome rest (λ text. IsRead 256 text true s) → length s.line ≤ 256 → IfSome left (λ text. (r : List ℕ) × (s.left ≡ Some r) × Reads text (ls ++ s.line ∷ []) r)
   read_more None rest ls s h i l = tt
@@ -110,7 +112,7 @@ module _ {S C A W : Type 0} (X : Semantics S C A W) (command : List ℕ → Opti
       (other_lines h.0, w.1, rw w.0 (reads_more text ls h.0 h.2 j.0))
 
   -- another line was read, and is a command, which the machine has answered
-  pub more_so_far : (old mid now : S) (n : ℕ) (left : Option (List ℕ)) (number : ℕ) (rest before after written : Option (List ℕ)) (s : Source) (line : List ℕ) (c : C) (a : A) → SoFar old mid n left number rest before after → s.number ≡ min (number + 1) (2 ^ 64 - 1) → IfSome rest (λ text. IsRead 256 text true s) → line ≡ s.line → length line ≤ 256 → command line ≡ Some c → Turn X mid c a now → Appends after written (tells line c a) → SoFar old now n left s.number s.left before written
+  pub more_so_far : (old mid now : S) (n : ℕ) (left : Option (List ℕ)) (number : ℕ) (rest before after written : Option (List ℕ)) (s : Source) (line : List ℕ) (c : C) (a : A) → SoFar old mid n left number rest before after → s.number ≡ next_number number → IfSome rest (λ text. IsRead 256 text true s) → line ≡ s.line → length line ≤ 256 → command line ≡ Some c → Turn X mid c a now → Appends after written (tells s.number line c a) → SoFar old now n left s.number s.left before written
   more_so_far old mid now n left number rest before after written s line c a f k i e l is_said turn p = record {
     lines = f.lines ++ line ∷ [];
     commands = f.commands ++ c ∷ [];
@@ -119,7 +121,7 @@ module _ {S C A W : Type 0} (X : Semantics S C A W) (command : List ℕ → Opti
     history = longer f.history turn;
     read = rw e (read_more left rest f.lines s f.read i (rw e at l));
     numbered = k ∙ rw f.numbered (sym (line_number-more n f.lines line));
-    printed = rw (told_more f.lines f.commands f.replies line c a f.said (same_length f.history)) (appends_more before after written _ _ f.printed p);
+    printed = rw (told_more n f.lines f.commands f.replies line c a f.said (same_length f.history), ← f.numbered, ← k) (appends_more before after written _ _ f.printed p);
   }
 
   pub kept_so_far : (old now : S) (n : ℕ) (left : Option (List ℕ)) (number : ℕ) (rest before after written : Option (List ℕ)) → SoFar old now n left number rest before after → Keeps after written → SoFar old now n left number rest before written

@@ -13,17 +13,21 @@ IsJudged (Err (NotACommand _)) = Unit {0}
 IsJudged (Err InputOutput) = ⊥
 IsJudged (Err OutOfMemory) = ⊥
 
--- the number of the last of these lines, which stand behind n others. Numbers stop at the greatest
+-- the number of the line behind line n. Numbers stop at the greatest
+abbrev pub next_number : ℕ → ℕ
+next_number n = min (n + 1) (2 ^ 64 - 1)
+
+-- the number of the last of these lines, which stand behind n others
 abbrev pub line_number : ℕ → List (List ℕ) → ℕ
 line_number n [] = n
-line_number n (line ∷ lines) = min (line_number n lines + 1) (2 ^ 64 - 1)
+line_number n (line ∷ lines) = line_number (next_number n) lines
 
 -- these are the first lines of the text, one after another, and that is left behind them
 abbrev pub Reads : List ℕ → List (List ℕ) → List ℕ → Type 0
 Reads text [] rest = rest ≡ text
 Reads text (line ∷ lines) rest = (text ≡ [] → ⊥) × (line ≡ first_line text) × Reads (other_lines text) lines rest
 
-module _ {Command Reply Waker : Type 0} (M : Meaning Command Reply Waker) (command : List ℕ → Option Command) (tells : List ℕ → Command → Reply → List ℕ) where
+module _ {Command Reply Waker : Type 0} (M : Meaning Command Reply Waker) (command : List ℕ → Option Command) (tells : ℕ → List ℕ → Command → Reply → List ℕ) where
   -- each line says the command
   abbrev pub AreSaid : List (List ℕ) → List Command → Type 0
   AreSaid [] [] = Unit {0}
@@ -31,17 +35,17 @@ module _ {Command Reply Waker : Type 0} (M : Meaning Command Reply Waker) (comma
   AreSaid [] (c ∷ cs) = ⊥
   AreSaid (line ∷ lines) [] = ⊥
 
-  -- what is written of each line, its command and its reply
-  abbrev pub told : List (List ℕ) → List Command → List Reply → List ℕ
-  told (line ∷ lines) (c ∷ cs) (a ∷ as') = tells line c a ++ told lines cs as'
-  told [] cs as' = []
-  told (line ∷ lines) [] as' = []
-  told (line ∷ lines) (c ∷ cs) [] = []
+  -- what is written of each line behind the first n, its command and its reply
+  abbrev pub told : ℕ → List (List ℕ) → List Command → List Reply → List ℕ
+  told n (line ∷ lines) (c ∷ cs) (a ∷ as') = tells (next_number n) line c a ++ told (next_number n) lines cs as'
+  told n [] cs as' = []
+  told n (line ∷ lines) [] as' = []
+  told n (line ∷ lines) (c ∷ cs) [] = []
 
   -- where a script ended so behind line n, of which this is left: at the end, or at the first line that is no command
   abbrev pub Ends : ℕ → List ℕ → Result (Unit {0}) Fault → Type 0
   Ends n rest (Ok _) = rest ≡ []
-  Ends n rest (Err (NotACommand number)) = (number ≡ min (n + 1) (2 ^ 64 - 1)) × (rest ≡ [] → ⊥) × (command (first_line rest) ≡ None)
+  Ends n rest (Err (NotACommand number)) = (number ≡ next_number n) × (rest ≡ [] → ⊥) × (command (first_line rest) ≡ None)
   Ends n rest (Err InputOutput) = Unit {0}
   Ends n rest (Err OutOfMemory) = Unit {0}
 
@@ -57,7 +61,7 @@ module _ {Command Reply Waker : Type 0} (M : Meaning Command Reply Waker) (comma
     pub run : GoodRun M old registered commands replies new registered2
     -- the lines are those of the text, from the first to the last, or up to the first that is no command
     pub read : IfSome left (λ text. (rest : List ℕ) × Reads text lines rest × Ends (line_number n lines) rest outcome)
-    pub printed : IsJudged outcome → Appends before after (told lines commands replies)
+    pub printed : IsJudged outcome → Appends before after (told n lines commands replies)
 
 -- Line 1 of a script names this, and what was written of it.
 pub record Opened {Opening : Type 0} (says : List ℕ → Option Opening) (text : List ℕ → List ℕ) (opening : Opening) (left rest before after : Option (List ℕ)) : Type 0 where

@@ -1,9 +1,9 @@
-//! A script as a sequence diagram in the language of Mermaid.
+//! A script as a sequence diagram in the language of Mermaid, alone or in a document of Markdown.
 ghost use Rattle.std.specs.Prelude.{◌≡◌, ℕ, List, OnOk, IfErr, ◌++◌, codes};
 ghost use Rattle.std.specs.Io.KnownBytes.{Appends};
 ghost use Rattle.esync_base.specs.Rows.{items_of};
 ghost use Rattle.esync_words.specs.Text.{answer_text, each_text};
-ghost use Rattle.esync_words.specs.Diagram.{lane_text, arrow_text, command_text, back_text, reply_text, participant_text, wake_text};
+ghost use Rattle.esync_words.specs.Diagram.{lane_text, arrow_text, said_text, command_text, back_text, reply_text, note_text, wait_text, participant_text, wake_text, fence_text, page_text, break_text};
 ghost use Rattle.esync_words.specs.Played.{IsJudged};
 
 use crate::fault::Fault;
@@ -13,17 +13,20 @@ use crate::vocabulary::Vocabulary;
 use esync_machine::primitive::Answer;
 use std::io::{self, Write};
 
-/// A diagram: a lane for each request, for the primitive and for each task that is woken; an arrow for each command, for its
-/// answer, and for each waker that is handed out.
+/// A diagram: a lane for the primitive, for each task, by its waker, and for who calls; an arrow for each command with the number
+/// of its line, for its answer, and for each waker that is handed out; and a note where a task waits.
 #[derive(Clone, Copy, Debug, PartialEq, Eq)]
 pub struct Diagram {}
 
 impl Telling for Diagram {
+    ghost use Rattle.std.specs.Prelude.{[]};
     ghost use Rattle.esync_words.specs.Diagram.{head_text, step_text};
 
     ghost opening = { head_text };
 
-    ghost tells = { λ A text line giver answer wakers. step_text text line giver answer wakers };
+    ghost tells = { λ A text number line giver answer wakers. step_text text number line giver answer wakers };
+
+    ghost closing = { [] };
 
     fn open<W: Write>(&self, line: &str, output: &mut W) -> Result<(), Fault> {
         writeln!(output, "sequenceDiagram")?;
@@ -33,17 +36,82 @@ impl Telling for Diagram {
 
     fn tell<V: Vocabulary, W: Write>(
         &self,
+        number: u64,
         line: &str,
         giver: Giver,
         answer: &Answer<V::Heard>,
         wakers: &[Option<u64>],
         output: &mut W,
     ) -> Result<(), Fault> {
-        print_command(giver, line, output)?;
+        print_command(giver, number, line, output)?;
         print_reply::<V, W>(giver, answer, output)?;
+        print_wait(giver, answer, output)?;
         print_wakes(wakers, output)?;
         Ok(())
     }
+
+    fn close<W: Write>(&self, _output: &mut W) -> Result<(), Fault> {
+        Ok(())
+    }
+}
+
+/// Diagrams in a document of Markdown, each in a fence, of at most 50 lines.
+#[derive(Clone, Copy, Debug, PartialEq, Eq)]
+pub struct Pages {}
+
+impl Telling for Pages {
+    ghost use Rattle.std.specs.Prelude.{◌++◌};
+    ghost use Rattle.esync_words.specs.Diagram.{fence_text, fence_end, head_text, break_text, step_text};
+
+    ghost opening = { λ line. fence_text ++ head_text line };
+
+    ghost tells = { λ A text number line giver answer wakers. break_text number ++ step_text text number line giver answer wakers };
+
+    ghost closing = { fence_end };
+
+    fn open<W: Write>(&self, line: &str, output: &mut W) -> Result<(), Fault> {
+        writeln!(output, "```mermaid")?;
+        Diagram {}.open(line, output)?;
+        Ok(())
+    }
+
+    fn tell<V: Vocabulary, W: Write>(
+        &self,
+        number: u64,
+        line: &str,
+        giver: Giver,
+        answer: &Answer<V::Heard>,
+        wakers: &[Option<u64>],
+        output: &mut W,
+    ) -> Result<(), Fault> {
+        print_break(number, output)?;
+        Diagram {}.tell::<V, W>(number, line, giver, answer, wakers, output)?;
+        Ok(())
+    }
+
+    fn close<W: Write>(&self, output: &mut W) -> Result<(), Fault> {
+        writeln!(output, "```")?;
+        Ok(())
+    }
+}
+
+// Begins another page where this line is the first of one.
+fn print_break<W: Write>(number: u64, output: &mut W) -> io::Result<()>
+    ensures { OnOk result (Appends (W.contents output.old) (W.contents output.new) (break_text number)) }
+{
+    if number % 50 == 1 {
+        print_page(number, output)?;
+    }
+    Ok(())
+}
+
+fn print_page<W: Write>(number: u64, output: &mut W) -> io::Result<()>
+    ensures { OnOk result (Appends (W.contents output.old) (W.contents output.new) (page_text number)) }
+{
+    write!(
+        output,
+        "```\n\nFrom line {number}:\n\n```mermaid\nsequenceDiagram\n    participant object\n"
+    )
 }
 
 fn print_participant<W: Write>(line: &str, output: &mut W) -> io::Result<()>
@@ -52,12 +120,14 @@ fn print_participant<W: Write>(line: &str, output: &mut W) -> io::Result<()>
     writeln!(output, "    participant object as {line}")
 }
 
-fn print_command<W: Write>(giver: Giver, line: &str, output: &mut W) -> io::Result<()>
-    ensures { OnOk result (Appends (W.contents output.old) (W.contents output.new) (command_text giver line.now)) }
+fn print_command<W: Write>(giver: Giver, number: u64, line: &str, output: &mut W) -> io::Result<()>
+    ensures { OnOk result (Appends (W.contents output.old) (W.contents output.new) (command_text giver number line.now)) }
 {
     write!(output, "    ")?;
     print_lane(giver, output)?;
-    print_arrow(giver, line, output)?;
+    print_arrow(giver, output)?;
+    write!(output, "{number}: ")?;
+    print_said(giver, line, output)?;
     writeln!(output)
 }
 
@@ -88,20 +158,49 @@ fn print_lane<W: Write>(giver: Giver, output: &mut W) -> io::Result<()>
     ensures { OnOk result (Appends (W.contents output.old) (W.contents output.new) (lane_text giver)) }
 {
     match giver {
-        Giver::Request(r) => write!(output, "request_{r}"),
-        Giver::Dropped(r) => write!(output, "request_{r}"),
+        Giver::Task(waker) => write!(output, "task_{waker}"),
+        Giver::Dropper(_) => write!(output, "caller"),
         Giver::Caller => write!(output, "caller"),
     }
 }
 
-fn print_arrow<W: Write>(giver: Giver, line: &str, output: &mut W) -> io::Result<()>
-    ensures { OnOk result (Appends (W.contents output.old) (W.contents output.new) (arrow_text giver line.now)) }
+fn print_arrow<W: Write>(giver: Giver, output: &mut W) -> io::Result<()>
+    ensures { OnOk result (Appends (W.contents output.old) (W.contents output.new) (arrow_text giver)) }
 {
     match giver {
-        Giver::Dropped(_) => write!(output, "-xobject: dropped"),
-        Giver::Request(_) => write!(output, "->>object: {line}"),
-        Giver::Caller => write!(output, "->>object: {line}"),
+        Giver::Dropper(_) => write!(output, "-xobject: "),
+        Giver::Task(_) => write!(output, "->>object: "),
+        Giver::Caller => write!(output, "->>object: "),
     }
+}
+
+fn print_said<W: Write>(giver: Giver, line: &str, output: &mut W) -> io::Result<()>
+    ensures { OnOk result (Appends (W.contents output.old) (W.contents output.new) (said_text giver line.now)) }
+{
+    match giver {
+        Giver::Dropper(r) => write!(output, "drop {r}"),
+        Giver::Task(_) => write!(output, "{line}"),
+        Giver::Caller => write!(output, "{line}"),
+    }
+}
+
+// Notes that a task waits, where it is answered so.
+fn print_wait<A, W: Write>(giver: Giver, answer: &Answer<A>, output: &mut W) -> io::Result<()>
+    ensures { OnOk result (Appends (W.contents output.old) (W.contents output.new) (wait_text giver answer.now)) }
+{
+    match answer {
+        Answer::Pending => print_note(giver, output),
+        _ => Ok(()),
+    }
+}
+
+fn print_note<W: Write>(giver: Giver, output: &mut W) -> io::Result<()>
+    ensures { OnOk result (Appends (W.contents output.old) (W.contents output.new) (note_text giver)) }
+{
+    write!(output, "    Note over ")?;
+    print_lane(giver, output)?;
+    writeln!(output, ": waits")?;
+    Ok(())
 }
 
 fn print_wake<W: Write>(waker: u64, output: &mut W) -> io::Result<()>

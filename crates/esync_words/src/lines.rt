@@ -92,6 +92,13 @@ impl<R: Read + Drop> Lines<R> {
         Ok(true)
     }
 
+    /// The number of the line that was read last. Numbers stop at the greatest.
+    pub fn number(&self) -> u64
+        ensures { result ≡ self.now.number }
+    {
+        self.number
+    }
+
     /// The line that was read last, which is a text of at most so many bytes.
     pub fn line(&self) -> Result<&str, Fault>
         ensures { MatchResult result (λ line. (line.now ≡ self.now.line) × IsUtf8 line.now × (length line.now ≤ LONGEST)) (λ fault. (fault ≡ Fault.NotACommand self.now.number) × (IsUtf8 self.now.line → LONGEST < length self.now.line)) }

@@ -19,11 +19,11 @@ use std::io::{Read, Write};
 /// Who gives a command.
 #[derive(Clone, Copy, Debug, PartialEq, Eq)]
 pub enum Giver {
-    /// Request of this number, which is made or polled.
-    Request(usize),
-    /// Request of this number, which is dropped.
-    Dropped(usize),
-    /// Somebody who calls the primitive.
+    /// The task that this waker wakes, which polls a request.
+    Task(u64),
+    /// Somebody who drops the request of this number.
+    Dropper(usize),
+    /// Somebody who makes a request, or calls the primitive.
     Caller,
 }
 
@@ -32,9 +32,9 @@ fn given_by<Q, C>(command: &Command<Q, u64, C>) -> Giver
     ensures { result ≡ giver_of command.now }
 {
     match command {
-        Command::Start(r, _) => Giver::Request(*r),
-        Command::Poll(r, _) => Giver::Request(*r),
-        Command::End(r) => Giver::Dropped(*r),
+        Command::Start(_, _) => Giver::Caller,
+        Command::Poll(_, waker) => Giver::Task(*waker),
+        Command::End(r) => Giver::Dropper(*r),
         Command::Call(_) => Giver::Caller,
     }
 }
@@ -47,9 +47,12 @@ pub trait Telling {
     /// What is written of line 1, which names the primitive.
     ghost opening: { List ℕ → List ℕ };
 
-    /// What is written of a line, of who gives its command, of its answer, where that is the text of what a primitive tells, and of
-    /// the wakers that are handed out.
-    ghost tells: { (A : Type 0) → (A → List ℕ) → List ℕ → GiverOf → AnswerOf A → List ℕ → List ℕ };
+    /// What is written of a line by its number, of who gives its command, of its answer, where that is the text of what a primitive
+    /// tells, and of the wakers that are handed out.
+    ghost tells: { (A : Type 0) → (A → List ℕ) → ℕ → List ℕ → GiverOf → AnswerOf A → List ℕ → List ℕ };
+
+    /// What is written behind the last line.
+    ghost closing: { List ℕ };
 
     /// Writes what it tells of line 1.
     fn open<W: Write>(&self, line: &str, output: &mut W) -> Result<(), Fault>
@@ -59,13 +62,19 @@ pub trait Telling {
     /// Writes what it tells of a line, whose wakers stand in a row that may have empty places.
     fn tell<V: Vocabulary, W: Write>(
         &self,
+        number: u64,
         line: &str,
         giver: Giver,
         answer: &Answer<V::Heard>,
         wakers: &[Option<u64>],
         output: &mut W,
     ) -> Result<(), Fault>
-        ensures ok { OnOk result (Appends (W.contents output.old) (W.contents output.new) (tells V.Heard V.text line.now giver answer.now (items_of wakers.now))) }
+        ensures ok { OnOk result (Appends (W.contents output.old) (W.contents output.new) (tells V.Heard V.text number line.now giver answer.now (items_of wakers.now))) }
+        ensures err { IfErr result (λ fault. IsJudged (Err fault) → ⊥) };
+
+    /// Writes what comes behind the last line.
+    fn close<W: Write>(&self, output: &mut W) -> Result<(), Fault>
+        ensures ok { OnOk result (Appends (W.contents output.old) (W.contents output.new) closing) }
         ensures err { IfErr result (λ fault. IsJudged (Err fault) → ⊥) };
 }
 
@@ -78,7 +87,9 @@ impl Telling for Replies {
 
     ghost opening = { λ line. [] };
 
-    ghost tells = { λ A text line giver answer wakers. line_text (answer_text text answer) wakers };
+    ghost tells = { λ A text number line giver answer wakers. line_text (answer_text text answer) wakers };
+
+    ghost closing = { [] };
 
     fn open<W: Write>(&self, _line: &str, _output: &mut W) -> Result<(), Fault> {
         Ok(())
@@ -86,6 +97,7 @@ impl Telling for Replies {
 
     fn tell<V: Vocabulary, W: Write>(
         &self,
+        _number: u64,
         _line: &str,
         _giver: Giver,
         answer: &Answer<V::Heard>,
@@ -93,6 +105,10 @@ impl Telling for Replies {
         output: &mut W,
     ) -> Result<(), Fault> {
         print_reply::<V, W>(answer, wakers, output)
+    }
+
+    fn close<W: Write>(&self, _output: &mut W) -> Result<(), Fault> {
+        Ok(())
     }
 }
 
@@ -192,13 +208,14 @@ where
         if !lines.read(output)? {
             return Ok(());
         }
+        let number = lines.number();
         let line = lines.line()?;
         let Some(command) = read_command::<V>(Words::of(line)) else {
             return Err(lines.not_a_command());
         };
         let giver = given_by(&command);
         let reply = machine.step(command);
-        telling.tell::<V, W>(line, giver, reply.answer(), reply.wakers(), output)?;
+        telling.tell::<V, W>(number, line, giver, reply.answer(), reply.wakers(), output)?;
     }
     // No input has so many lines.
     Err(Fault::InputOutput)

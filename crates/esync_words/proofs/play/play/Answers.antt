@@ -39,7 +39,7 @@ pub loop-preserved : goal.loop-preserved
 loop-preserved g c =
     let l = c.in_ok-line.ensures in
     let said = sym c.read_command.ensures ∙ c.in-Some.is in
-    more_so_far g.M.Machine.semantics (says (command g.V.Vocabulary.asks g.V.Vocabulary.calls)) (tells_of g.M.Reply.Parts.answer g.M.Reply.Parts.wakes (g.T.Telling.tells _ g.V.Vocabulary.text)) _ _ _ _ _ _ _ _ _ _ c.read.new.self c.in_ok-line.line.now c.in-Some.command c.step-reply.result (kept_so_far g.M.Machine.semantics (says (command g.V.Vocabulary.asks g.V.Vocabulary.calls)) (tells_of g.M.Reply.Parts.answer g.M.Reply.Parts.wakes (g.T.Telling.tells _ g.V.Vocabulary.text)) _ _ _ _ _ _ _ _ _ c.loop.invariant c.read.ensures.output) c.read.ensures.number (is_there (command g.V.Vocabulary.asks g.V.Vocabulary.calls) c.read.new.self _ _ c.in_ok-read.ensures.line c.if-not-branch.false) l.0 l.2 (says_words (command g.V.Vocabulary.asks g.V.Vocabulary.calls) c.in_ok-line.line.now l.1 l.2 ∙ rw c.of.ensures at said) c.step-reply.ensures (let t = c.in_ok-tell.ensures.ok in rw (← c.given_by-giver.ensures, ← c.answer.ensures, ← c.wakers.ensures) t)
+    more_so_far g.M.Machine.semantics (says (command g.V.Vocabulary.asks g.V.Vocabulary.calls)) (tells_of g.M.Reply.Parts.answer g.M.Reply.Parts.wakes (g.T.Telling.tells _ g.V.Vocabulary.text)) _ _ _ _ _ _ _ _ _ _ c.read.new.self c.in_ok-line.line.now c.in-Some.command c.step-reply.result (kept_so_far g.M.Machine.semantics (says (command g.V.Vocabulary.asks g.V.Vocabulary.calls)) (tells_of g.M.Reply.Parts.answer g.M.Reply.Parts.wakes (g.T.Telling.tells _ g.V.Vocabulary.text)) _ _ _ _ _ _ _ _ _ c.loop.invariant c.read.ensures.output) c.read.ensures.number (is_there (command g.V.Vocabulary.asks g.V.Vocabulary.calls) c.read.new.self _ _ c.in_ok-read.ensures.line c.if-not-branch.false) l.0 l.2 (says_words (command g.V.Vocabulary.asks g.V.Vocabulary.calls) c.in_ok-line.line.now l.1 l.2 ∙ rw c.of.ensures at said) c.step-reply.ensures (let t = c.in_ok-tell.ensures.ok in rw (← c.number-number.ensures, ← c.given_by-giver.ensures, ← c.answer.ensures, ← c.wakers.ensures) t)
 
 pub returns-clause-played : goal.returns-clause-played
 returns-clause-played g c =
