@@ -1,5 +1,5 @@
 -- What follows of a text from the replies that it records and those that were given.
-use Rattle.std.proofs.Common.{◌≡◌, ℕ, Bool, true, List, []}
+use Rattle.std.proofs.Common.{◌≡◌, ℕ, Bool, true, List, [], subst}
 use Rattle.std.specs.Prelude.{Result, Ok, Err, IfOk}
 use Rattle.esync_words.specs.declared.fault.Fault.{Fault}
 use Rattle.esync_check.specs.declared.Verdict.{Verdict}
@@ -13,7 +13,7 @@ module _ (text script recorded : List ℕ) (count : ℕ) (rest given : List ℕ)
     script = script;
     replies = recorded;
     records = rw (j.0, ← whole j.1) records;
-    played = rw (← j.3, ← j.2) played;
+    played = subst (λ g. Replies script g (Ok tt)) j.3 (subst (λ o. Replies script given o) j.2 played);
   }
   found (Another d) j = record {
     script = script;
