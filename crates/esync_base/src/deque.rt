@@ -8,6 +8,7 @@ ghost use Rattle.esync_base.specs.Places.{closed};
 use crate::kept::Kept;
 use crate::store::Store;
 use std::alloc::AllocError;
+use std::fmt;
 use std::marker::Model;
 
 // The place behind place i.
@@ -20,7 +21,7 @@ fn behind<const N: usize>(i: usize) -> usize
 }
 
 // N places.
-#[derive(Debug, Drop)]
+#[derive(Drop)]
 struct Row<T, const N: usize> {
     places: [Option<T>; N],
 }
@@ -97,7 +98,7 @@ impl<T: Drop, const N: usize> Row<T, N> {
 }
 
 /// At most `N` items, oldest first, in a ring of `N` places.
-#[derive(Debug, Drop)]
+#[derive(Drop)]
 pub struct Deque<T, const N: usize> {
     row: Row<T, N>,
     start: usize,
@@ -116,6 +117,17 @@ impl<T, const N: usize> Model for Deque<T, N> {
     ghost view = { λ a. record { items = items_from a.start a.row.places; front = a.start } };
 
     ghost invariant = { λ a. IsRing N a.row.places a.start a.end a.full };
+}
+
+/// The items, oldest first, as a list.
+impl<T: Drop + fmt::Debug, const N: usize> fmt::Debug for Deque<T, N> {
+    fn fmt<F: fmt::Write>(&self, f: &mut fmt::Formatter<F>) -> fmt::Result {
+        let mut list = f.debug_list();
+        for i in 0..self.len() {
+            list.entry(self.get(i));
+        }
+        list.finish()
+    }
 }
 
 impl<T: Drop, const N: usize> Deque<T, N> {

@@ -35,7 +35,7 @@ impl<T: Copy> Maker<T> for Given<T> {
 }
 
 /// The state of a value that is made when it is first asked for: the value, from then on.
-#[derive(Drop)]
+#[derive(Debug, Drop)]
 pub struct LazyState<T, M> {
     data: Option<T>,
     maker: M,

@@ -40,7 +40,7 @@ impl<T> InitError<T> {
 
 /// The state of a value that is set once: the value, if it was set. No waker is kept: who polls for a value that isn't there is
 /// woken at once.
-#[derive(Drop)]
+#[derive(Debug, Drop)]
 pub struct OnceState<T, W> {
     data: Option<T>,
     wakers: PhantomData<W>,

@@ -13,7 +13,7 @@ pub mod machine;
 mod shared;
 
 /// The state of a signal: the value, if there is one, and the waker of who waits for it.
-#[derive(Drop)]
+#[derive(Debug, Drop)]
 pub struct SignalState<T, W> {
     value: Option<T>,
     waiter: WakerRegistration<W>,

@@ -56,7 +56,7 @@ pub trait Judge<T> {
 /// wakers of up to `N` tasks that wait for news.
 ///
 /// The version that a receiver has seen stands with the receiver, and is lent to each read.
-#[derive(Drop)]
+#[derive(Debug, Drop)]
 pub struct WatchState<T, W, const N: usize> {
     value: Option<T>,
     version: u64,

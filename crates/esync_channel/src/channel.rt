@@ -60,7 +60,7 @@ impl<T> TrySendError<T> {
 pub type ChannelState<T, W, const N: usize> = Mailbox<Deque<T, N>, W>;
 
 /// The state of a channel: its messages, and a waker each of who waits for a message and of who waits for room.
-#[derive(Drop)]
+#[derive(Debug, Drop)]
 pub struct Mailbox<S, W> {
     queue: S,
     receiver_waker: WakerRegistration<W>,
@@ -323,7 +323,7 @@ impl<S: Store, W: Copy + Eq> Mailbox<S, W> {
 }
 
 /// A message that waits to be sent.
-#[derive(Drop)]
+#[derive(Debug, Drop)]
 pub struct SendRequest<T> {
     message: Option<T>,
 }

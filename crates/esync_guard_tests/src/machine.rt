@@ -1,8 +1,10 @@
+use esync_base::waitqueue::{Context, Poll, Wakes};
 use esync_guards::mutex::machine::{Guarded, Lock, MutexCall, MutexCommand, MutexHeard, MutexRun};
-use esync_guards::mutex::{Second, TryLockError};
+use esync_guards::mutex::{MutexState, Second, TryLockError};
 use esync_machine::primitive::{Answer, Command};
 use esync_machine::requests::Requests;
 use esync_machine::run::Machine;
+use std::alloc::AllocError;
 use std::process::Abort;
 
 type Pairs = MutexRun<(u32, u32), u32, Second, u64, 4, 1>;
@@ -103,4 +105,24 @@ fn what_is_of_another_kind_is_not_there(rt: HostRuntime) {
         Answer::Gives(MutexHeard::Part(2)),
     );
     call(&rt, &mut mutex, MutexCall::Read(4), Answer::NoSuch);
+}
+
+#[test]
+fn a_mutex_shows_who_waits(rt: HostRuntime) -> Result<(), AllocError> {
+    let mut wakes: Wakes<u64, 1> = Wakes::new();
+    let mut mutex: MutexState<u64> = MutexState::new();
+    assert_eq!(rt;
+        mutex.poll_lock(&Context::from_waker(1), &mut wakes),
+        Poll::Ready(())
+    );
+    assert_eq!(rt;
+        mutex.poll_lock(&Context::from_waker(2), &mut wakes),
+        Poll::Pending
+    );
+    let shown = format!(in rt.alloc(); "{mutex:?}")?;
+    assert_eq!(rt;
+        shown.as_str(),
+        "MutexState { locked: true, waker: WakerRegistration { waker: Some(2) } }"
+    );
+    Ok(())
 }

@@ -21,7 +21,7 @@ mod shared;
 pub struct TryLockError;
 
 /// The state of a mutex: whether it is locked, and the waker of who waits for it.
-#[derive(Drop)]
+#[derive(Debug, Drop)]
 pub struct MutexState<W> {
     locked: bool,
     waker: WakerRegistration<W>,

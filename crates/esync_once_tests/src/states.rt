@@ -1,5 +1,7 @@
 use esync_base::waitqueue::{Context, Poll, Wakes};
+use esync_cells::lazy_lock::{Given, LazyState};
 use esync_cells::once_lock::{InitError, OnceState};
+use std::alloc::AllocError;
 use std::process::Abort;
 
 // Polls for the value, which is this one where it was set, and else hands out the waker.
@@ -51,4 +53,19 @@ fn a_value_is_made_where_there_is_none(rt: HostRuntime) {
     let never: OnceState<u32, u64> = OnceState::new();
     assert_eq!(rt; never.into_inner(), None);
     assert_eq!(rt; InitError::Set(7u32).into_value(), 7);
+}
+
+#[test]
+fn the_locks_show_their_value(rt: HostRuntime) -> Result<(), AllocError> {
+    let mut once: OnceState<u32, u64> = OnceState::new();
+    assert!(rt; once.init(3) == Ok(()));
+    let shown = format!(in rt.alloc(); "{once:?}")?;
+    assert!(rt; shown.starts_with("OnceState { data: Some(3)"), "{shown}");
+    let lazy = LazyState::new(Given { value: 4u32 });
+    let shown = format!(in rt.alloc(); "{lazy:?}")?;
+    assert_eq!(rt;
+        shown.as_str(),
+        "LazyState { data: None, maker: Given { value: 4 } }"
+    );
+    Ok(())
 }

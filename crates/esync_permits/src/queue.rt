@@ -7,11 +7,12 @@ use esync_base::deque::Deque;
 use esync_base::kept::Kept;
 use esync_base::waitqueue::Wakes;
 use std::alloc::AllocError;
+use std::fmt;
 use std::marker::Model;
 
 /// A place in the queue: its number, and the waker of the request that waits there.
 #[derive_where(Clone, Copy; W: Copy)]
-#[derive(Drop)]
+#[derive(Debug, Drop)]
 pub struct Entry<W> {
     pub number: usize,
     pub waker: W,
@@ -43,6 +44,7 @@ fn free_number<W: Copy, const N: usize>(entries: &Deque<Entry<W>, N>) -> usize
 }
 
 /// At most `N` entries, oldest first.
+#[derive_where(Debug; W: fmt::Debug + Drop)]
 #[derive(Drop)]
 pub struct Queue<W, const N: usize> {
     entries: Deque<Entry<W>, N>,

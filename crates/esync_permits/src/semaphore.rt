@@ -17,6 +17,7 @@ pub use shared::{
     GreedySemaphore, PermitState, Semaphore, SemaphoreReleaser, SharedSemaphore,
 };
 use std::alloc::AllocError;
+use std::fmt;
 use std::marker::Model;
 use std::mem;
 use thiserror::Error;
@@ -77,7 +78,7 @@ fn give_back(permits: &mut usize, more: usize)
 /// The state of a greedy semaphore: its permits, and the waker of who waits for some.
 ///
 /// A request is granted as soon as its permits are there, even if another one waits for more of them.
-#[derive(Drop)]
+#[derive(Debug, Drop)]
 pub struct GreedyState<W> {
     available: usize,
     waker: WakerRegistration<W>,
@@ -239,7 +240,7 @@ impl<W: Copy + Eq> GreedyState<W> {
 }
 
 /// A request for permits of a greedy semaphore.
-#[derive(Drop)]
+#[derive(Debug, Drop)]
 pub struct GreedyRequest {
     amount: Option<Amount>,
 }
@@ -331,6 +332,7 @@ pub enum FairPoll {
 ///
 /// Requests are granted in the order in which they came to wait. One that waits for many permits keeps all others from
 /// theirs until it is granted or ends. A request that ends gives its place back at once.
+#[derive_where(Debug; W: fmt::Debug + Drop)]
 #[derive(Drop)]
 pub struct FairState<W, const N: usize> {
     permits: usize,
@@ -569,7 +571,7 @@ impl<W: Copy + Eq, const N: usize> FairState<W, N> {
 }
 
 /// A request for permits of a fair semaphore.
-#[derive(Drop)]
+#[derive(Debug, Drop)]
 pub struct FairRequest {
     amount: Amount,
     ticket: Option<Ticket>,

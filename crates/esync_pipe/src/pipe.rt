@@ -44,7 +44,7 @@ pub enum TryWriteError {
 
 /// The state of a pipe of at most `N` bytes: the bytes, oldest first, and a waker each of who waits for bytes and of who waits for
 /// room.
-#[derive(Drop)]
+#[derive(Debug, Drop)]
 pub struct PipeState<W, const N: usize> {
     buffer: ByteRing<N>,
     read_waker: WakerRegistration<W>,
@@ -375,7 +375,7 @@ impl<W: Copy + Eq, const N: usize> PipeState<W, N> {
 }
 
 /// Bytes that wait to be written, all of them.
-#[derive(Drop)]
+#[derive(Debug, Drop)]
 pub struct WriteAllRequest<'a> {
     rest: Option<&'a [u8]>,
 }

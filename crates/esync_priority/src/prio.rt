@@ -76,7 +76,7 @@ impl<T: Ord> Kind<T> for Min {
 /// At most `N` items, in places of its own: it takes no memory.
 ///
 /// They stand in a heap: the children of place p are the places 2p + 1 and 2p + 2, and none is above its parent.
-#[derive(Drop)]
+#[derive(Debug, Drop)]
 pub struct PrioQueue<T, K: Kind<T>, const N: usize> {
     items: ArrayVec<Option<T>, N>,
     kind: PhantomData<K>,

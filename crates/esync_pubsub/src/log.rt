@@ -6,6 +6,7 @@ ghost use Rattle.esync_pubsub.specs.Log.{IsLeastFree, oldest, has_subscribers, l
 use crate::pubsub::{Exhausted, TryPublishError, WaitResult};
 use held::Held;
 use std::alloc::AllocError;
+use std::fmt;
 use std::marker::Model;
 
 mod held;
@@ -54,6 +55,7 @@ impl<const SUBS: usize> Positions<SUBS> {
 }
 
 /// At most `CAP` messages, and at most `SUBS` subscribers, known by their places.
+#[derive_where(Debug; T: fmt::Debug + Drop)]
 #[derive(Drop)]
 pub struct Log<T, const CAP: usize, const SUBS: usize> {
     held: Held<T, CAP>,

@@ -15,6 +15,7 @@ pub use handles::{
 pub use shared::{LogState, PubSubBehavior, PubSubChannel, SharedPubSub};
 use std::alloc::AllocError;
 use std::fmt::Debug;
+use std::fmt;
 use std::marker::Model;
 use thiserror::Error;
 
@@ -80,6 +81,7 @@ impl Model for SubId {
 /// who waits for a message and of who waits for room.
 ///
 /// It holds no lock and waits for nobody. What a call hands out, it appends to the list of wakes that it is given.
+#[derive_where(Debug; T: fmt::Debug + Drop, W: fmt::Debug)]
 #[derive(Drop)]
 pub struct PubSubState<T, W, const CAP: usize, const SUBS: usize, const PUBS: usize> {
     log: Log<T, CAP, SUBS>,
@@ -550,7 +552,7 @@ impl<T: Clone, W: Copy + Eq, const CAP: usize, const SUBS: usize, const PUBS: us
 }
 
 /// A message that waits to be published.
-#[derive(Drop)]
+#[derive(Debug, Drop)]
 pub struct PublishRequest<T> {
     message: Option<T>,
 }

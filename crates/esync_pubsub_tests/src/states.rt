@@ -6,6 +6,7 @@ use esync_base::waitqueue::{Context, Poll, Wakes};
 use esync_pubsub::pubsub::{
     Error, Exhausted, PubSubState, PublishRequest, TryPublishError, WaitResult,
 };
+use std::alloc::AllocError;
 use std::process::Abort;
 
 #[test]
@@ -208,4 +209,14 @@ fn subscribers_and_publishers_are_limited(rt: HostRuntime) {
         state.remove_publisher();
     }
     assert!(rt; state.add_publisher().is_ok());
+}
+
+#[test]
+fn a_state_shows_its_messages_and_who_waits(rt: HostRuntime) -> Result<(), AllocError> {
+    let mut state: Two<u32, 2> = PubSubState::new();
+    let _id = joins(&rt, &mut state);
+    publishes_at_once(&rt, &mut state, 7, Ok(()), &[]);
+    let shown = format!(in rt.alloc(); "{state:?}")?;
+    assert!(rt; shown.contains("messages: [7]"), "{shown}");
+    Ok(())
 }

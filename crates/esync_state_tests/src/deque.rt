@@ -76,12 +76,10 @@ fn cleared_ring_begins_anew(rt: HostRuntime) {
 
 #[test]
 fn ring_is_shown(rt: HostRuntime) -> Result<(), AllocError> {
-    let mut ring: Deque<u32, 1> = Deque::new();
-    assert!(rt; ring.push_back(5) == Ok(()));
+    let mut ring: Deque<u32, 2> = Deque::new();
+    assert!(rt; ring.push_back(5) == Ok(()) && ring.push_back(6) == Ok(()));
+    assert!(rt; ring.pop_front() == Some(5) && ring.push_back(7) == Ok(()));
     let shown = format!(in rt.alloc(); "{ring:?}")?;
-    assert_eq!(rt;
-        shown.as_str(),
-        "Deque { row: Row { places: [Some(5)] }, start: 0, end: 0, full: true }"
-    );
+    assert_eq!(rt; shown.as_str(), "[6, 7]");
     Ok(())
 }

@@ -24,6 +24,8 @@ mod ring_buffer;
 #[cfg(test)]
 mod runs;
 #[cfg(test)]
+mod shown;
+#[cfg(test)]
 mod signal;
 #[cfg(test)]
 mod wakers;

@@ -31,7 +31,7 @@ pub enum Side {
 pub struct SlotLent;
 
 /// The state of a zero-copy channel: a row of slots, whose turn each of them is, and who waits for one.
-#[derive(Drop)]
+#[derive(Debug, Drop)]
 pub struct ChannelState<T, W> {
     slots: Vec<T>,
     turns: Turns<W>,

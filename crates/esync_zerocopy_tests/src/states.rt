@@ -77,3 +77,14 @@ fn what_was_written_stays_when_a_slot_is_lent_again(rt: HostRuntime) -> Result<(
     assert!(rt; wakes.is_empty());
     Ok(())
 }
+
+#[test]
+fn a_channel_shows_its_slots(rt: HostRuntime) -> Result<(), Fail> {
+    let channel: ChannelState<u32, u64> = ChannelState::new(vec![in rt.alloc(); 5, 6]?);
+    let shown = format!(in rt.alloc(); "{channel:?}")?;
+    assert!(rt;
+        shown.starts_with("ChannelState { slots: [5, 6], turns: Turns {"),
+        "{shown}"
+    );
+    Ok(())
+}

@@ -5,6 +5,7 @@ ghost use Rattle.esync_base.specs.Registration.{among, registered, displaced};
 use super::Wakes;
 use crate::kept::Kept;
 use std::alloc::AllocError;
+use std::fmt;
 use std::marker::Model;
 
 /// The wakers of at most `N` tasks, no two of them equal, in the order in which they were registered.
@@ -28,6 +29,13 @@ impl<W: Copy, const N: usize> Kept for MultiWakerRegistration<W, N> {
         Ok(MultiWakerRegistration {
             wakers: self.wakers,
         })
+    }
+}
+
+/// The wakers, in order, as a list.
+impl<W: fmt::Debug, const N: usize> fmt::Debug for MultiWakerRegistration<W, N> {
+    fn fmt<F: fmt::Write>(&self, f: &mut fmt::Formatter<F>) -> fmt::Result {
+        self.wakers.fmt(f)
     }
 }
 

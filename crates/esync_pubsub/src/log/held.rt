@@ -5,6 +5,7 @@ ghost use Rattle.esync_pubsub.specs.Counts.{unread};
 use esync_base::deque::Deque;
 use esync_base::kept::Kept;
 use std::alloc::AllocError;
+use std::fmt;
 use std::marker::Model;
 
 // A count at each of `N` places.
@@ -42,6 +43,7 @@ impl<const N: usize> Kept for Counts<N> {
 }
 
 /// At most `N` messages. The count of each stands at its place in the ring, so that it is found and changed there.
+#[derive_where(Debug; T: fmt::Debug + Drop)]
 #[derive(Drop)]
 pub struct Held<T, const N: usize> {
     messages: Deque<T, N>,

@@ -53,7 +53,7 @@ fn advance(from: &mut Run, to: &mut Run, capacity: usize)
 }
 
 /// Which slots are spare, which are held, whose is out, and who waits for one.
-#[derive(Drop)]
+#[derive(Debug, Drop)]
 pub struct Turns<W> {
     capacity: usize,
     spare: Run,
