@@ -17,9 +17,8 @@ pub use shared::{
     GreedySemaphore, PermitState, Semaphore, SemaphoreReleaser, SharedSemaphore,
 };
 use std::alloc::AllocError;
-use std::fmt;
 use std::marker::Model;
-use std::mem;
+use std::{fmt, mem};
 use thiserror::Error;
 
 pub mod machine;
