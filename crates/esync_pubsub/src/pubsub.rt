@@ -14,8 +14,7 @@ pub use handles::{
 };
 pub use shared::{LogState, PubSubBehavior, PubSubChannel, SharedPubSub};
 use std::alloc::AllocError;
-use std::fmt;
-use std::fmt::Debug;
+use std::fmt::{self, Debug};
 use std::marker::Model;
 use thiserror::Error;
 
