@@ -184,9 +184,12 @@ impl<T: Drop, const N: usize> Deque<T, N> {
         if self.is_full() {
             return Err(item);
         }
-        self.row.put(self.end, item);
-        self.end = behind::<N>(self.end);
-        self.full = self.end == self.start;
+        // The place is read once: a write to the row might have changed it, for what the compiler knows.
+        let end = self.end;
+        let next = behind::<N>(end);
+        self.row.put(end, item);
+        self.end = next;
+        self.full = next == self.start;
         Ok(())
     }
 
@@ -201,8 +204,9 @@ impl<T: Drop, const N: usize> Deque<T, N> {
         if self.is_empty() {
             return None;
         }
-        let item = self.row.take(self.start);
-        self.start = behind::<N>(self.start);
+        let start = self.start;
+        let item = self.row.take(start);
+        self.start = behind::<N>(start);
         self.full = false;
         item
     }

@@ -10,7 +10,7 @@ invariant_of-self g c =
     let r = c.self.invariant in
     let t = rw (← c.self.view_is) at c.is_full.ensures in
     let h = less g.row.N _ r.fits (λ e. let k = t.1 e in cc) in
-    rw (c.put.ensures, c.behind-self-inside.ensures) (pushed g.row.N a.row.places a.start a.end a.full r h c.args.item _ (Decides-eqb (next g.row.N a.end) a.start)).0
+    rw (c.put.ensures, c.behind-next.ensures) (pushed g.row.N a.row.places a.start a.end a.full r h c.args.item _ (Decides-eqb (next g.row.N a.end) a.start)).0
 
 pub returns-clause-ok : goal.returns-clause-ok
 returns-clause-ok g c =
