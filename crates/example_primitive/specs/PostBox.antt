@@ -1,17 +1,17 @@
--- A post box for one subscriber: whether it is there, and the message that it has not read.
-use Rattle.std.specs.Prelude.{◌≡◌, ℕ, Bool, true, false, Option, Some, None, refl}
+-- The post box: its object, its rules, and its table of wakes.
+use Rattle.std.specs.Prelude.{◌≡◌, ℕ, Bool, true, false, List, Option, Some, None, refl}
 use Rattle.esync_base.specs.Registration.{IsAmong}
-use Rattle.std.specs.Prelude.{List}
 use Rattle.esync_machine.specs.declared.primitive.Answer.{Answer}
 use Rattle.esync_machine.specs.declared.primitive.Answer.TheVariants.{Done, Pending, Gives}
 use Rattle.esync_machine.specs.declared.primitive.Reach.{Reach}
 use Rattle.esync_machine.specs.declared.primitive.Reach.TheVariants.{Nobody, Leavers}
 use Rattle.esync_machine.specs.Wakings.{Wakings, Handed, nothing, registers, hands_out}
 use Rattle.esync_machine.specs.Rules.{Rules, Alone, IsIdle, IdleIsPending}
-use Rattle.esync_sketches.specs.declared.leaving.NextMessage.{NextMessage}
-use Rattle.esync_sketches.specs.declared.leaving.PostCall.{PostCall}
-use Rattle.esync_sketches.specs.declared.leaving.PostCall.TheVariants.{Join, Leave, Post}
+use Rattle.example_primitive.specs.declared.post_box.NextMessage.{NextMessage}
+use Rattle.example_primitive.specs.declared.post_box.PostCall.{PostCall}
+use Rattle.example_primitive.specs.declared.post_box.PostCall.TheVariants.{Join, Leave, Post}
 
+-- whether the subscriber is there, and the message that it has not read
 pub record Posted : Type 0 where
   pub is_live : Bool
   pub message : Option ℕ
@@ -21,10 +21,12 @@ abbrev pub Begins : Bool → NextMessage → Option NextMessage → Type 0
 Begins true ask p = p ≡ Some ask
 Begins false ask p = p ≡ None
 
+-- a poll takes the message, if there is one, and else waits
 abbrev pub Polls : Option ℕ → Posted → NextMessage → Answer ℕ → Posted → Option NextMessage → Type 0
 Polls None o h a o2 p = (a ≡ Pending) × (o2 ≡ o) × (p ≡ Some h)
 Polls (Some x) o h a o2 p = (a ≡ Gives x) × (o2 ≡ record o { message = None }) × (p ≡ None)
 
+-- what is posted to nobody is gone
 abbrev pub Posts : Bool → Posted → ℕ → Posted
 Posts true o x = record o { message = Some x }
 Posts false o x = o
@@ -74,9 +76,11 @@ post_wakings {W} eq = record {
   calls = λ o reader call p a. call_hands o reader call;
 }
 
+-- to whom the registered waker is owed: who waits while there is no message
 abbrev pub OwesReader : {W : Type 0} → (W → W → Bool) → Option ℕ → List W → W → Type 0
 OwesReader eq message reader w = (message ≡ None) × IsAmong eq w reader
 
+-- the two laws that are to be shown of it: who is owed a waker may be answered Pending, and where that may be, nothing else may
 pub post_idle : (o : Posted) (h : NextMessage) → o.message ≡ None → IsIdle post_rules o h
 post_idle o h e = rw (e, Polls) (refl, refl, refl)
 

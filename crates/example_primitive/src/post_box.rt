@@ -1,13 +1,13 @@
 //! A post box for one subscriber, who may leave: leaving ends all requests that wait for a message.
-ghost use Rattle.std.specs.Prelude.{◌≡◌, ℕ, ◌≤◌, IfOk, OnErr};
+ghost use Rattle.std.specs.Prelude.{◌≡◌, [], None, false, IfOk, OnErr};
 ghost use Rattle.esync_machine.specs.Runs.{GoodRun};
-ghost use Rattle.esync_machine.specs.Object.{Object, requests_meaning};
-ghost use Rattle.esync_sketches.specs.Leaving.{post_rules, post_wakings};
+ghost use Rattle.esync_machine.specs.Object.{requests_meaning};
+ghost use Rattle.example_primitive.specs.PostBox.{post_rules, post_wakings};
 
-use esync_base::waitqueue::{WakerRegistration, Wakes};
-use esync_machine::primitive::{Answer, Command, Primitive, Reach, Turn};
-use esync_machine::requests::Requests;
-use esync_machine::run::{Reply, run};
+use embassy_sync::run::primitive::{Answer, Command, Primitive, Reach, Turn};
+use embassy_sync::run::requests::Requests;
+use embassy_sync::run::run::{Reply, run};
+use embassy_sync::waitqueue::{WakerRegistration, Wakes};
 use std::alloc::{AllocError, Global};
 
 /// A request for the next message of the subscriber.
@@ -25,16 +25,28 @@ pub enum PostCall {
     Post(u32),
 }
 
-/// A message for the subscriber, if there is one, and the waker of its request.
-#[derive(Drop)]
-pub struct PostBox<W, const K: usize> {
+/// Whether the subscriber is there, its message, if there is one, and the waker of who waits for one.
+#[derive(Debug, Drop)]
+pub struct PostBox<W> {
     is_live: bool,
     message: Option<u32>,
     reader: WakerRegistration<W>,
-    ghost room: { 1 ≤ K },
 }
 
-impl<W: Copy + Eq, const K: usize> Primitive<K> for PostBox<W, K> {
+impl<W: Copy + Eq> PostBox<W> {
+    /// Nobody is there.
+    pub fn new() -> Self
+        ensures { result ≡ record { is_live = false; message = None; reader = [] } }
+    {
+        PostBox {
+            is_live: false,
+            message: None,
+            reader: WakerRegistration::new(),
+        }
+    }
+}
+
+impl<W: Copy + Eq, const K: usize> Primitive<K> for PostBox<W> {
     type Ask = NextMessage;
 
     type Held = NextMessage;
@@ -45,7 +57,7 @@ impl<W: Copy + Eq, const K: usize> Primitive<K> for PostBox<W, K> {
 
     type Waker = W;
 
-    ghost use Rattle.esync_sketches.specs.Leaving.{post_rules, OwesReader, post_idle, post_pending};
+    ghost use Rattle.example_primitive.specs.PostBox.{post_rules, OwesReader, post_idle, post_pending};
 
     ghost rules = { post_rules };
 
@@ -137,16 +149,17 @@ impl<W: Copy + Eq, const K: usize> Primitive<K> for PostBox<W, K> {
     ghost no_requests = { all_requests post_rules (λ h. tt) (λ o o2 call p p2 a c. c.1) };
 }
 
-/// The post box as a machine.
-pub type PostRun<W, const REQS: usize, const K: usize> = Requests<PostBox<W, K>, REQS, K>;
+/// The post box as a machine of 16 requests, of which a step hands out at most one waker.
+pub type PostRun<W> = Requests<PostBox<W>, 16, 1>;
 
-/// Gives the commands to the post box, one after another, as `run` does.
-pub fn run_post<W: Copy + Eq, const REQS: usize, const K: usize>(
+/// Gives the commands to the post box, one after another. That the replies are a run of it, that no wake is lost in it, and that
+/// each step hands out exactly the wakers of the table is what `run` says of every machine.
+pub fn run_post<W: Copy + Eq>(
     alloc: Global,
-    machine: &mut PostRun<W, REQS, K>,
+    machine: &mut PostRun<W>,
     commands: Vec<Command<NextMessage, W, PostCall>>,
-) -> Result<Vec<Reply<Answer<u32>, W, K>>, AllocError>
-    ensures run { IfOk result (λ replies. GoodRun (requests_meaning post_rules (post_wakings W.eq) W.eq K) (record { core = record { is_live = machine.old.state.is_live; message = machine.old.state.message }; requests = machine.old.requests }) machine.old.state.reader commands.items replies.items (record { core = record { is_live = machine.new.state.is_live; message = machine.new.state.message }; requests = machine.new.requests }) machine.new.state.reader) }
+) -> Result<Vec<Reply<Answer<u32>, W, 1>>, AllocError>
+    ensures run { IfOk result (λ replies. GoodRun (requests_meaning post_rules (post_wakings W.eq) W.eq 1) (record { core = record { is_live = machine.old.state.is_live; message = machine.old.state.message }; requests = machine.old.requests }) machine.old.state.reader commands.items replies.items (record { core = record { is_live = machine.new.state.is_live; message = machine.new.state.message }; requests = machine.new.requests }) machine.new.state.reader) }
     ensures refused { OnErr result (machine.new ≡ machine.old) }
 {
     run(alloc, machine, commands)
