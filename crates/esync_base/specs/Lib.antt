@@ -2,6 +2,7 @@ pub mod Rows
 pub mod Listed
 pub mod ListedLaws
 pub mod Registration
+pub mod Standing
 pub mod RegistrationLaws
 pub mod Keeping
 pub mod Room

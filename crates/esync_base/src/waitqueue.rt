@@ -88,7 +88,7 @@ impl<W: Copy, const K: usize> Row<W, K> {
         requires { i < K }
         ensures { result ≡ slice_index_or self.now.places i result }
     {
-        self.places[i]
+        self.places[place::<K>(i)]
     }
 
     fn put(&mut self, i: usize, waker: W)
@@ -365,6 +365,28 @@ impl<W: Copy + Eq> WakerRegistration<W> {
     {
         self.waker.is_some()
     }
+
+    /// The registered waker behind the first `i` ones, if there is one.
+    pub fn get(&self, i: usize) -> Option<W>
+        ensures { result ≡ slice_get self.now i }
+    {
+        if i == 0 { self.waker } else { None }
+    }
+}
+
+/// Who tells which wakers are registered, and at which of its places: 0 is that of receivers, readers, subscribers or of all who
+/// wait, 1 that of senders, writers or publishers. It is for who looks on, as `synctrace --explain` does.
+pub trait Registered {
+    type Waker;
+
+    ghost use Rattle.std.specs.Prelude.{ℕ, List};
+
+    /// The wakers that are registered at the place of this number.
+    ghost at: { Self → ℕ → List Self.Waker };
+
+    /// The waker behind the first `i` ones at this place, if there is one.
+    fn registered(&self, place: usize, i: usize) -> Option<Self::Waker>
+        ensures { result ≡ slice_get (at self.now place) i };
 }
 
 /// Who acts on the wakers that a shared form hands out, and lends it what may wait for a lock.

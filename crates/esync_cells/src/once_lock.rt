@@ -8,7 +8,7 @@ ghost use Rattle.esync_cells.specs.OnceLock.{poll_copied, wakes_of_get, set_answ
 ghost use Rattle.esync_cells.specs.contracts.once_lock.OnceState.{the_row};
 
 use esync_base::kept::Kept;
-use esync_base::waitqueue::{Context, Poll, Wakes};
+use esync_base::waitqueue::{Context, Poll, Registered, Wakes};
 pub use shared::{OnceGet, OnceLock};
 use std::alloc::AllocError;
 use std::fmt::Debug;
@@ -63,6 +63,19 @@ impl<T: Copy, W> Kept for OnceState<T, W> {
             data: self.data,
             wakers: PhantomData,
         })
+    }
+}
+
+/// Nobody: who waits for the value polls again and again.
+impl<T, W> Registered for OnceState<T, W> {
+    type Waker = W;
+
+    ghost use Rattle.std.specs.Prelude.{[]};
+
+    ghost at = { λ m place. [] };
+
+    fn registered(&self, _place: usize, _i: usize) -> Option<W> {
+        None
     }
 }
 

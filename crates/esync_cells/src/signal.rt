@@ -4,7 +4,7 @@ ghost use Rattle.esync_base.specs.Registration.{registered_if, displaced_if};
 ghost use Rattle.esync_cells.specs.Signal.{waited, waiter_where_empty};
 
 use esync_base::kept::Kept;
-use esync_base::waitqueue::{Context, Poll, WakerRegistration, Wakes};
+use esync_base::waitqueue::{Context, Poll, Registered, WakerRegistration, Wakes};
 pub use shared::{Signal, SignalWait};
 use std::alloc::AllocError;
 use std::marker::Model;
@@ -44,6 +44,22 @@ impl<T: Drop, W: Copy + Eq> Default for SignalState<T, W> {
         ensures waiter { result.waiter ≡ [] }
     {
         SignalState::new()
+    }
+}
+
+/// Who waits for a value.
+impl<T, W: Copy + Eq> Registered for SignalState<T, W> {
+    type Waker = W;
+
+    ghost use Rattle.esync_base.specs.Standing.{at_one};
+
+    ghost at = { λ m. at_one m.waiter };
+
+    fn registered(&self, place: usize, i: usize) -> Option<W> {
+        match place {
+            0 => self.waiter.get(i),
+            _ => None,
+        }
     }
 }
 

@@ -4,7 +4,7 @@ ghost use Rattle.esync_base.specs.Registration.{registered_if, displaced_if};
 ghost use Rattle.esync_cells.specs.Watch.{fresh, judged, found, Answers, seen_after, polled, waiter_where_pending, last_version, sent, woken_by, sent_if, woken_if, counted};
 
 use esync_base::kept::Kept;
-use esync_base::waitqueue::{Context, MultiWakerRegistration, Poll, Wakes};
+use esync_base::waitqueue::{Context, MultiWakerRegistration, Poll, Registered, Wakes};
 pub use handles::{
     AnonRcv, AnonReceiver, Changed, ChangedAnd, DynAnonReceiver, DynReceiver, DynSender, Get,
     GetAnd, Rcv, Receiver, Sender, Snd,
@@ -85,6 +85,22 @@ impl<T: Copy, W: Copy, const N: usize> Kept for WatchState<T, W, N> {
             waiters: self.waiters.kept()?,
             receivers: self.receivers,
         })
+    }
+}
+
+/// Who waits for a newer value.
+impl<T, W: Copy + Eq, const N: usize> Registered for WatchState<T, W, N> {
+    type Waker = W;
+
+    ghost use Rattle.esync_base.specs.Standing.{at_one};
+
+    ghost at = { λ m. at_one m.waiters };
+
+    fn registered(&self, place: usize, i: usize) -> Option<W> {
+        match place {
+            0 => self.waiters.get(i),
+            _ => None,
+        }
     }
 }
 

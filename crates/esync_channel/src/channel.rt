@@ -11,7 +11,7 @@ ghost use Rattle.esync_channel.specs.Polls.{ReceivesPoll, SendsPoll, is_ready};
 use esync_base::deque::Deque;
 use esync_base::kept::Kept;
 use esync_base::store::Store;
-use esync_base::waitqueue::{Context, Poll, WakerRegistration, Wakes};
+use esync_base::waitqueue::{Context, Poll, Registered, WakerRegistration, Wakes};
 pub use handles::{
     DynamicReceiveFuture, DynamicReceiver, DynamicSendFuture, DynamicSender, MailboxReceiver,
     MailboxSender, Receiver, Sender,
@@ -85,6 +85,23 @@ impl<S, W> Model for Mailbox<S, W> {
     ghost coded = { mailbox_code S.code W.code };
 
     ghost view = { λ a. record { store = a.queue; slots = record { receivers = a.receiver_waker; senders = a.senders_waker } } };
+}
+
+/// Who waits for a message, and who waits for room.
+impl<S, W: Copy + Eq> Registered for Mailbox<S, W> {
+    type Waker = W;
+
+    ghost use Rattle.esync_base.specs.Standing.{at_two};
+
+    ghost at = { λ m. at_two m.slots.receivers m.slots.senders };
+
+    fn registered(&self, place: usize, i: usize) -> Option<W> {
+        match place {
+            0 => self.receiver_waker.get(i),
+            1 => self.senders_waker.get(i),
+            _ => None,
+        }
+    }
 }
 
 impl<S: Store, W: Copy + Eq> Mailbox<S, W> {

@@ -4,7 +4,7 @@ ghost use Rattle.esync_base.specs.Registration.{registered_if, displaced_if};
 ghost use Rattle.esync_guards.specs.Mutex.{tried, polled, waiter_where_held};
 
 use esync_base::kept::Kept;
-use esync_base::waitqueue::{Context, Poll, WakerRegistration, Wakes};
+use esync_base::waitqueue::{Context, Poll, Registered, WakerRegistration, Wakes};
 pub use projection::{Projection, Second, Then, put_part};
 pub use shared::{Guard, LockFuture, MappedGuard, MappedMutexGuard, Mutex, MutexGuard};
 use std::alloc::AllocError;
@@ -52,6 +52,22 @@ impl<W: Copy + Eq> Default for MutexState<W> {
         ensures waiter { result.waiter ≡ [] }
     {
         MutexState::new()
+    }
+}
+
+/// Who waits for the lock.
+impl<W: Copy + Eq> Registered for MutexState<W> {
+    type Waker = W;
+
+    ghost use Rattle.esync_base.specs.Standing.{at_one};
+
+    ghost at = { λ m. at_one m.waiter };
+
+    fn registered(&self, place: usize, i: usize) -> Option<W> {
+        match place {
+            0 => self.waker.get(i),
+            _ => None,
+        }
     }
 }
 

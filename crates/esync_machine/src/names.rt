@@ -5,6 +5,7 @@ ghost use Rattle.esync_machine.specs.Numbers.{at_number};
 
 use esync_base::kept::Kept;
 use std::alloc::AllocError;
+use std::fmt;
 use std::marker::Model;
 
 // What stands at each number.
@@ -51,7 +52,21 @@ impl<A: Copy, const N: usize> Row<A, N> {
     }
 }
 
+/// Which are in use, and for whom, as a map.
+impl<A: Drop + fmt::Debug, const N: usize> fmt::Debug for Row<A, N> {
+    fn fmt<F: fmt::Write>(&self, f: &mut fmt::Formatter<F>) -> fmt::Result {
+        let mut map = f.debug_map();
+        for (r, place) in self.places.iter().enumerate() {
+            if let Some(named) = place {
+                map.entry(&r, named);
+            }
+        }
+        map.finish()
+    }
+}
+
 /// The numbers below `N`, each free or in use for one that is named so.
+#[derive_where(Debug; A: fmt::Debug + Drop)]
 #[derive(Drop)]
 pub struct Names<A, const N: usize> {
     row: Row<A, N>,

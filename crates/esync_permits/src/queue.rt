@@ -1,5 +1,5 @@
 //! The queue of a fair semaphore: who waits, in order.
-ghost use Rattle.std.specs.Prelude.{◌≡◌, ◌<◌, ◌++◌, [], Some, None, false, length, drop, IfSome, IfNone};
+ghost use Rattle.std.specs.Prelude.{◌≡◌, ◌<◌, ◌++◌, [], Some, None, false, length, drop, map, slice_get, IfSome, IfNone};
 ghost use Rattle.esync_base.specs.Listed.{is_in};
 ghost use Rattle.esync_permits.specs.Queue.{is_front, is_next, numbers, front_wakers, entered, with_waker, left_by, IsLeastFree, StandsAt};
 
@@ -102,6 +102,17 @@ impl<W: Copy, const N: usize> Queue<W, N> {
         match self.entries.front() {
             Some(front) => front.number == number,
             None => false,
+        }
+    }
+
+    /// The waker in the entry behind the first `i` ones, if there is one.
+    pub fn waker(&self, i: usize) -> Option<W>
+        ensures { result ≡ slice_get (map (λ e. e.waker) self.now) i }
+    {
+        if i < self.entries.len() {
+            Some(self.entries.get(i).waker)
+        } else {
+            None
         }
     }
 

@@ -11,7 +11,7 @@ ghost use Rattle.esync_permits.specs.Fair.{heard, ticket_after, request_heard, g
 
 use crate::queue::Queue;
 use esync_base::kept::Kept;
-use esync_base::waitqueue::{Context, Poll, WakerRegistration, Wakes};
+use esync_base::waitqueue::{Context, Poll, Registered, WakerRegistration, Wakes};
 pub use shared::{
     Acquire, FairAcquire, FairAcquireAll, FairSemaphore, GreedyAcquire, GreedyAcquireAll,
     GreedySemaphore, PermitState, Semaphore, SemaphoreReleaser, SharedSemaphore,
@@ -108,6 +108,22 @@ impl<W: Copy + Eq> Default for GreedyState<W> {
         ensures waiter { result.waiter ≡ [] }
     {
         GreedyState::new(0)
+    }
+}
+
+/// Who waits for permits.
+impl<W: Copy + Eq> Registered for GreedyState<W> {
+    type Waker = W;
+
+    ghost use Rattle.esync_base.specs.Standing.{at_one};
+
+    ghost at = { λ m. at_one m.waiter };
+
+    fn registered(&self, place: usize, i: usize) -> Option<W> {
+        match place {
+            0 => self.waker.get(i),
+            _ => None,
+        }
     }
 }
 
@@ -363,6 +379,23 @@ impl<W: Copy + Eq, const N: usize> Default for FairState<W, N> {
         ensures entries { result.entries ≡ [] }
     {
         FairState::new(0)
+    }
+}
+
+/// Who waits in the queue, in order.
+impl<W: Copy + Eq, const N: usize> Registered for FairState<W, N> {
+    type Waker = W;
+
+    ghost use Rattle.std.specs.Prelude.{map};
+    ghost use Rattle.esync_base.specs.Standing.{at_one};
+
+    ghost at = { λ m. at_one (map (λ e. e.waker) m.entries) };
+
+    fn registered(&self, place: usize, i: usize) -> Option<W> {
+        match place {
+            0 => self.queue.waker(i),
+            _ => None,
+        }
     }
 }
 

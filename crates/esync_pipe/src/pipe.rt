@@ -13,7 +13,7 @@ pub use dynamic::{
 };
 use esync_base::kept::Kept;
 use esync_base::ring_buffer::ByteRing;
-use esync_base::waitqueue::{Context, Poll, WakerRegistration, Wakes};
+use esync_base::waitqueue::{Context, Poll, Registered, WakerRegistration, Wakes};
 pub use shared::{
     ByteState, Copied, FillBufFuture, Pipe, PipeReader, PipeWriter, ReadFuture, Reader, SharedPipe,
     WriteAllFuture, WriteFuture, Writer,
@@ -110,6 +110,23 @@ pub(crate) fn waker_of<W: Copy>(cx: Option<&Context<W>>) -> Option<W>
     match cx {
         Some(cx) => Some(cx.waker()),
         None => None,
+    }
+}
+
+/// Who waits for bytes, and who waits for room.
+impl<W: Copy + Eq, const N: usize> Registered for PipeState<W, N> {
+    type Waker = W;
+
+    ghost use Rattle.esync_base.specs.Standing.{at_two};
+
+    ghost at = { λ m. at_two m.slots.readers m.slots.writers };
+
+    fn registered(&self, place: usize, i: usize) -> Option<W> {
+        match place {
+            0 => self.read_waker.get(i),
+            1 => self.write_waker.get(i),
+            _ => None,
+        }
     }
 }
 

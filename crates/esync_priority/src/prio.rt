@@ -11,6 +11,7 @@ use esync_base::kept::Kept;
 use esync_base::store::Store;
 use std::alloc::AllocError;
 use std::cmp::Ordering;
+use std::fmt;
 use std::marker::{Model, PhantomData};
 
 /// Which of two items leaves first.
@@ -76,7 +77,8 @@ impl<T: Ord> Kind<T> for Min {
 /// At most `N` items, in places of its own: it takes no memory.
 ///
 /// They stand in a heap: the children of place p are the places 2p + 1 and 2p + 2, and none is above its parent.
-#[derive(Debug, Drop)]
+#[derive_where(Debug; T: fmt::Debug + Drop)]
+#[derive(Drop)]
 pub struct PrioQueue<T, K: Kind<T>, const N: usize> {
     items: ArrayVec<Option<T>, N>,
     kind: PhantomData<K>,

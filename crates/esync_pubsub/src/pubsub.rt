@@ -6,7 +6,7 @@ ghost use Rattle.esync_pubsub.specs.PubSub.{fresh, Subscribes, Adds, frees, list
 pub mod machine;
 
 use crate::log::Log;
-use esync_base::waitqueue::{Context, MultiWakerRegistration, Poll, Wakes};
+use esync_base::waitqueue::{Context, MultiWakerRegistration, Poll, Registered, Wakes};
 pub use handles::{
     DynImmediatePublisher, DynPublisher, DynSubscriber, ImmediatePub, ImmediatePublisher,
     NextMessagePure, Pub, PubSink, Publisher, PublisherWaitFuture, Sub, Subscriber,
@@ -101,6 +101,24 @@ impl<T, W, const CAP: usize, const SUBS: usize, const PUBS: usize> Model
     ghost view = { λ a. record { log = a.log; publishers = a.publishers; lists = record { subscribers = a.subscriber_wakers; publishers = a.publisher_wakers } } };
 
     ghost invariant = { λ a. a.publishers ≤ PUBS };
+}
+
+/// Who waits for a message, and who waits for room.
+impl<T, W: Copy + Eq, const CAP: usize, const SUBS: usize, const PUBS: usize> Registered
+    for PubSubState<T, W, CAP, SUBS, PUBS> {
+    type Waker = W;
+
+    ghost use Rattle.esync_base.specs.Standing.{at_two};
+
+    ghost at = { λ m. at_two m.lists.subscribers m.lists.publishers };
+
+    fn registered(&self, place: usize, i: usize) -> Option<W> {
+        match place {
+            0 => self.subscriber_wakers.get(i),
+            1 => self.publisher_wakers.get(i),
+            _ => None,
+        }
+    }
 }
 
 impl<T: Drop, W: Copy + Eq, const CAP: usize, const SUBS: usize, const PUBS: usize> PubSubState<

@@ -2,7 +2,7 @@
 ghost use Rattle.std.specs.Prelude.{◌≡◌, ◌<◌, vec_len, slice_set, IfSome};
 ghost use Rattle.std.specs.Borrow.{LendsIf, sem, follows_if};
 
-use esync_base::waitqueue::{Context, Poll, Wakes};
+use esync_base::waitqueue::{Context, Poll, Registered, Wakes};
 pub use shared::{
     Channel, EndsLoan, LentTo, Loan, ReceiveSlot, Receiver, SendSlot, Sender, Slot, SlotLoan,
     ZeroReceive, ZeroRequest, ZeroSend,
@@ -49,6 +49,19 @@ impl<T, W> Model for ChannelState<T, W> {
     ghost view = { λ a. record { slots = record { sides = a.turns.sides; values = a.slots.items }; waiting = a.turns.waiting } };
 
     ghost invariant = { λ a. length a.slots.items ≡ count a.turns.sides };
+}
+
+/// Who waits for a full slot, and who waits for one to fill.
+impl<T, W: Copy + Eq> Registered for ChannelState<T, W> {
+    type Waker = W;
+
+    ghost use Rattle.esync_base.specs.Standing.{at_two};
+
+    ghost at = { λ m. at_two m.waiting.receivers m.waiting.senders };
+
+    fn registered(&self, place: usize, i: usize) -> Option<W> {
+        self.turns.registered(place, i)
+    }
 }
 
 impl<T: Drop, W: Copy + Eq> ChannelState<T, W> {

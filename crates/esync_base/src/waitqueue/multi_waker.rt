@@ -1,5 +1,5 @@
 //! A list for the wakers of several tasks.
-ghost use Rattle.std.specs.Prelude.{◌≡◌, ◌↔◌, ◌+◌, ◌≤◌, ◌++◌, [], length, IsTrue};
+ghost use Rattle.std.specs.Prelude.{◌≡◌, ◌↔◌, ◌+◌, ◌≤◌, ◌++◌, [], length, IsTrue, slice_get};
 ghost use Rattle.esync_base.specs.Registration.{among, registered, displaced};
 
 use super::Wakes;
@@ -89,6 +89,13 @@ impl<W: Copy + Eq, const N: usize> MultiWakerRegistration<W, N> {
         ensures { IsTrue result ↔ (self.now ≡ []) }
     {
         self.wakers.is_empty()
+    }
+
+    /// The registered waker behind the first `i` ones, if there is one.
+    pub fn get(&self, i: usize) -> Option<W>
+        ensures { result ≡ slice_get self.now i }
+    {
+        self.wakers.get(i)
     }
 
     // A waker that equals this one is registered.

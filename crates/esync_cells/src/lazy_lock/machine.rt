@@ -7,11 +7,12 @@ ghost use Rattle.esync_cells.specs.LazyRules.{lazy_rules, lazy_wakings};
 
 use super::{LazyState, Maker};
 use esync_base::kept::Kept;
-use esync_base::waitqueue::Wakes;
+use esync_base::waitqueue::{Registered, Wakes};
 use esync_machine::primitive::{Answer, Command, Primitive, Reach, Turn};
 use esync_machine::requests::Requests;
 use esync_machine::run::{Reply, run};
 use std::alloc::{AllocError, Global};
+use std::fmt;
 use std::marker::{Model, PhantomData};
 
 /// Nobody waits for the value: no request is ever made.
@@ -27,6 +28,7 @@ pub enum LazyCall {
 }
 
 /// A value that is made when it is first asked for, until it is taken out.
+#[derive_where(Debug; T: fmt::Debug + Drop, M: fmt::Debug + Drop)]
 #[derive(Drop)]
 pub struct LazyHolder<T, M, W> {
     state: Option<LazyState<T, M>>,
@@ -55,6 +57,19 @@ impl<T: Copy, M: Copy, W> Kept for LazyHolder<T, M, W> {
             state,
             wakers: PhantomData,
         })
+    }
+}
+
+/// Nobody: nobody waits for the value.
+impl<T, M, W> Registered for LazyHolder<T, M, W> {
+    type Waker = W;
+
+    ghost use Rattle.std.specs.Prelude.{[]};
+
+    ghost at = { λ m place. [] };
+
+    fn registered(&self, _place: usize, _i: usize) -> Option<W> {
+        None
     }
 }
 

@@ -13,12 +13,13 @@ ghost use Rattle.esync_cells.specs.WatchNews.{TellsOnce};
 
 use super::{Change, Exhausted, Judge, WatchState};
 use esync_base::kept::Kept;
-use esync_base::waitqueue::{Context, Poll, Wakes};
+use esync_base::waitqueue::{Context, Poll, Registered, Wakes};
 use esync_machine::names::Names;
 use esync_machine::primitive::{Answer, Command, Primitive, Reach, Turn};
 use esync_machine::requests::Requests;
 use esync_machine::run::{Reply, run};
 use std::alloc::{AllocError, Global};
+use std::fmt;
 use std::marker::{Model, PhantomData};
 
 /// A receiver: whether it is counted, and the version that it has seen.
@@ -147,6 +148,7 @@ fn drop_counted<T: Drop, W: Copy + Eq, const N: usize>(
 }
 
 /// A watch with its receivers, at the numbers below `NAMES`; at most `N` are counted.
+#[derive_where(Debug; T: fmt::Debug + Drop, W: fmt::Debug)]
 #[derive(Drop)]
 pub struct Watched<T, W, C, J, const N: usize, const NAMES: usize> {
     state: WatchState<T, W, N>,
@@ -165,6 +167,19 @@ impl<T, W, C, J, const N: usize, const NAMES: usize> Model for Watched<T, W, C, 
     ghost view = { λ a. record { state = a.state; receivers = a.receivers } };
 
     ghost invariant = { λ a. IsCounted NAMES a.state.receivers a.receivers };
+}
+
+impl<T, W: Copy + Eq, C, J, const N: usize, const NAMES: usize> Registered
+    for Watched<T, W, C, J, N, NAMES> {
+    type Waker = W;
+
+    ghost use Rattle.esync_base.specs.Standing.{at_one};
+
+    ghost at = { λ m. at_one m.state.waiters };
+
+    fn registered(&self, place: usize, i: usize) -> Option<W> {
+        self.state.registered(place, i)
+    }
 }
 
 impl<T: Copy, W: Copy, C: Drop, J: Drop, const N: usize, const NAMES: usize> Kept

@@ -6,11 +6,12 @@ ghost use Rattle.esync_guards.specs.MutexRules.{mutex_rules, mutex_wakings, Trie
 
 use super::{MutexState, Projection, TryLockError, put_part};
 use esync_base::kept::Kept;
-use esync_base::waitqueue::{Context, Poll, Wakes};
+use esync_base::waitqueue::{Context, Poll, Registered, Wakes};
 use esync_machine::primitive::{Answer, Command, Primitive, Reach, Turn};
 use esync_machine::requests::Requests;
 use esync_machine::run::{Reply, run};
 use std::alloc::{AllocError, Global};
+use std::fmt;
 use std::marker::{Model, PhantomData};
 
 /// A request for the lock.
@@ -57,6 +58,7 @@ pub enum MutexHeard<T, U> {
 }
 
 /// A mutex with its value, and the part that a guard can be narrowed to.
+#[derive_where(Debug; T: fmt::Debug + Drop, P: fmt::Debug + Drop, W: fmt::Debug)]
 #[derive(Drop)]
 pub struct Guarded<T, U, P, W> {
     lock: MutexState<W>,
@@ -83,6 +85,18 @@ impl<T: Copy, U, P: Copy, W: Copy> Kept for Guarded<T, U, P, W> {
             projection: self.projection,
             part: PhantomData,
         })
+    }
+}
+
+impl<T, U, P, W: Copy + Eq> Registered for Guarded<T, U, P, W> {
+    type Waker = W;
+
+    ghost use Rattle.esync_base.specs.Standing.{at_one};
+
+    ghost at = { λ m. at_one m.lock.waiter };
+
+    fn registered(&self, place: usize, i: usize) -> Option<W> {
+        self.lock.registered(place, i)
     }
 }
 

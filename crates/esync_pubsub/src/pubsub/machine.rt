@@ -12,12 +12,13 @@ ghost use Rattle.esync_pubsub.specs.PubSub.{PubSub, fresh, frees};
 ghost use Rattle.esync_pubsub.specs.PubSubRules.{topic_of, is_free, is_subscriber, is_publisher, is_of_subscriber, is_of_publisher, leaves, place_at, names_it, departed, most_wakes, Where, WithLog, Comes, Counts, TriesPublish, AtOnce, Tries, TriesPure, Calls, Polls, room_hands, immediate_of, immediate_hands, call_hands, reach, rest_of, publish_of, read_of, pure_of, stream_of, publish_hands, read_hands, pure_hands, stream_hands, poll_hands, pubsub_rules, pubsub_wakings, PollsPublish, PollsMessage, PollsPure, PollsStream, PollsLog};
 
 use super::{Error, Exhausted, PubSubState, SubId, TryPublishError, WaitResult};
-use esync_base::waitqueue::{Context, Poll, Wakes};
+use esync_base::waitqueue::{Context, Poll, Registered, Wakes};
 use esync_machine::names::Names;
 use esync_machine::primitive::{Answer, Command, Primitive, Reach, Turn};
 use esync_machine::requests::Requests;
 use esync_machine::run::{Reply, run};
 use std::alloc::{AllocError, Global};
+use std::fmt;
 use std::marker::Model;
 
 mod kept;
@@ -209,7 +210,7 @@ fn refused<T>(ask: PubSubAsk<T>) -> Turn<PubSubHeard<T>, PubSubAsk<T>>
 }
 
 /// The numbers below `NAMES`: for each subscriber its place, and which ones are publishers.
-#[derive(Drop)]
+#[derive(Debug, Drop)]
 pub struct Tables<const NAMES: usize> {
     subscribers: Names<usize, NAMES>,
     publishers: Names<(), NAMES>,
@@ -765,6 +766,7 @@ impl<
 }
 
 /// A channel for many in which subscribers and publishers have numbers below `NAMES`.
+#[derive_where(Debug; S: fmt::Debug)]
 #[derive(Drop)]
 pub struct Events<S: PubSubSteps<NAMES, K>, const NAMES: usize, const K: usize> {
     state: S,
@@ -781,6 +783,17 @@ impl<S: PubSubSteps<NAMES, K>, const NAMES: usize, const K: usize> Model for Eve
     ghost view = { λ a. record { state = a.state; tables = a.tables } };
 
     ghost invariant = { λ a. AreNamed S.messages S.publishers NAMES (S.value a.state) a.tables };
+}
+
+impl<S: PubSubSteps<NAMES, K> + Registered, const NAMES: usize, const K: usize> Registered
+    for Events<S, NAMES, K> {
+    type Waker = <S as Registered>::Waker;
+
+    ghost at = { λ m. S.at m.state };
+
+    fn registered(&self, place: usize, i: usize) -> Option<<S as Registered>::Waker> {
+        self.state.registered(place, i)
+    }
 }
 
 impl<S: PubSubSteps<NAMES, K>, const NAMES: usize, const K: usize> Events<S, NAMES, K> {

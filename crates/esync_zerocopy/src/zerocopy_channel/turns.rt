@@ -5,7 +5,7 @@ ghost use Rattle.esync_base.specs.Ring.{next};
 ghost use Rattle.esync_zerocopy.specs.Slots.{all_spare, count, other, before, is_out, with_out, out_if, done_by, cleared, cleared_if, waits_at, with_waits, waiting_unless, wakes_unless, waiting_if_cleared, wakes_if_cleared, ring_from, IsRound, EachOnce};
 
 use super::{Side, SlotLent};
-use esync_base::waitqueue::{Context, Poll, WakerRegistration, Wakes};
+use esync_base::waitqueue::{Context, Poll, Registered, WakerRegistration, Wakes};
 use std::marker::Model;
 
 mod kept;
@@ -83,6 +83,22 @@ impl<W> Model for Turns<W> {
     } };
 
     ghost invariant = { λ a. IsRound a.capacity a.spare.first a.spare.len a.held.first a.held.len × (a.spare.first < a.capacity) × (a.held.first < a.capacity) };
+}
+
+impl<W: Copy + Eq> Registered for Turns<W> {
+    type Waker = W;
+
+    ghost use Rattle.esync_base.specs.Standing.{at_two};
+
+    ghost at = { λ m. at_two m.waiting.receivers m.waiting.senders };
+
+    fn registered(&self, place: usize, i: usize) -> Option<W> {
+        match place {
+            0 => self.receive_waker.get(i),
+            1 => self.send_waker.get(i),
+            _ => None,
+        }
+    }
 }
 
 impl<W: Copy + Eq> Turns<W> {
