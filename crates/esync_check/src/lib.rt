@@ -40,7 +40,12 @@ pub fn check_script(alloc: Global, text: &str) -> Result<Verdict, Unchecked>
 {
     let recording = Recording::read(alloc, text)?;
     let mut given = Vec::new(alloc);
-    let outcome = play_text(alloc, &Replies {}, recording.script.as_str(), &mut given);
+    let outcome = play_text(
+        alloc,
+        &mut Replies {},
+        recording.script.as_str(),
+        &mut given,
+    );
     judge(alloc, &recording, &given, outcome)
 }
 

@@ -59,7 +59,7 @@ pub struct SyncRun {}
 impl Player for SyncRun {
     fn play(&self, alloc: Global, script: &str) -> Result<String, Fault> {
         let mut output = Vec::new(alloc);
-        play_text(alloc, &Replies {}, script, &mut output)?;
+        play_text(alloc, &mut Replies {}, script, &mut output)?;
         String::from_utf8(output).map_err(|_| Fault::InputOutput)
     }
 }

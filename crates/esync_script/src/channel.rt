@@ -1,7 +1,7 @@
 //! The words of a channel and of a priority channel.
 use esync_channel::channel::machine::{ChannelAsk, ChannelCall, ChannelHeard};
 use esync_channel::channel::{TryReceiveError, TrySendError};
-use esync_words::vocabulary::Vocabulary;
+use esync_words::vocabulary::{Place, Vocabulary};
 use esync_words::words::Words;
 use std::io::{self, Write};
 
@@ -55,6 +55,14 @@ impl Vocabulary for ChannelWords {
             ChannelHeard::TryReceived(Ok(message)) => write!(output, "Ok({message})"),
             ChannelHeard::TryReceived(Err(TryReceiveError::Empty)) => write!(output, "Err(Empty)"),
             ChannelHeard::Number(number) => write!(output, "{number}"),
+        }
+    }
+
+    fn place(number: usize) -> Option<Place> {
+        match number {
+            0 => Some(Place::of("the receivers", "a message came")),
+            1 => Some(Place::of("the senders", "there may be room")),
+            _ => None,
         }
     }
 }

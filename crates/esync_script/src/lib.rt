@@ -6,6 +6,7 @@ ghost use Rattle.esync_script.specs.Opening.{PlaysScript, EndsScript, status_of_
 
 use esync_priority::prio::{Kind, Max, Min};
 use esync_words::diagram::{Diagram, Pages};
+use esync_words::explain::Explained;
 use esync_words::fault::Fault;
 use esync_words::lines::Lines;
 use esync_words::play::{Replies, Telling};
@@ -47,7 +48,7 @@ pub fn script<R: Read + Drop, W: Write + Drop, E: Write + Drop>(
 ) -> u8
     ensures { (outcome : Result (Unit {0}) Fault) × (result ≡ status_of_outcome outcome) × EndsScript ⟦<u64 as PartialEq>⟧.eq ⟦<Replies as Telling>⟧.tells ⟦<Max as Kind<u32>>⟧.above ⟦<Min as Kind<u32>>⟧.above ⟦<Replies as Telling>⟧.opening ⟦<Replies as Telling>⟧.closing (R.remaining input) outcome }
 {
-    run(alloc, &Replies {}, input, output, errors)
+    run(alloc, &mut Replies {}, input, output, errors)
 }
 
 /// Reads a script, writes it as a sequence diagram in the language of Mermaid, and returns the status, as `script` does.
@@ -63,7 +64,7 @@ pub fn trace<R: Read + Drop, W: Write + Drop, E: Write + Drop>(
 ) -> u8
     ensures { (outcome : Result (Unit {0}) Fault) × (result ≡ status_of_outcome outcome) × EndsScript ⟦<u64 as PartialEq>⟧.eq ⟦<Diagram as Telling>⟧.tells ⟦<Max as Kind<u32>>⟧.above ⟦<Min as Kind<u32>>⟧.above ⟦<Diagram as Telling>⟧.opening ⟦<Diagram as Telling>⟧.closing (R.remaining input) outcome }
 {
-    run(alloc, &Diagram {}, input, output, errors)
+    run(alloc, &mut Diagram {}, input, output, errors)
 }
 
 /// Reads a script, writes it as a document of Markdown, and returns the status, as `script` does.
@@ -78,7 +79,26 @@ pub fn trace_pages<R: Read + Drop, W: Write + Drop, E: Write + Drop>(
 ) -> u8
     ensures { (outcome : Result (Unit {0}) Fault) × (result ≡ status_of_outcome outcome) × EndsScript ⟦<u64 as PartialEq>⟧.eq ⟦<Pages as Telling>⟧.tells ⟦<Max as Kind<u32>>⟧.above ⟦<Min as Kind<u32>>⟧.above ⟦<Pages as Telling>⟧.opening ⟦<Pages as Telling>⟧.closing (R.remaining input) outcome }
 {
-    run(alloc, &Pages {}, input, output, errors)
+    run(alloc, &mut Pages {}, input, output, errors)
+}
+
+/// Reads a script, writes what its commands are answered, each behind its line and its number, and returns the status, as
+/// `script` does. To `notes` it writes, behind each answer, for each waker that was handed out where it stood and why it was
+/// told, and what the primitive holds: its object, its requests, and who is registered where.
+///
+/// Neither is buffered, so `notes` may be where `output` is. No contract says what stands in the notes.
+pub fn explain<R: Read + Drop, W: Write + Drop, N: Write + Drop, E: Write + Drop>(
+    alloc: Global,
+    input: R,
+    mut output: W,
+    notes: N,
+    errors: E,
+) -> u8
+    ensures { (outcome : Result (Unit {0}) Fault) × (result ≡ status_of_outcome outcome) × EndsScript ⟦<u64 as PartialEq>⟧.eq ⟦<Explained<N> as Telling>⟧.tells ⟦<Max as Kind<u32>>⟧.above ⟦<Min as Kind<u32>>⟧.above ⟦<Explained<N> as Telling>⟧.opening ⟦<Explained<N> as Telling>⟧.closing (R.remaining input) outcome }
+{
+    let mut explained = Explained::new(alloc, notes);
+    let outcome = play_script(alloc, &mut explained, input, &mut output);
+    status(outcome, errors)
 }
 
 /// Plays a whole script, and writes what `telling` tells of it.
@@ -88,7 +108,7 @@ pub fn trace_pages<R: Read + Drop, W: Write + Drop, E: Write + Drop>(
 /// before have been played.
 pub fn play_script<T: Telling, R: Read + Drop, W: Write>(
     alloc: Global,
-    telling: &T,
+    telling: &mut T,
     input: R,
     output: &mut W,
 ) -> Result<(), Fault>
@@ -105,7 +125,7 @@ pub fn play_script<T: Telling, R: Read + Drop, W: Write>(
 /// No read or write of it fails: an error says which line is no command, or that memory was refused, be it for `output`.
 pub fn play_text<T: Telling>(
     alloc: Global,
-    telling: &T,
+    telling: &mut T,
     text: &str,
     output: &mut Vec<u8>,
 ) -> Result<(), Fault>
@@ -120,14 +140,21 @@ pub fn play_text<T: Telling>(
 
 fn run<T: Telling, R: Read + Drop, W: Write + Drop, E: Write + Drop>(
     alloc: Global,
-    telling: &T,
+    telling: &mut T,
     input: R,
     output: W,
-    mut errors: E,
+    errors: E,
 ) -> u8
     ensures { (outcome : Result (Unit {0}) Fault) × (result ≡ status_of_outcome outcome) × EndsScript ⟦<u64 as PartialEq>⟧.eq T.tells ⟦<Max as Kind<u32>>⟧.above ⟦<Min as Kind<u32>>⟧.above T.opening T.closing (R.remaining input) outcome }
 {
-    match perform(alloc, telling, input, output) {
+    status(perform(alloc, telling, input, output), errors)
+}
+
+// The status that tells how a script ended, and to `errors` why, where it didn't end with its last line.
+fn status<E: Write + Drop>(outcome: Result<(), Fault>, mut errors: E) -> u8
+    ensures { result ≡ status_of_outcome outcome }
+{
+    match outcome {
         Ok(()) => 0,
         Err(fault) => {
             let _ = report(&mut errors, &fault);
@@ -143,7 +170,7 @@ fn report<E: Write>(errors: &mut E, fault: &Fault) -> io::Result<()> {
 
 fn perform<T: Telling, R: Read + Drop, W: Write + Drop>(
     alloc: Global,
-    telling: &T,
+    telling: &mut T,
     input: R,
     output: W,
 ) -> Result<(), Fault>

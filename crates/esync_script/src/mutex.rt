@@ -1,7 +1,7 @@
 //! The words of a mutex.
 use esync_guards::mutex::TryLockError;
 use esync_guards::mutex::machine::{Lock, MutexCall, MutexHeard};
-use esync_words::vocabulary::Vocabulary;
+use esync_words::vocabulary::{Place, Vocabulary};
 use esync_words::words::Words;
 use std::io::{self, Write};
 
@@ -54,6 +54,13 @@ impl Vocabulary for MutexWords {
             MutexHeard::Tried(Err(TryLockError)) => write!(output, "Err(TryLockError)"),
             MutexHeard::Value((value, part)) => write!(output, "({value},{part})"),
             MutexHeard::Part(part) => write!(output, "({part})"),
+        }
+    }
+
+    fn place(number: usize) -> Option<Place> {
+        match number {
+            0 => Some(Place::of("the waiter", "the lock is free")),
+            _ => None,
         }
     }
 }

@@ -22,6 +22,7 @@ use crate::watch::{Adds, Below, WatchWords};
 use crate::zerocopy::ZeroWords;
 use esync_base::deque::Deque;
 use esync_base::store::Store;
+use esync_base::waitqueue::Registered;
 use esync_cells::lazy_lock::Given;
 use esync_cells::lazy_lock::machine::{LazyHolder, LazyRun};
 use esync_cells::once_lock::OnceState;
@@ -51,6 +52,7 @@ use esync_words::words::Words;
 use esync_zerocopy::zerocopy_channel::ChannelState;
 use esync_zerocopy::zerocopy_channel::machine::ZeroRun;
 use std::alloc::{AllocError, Global};
+use std::fmt::Debug;
 use std::io::{Read, Write};
 
 /// How much a primitive holds, of the capacities that a script can ask for.
@@ -146,14 +148,14 @@ impl Opens for Opening {
 
 // Plays the lines behind line 1 over this machine.
 fn serve<V, M, T, R, W>(
-    telling: &T,
+    telling: &mut T,
     machine: M,
     lines: &mut Lines<R>,
     output: &mut W,
 ) -> Result<(), Fault>
 where
     V: Vocabulary,
-    M: Machine<Command = Command<V::Ask, u64, V::Call>> + Drop,
+    M: Machine<Command = Command<V::Ask, u64, V::Call>> + Registered<Waker = u64> + Debug + Drop,
     M::Reply: Parts<V::Heard> + Drop,
     T: Telling,
     R: Read + Drop,
@@ -293,7 +295,7 @@ macro_rules! serve_list {
 }
 
 fn serve_channel<T: Telling, R: Read + Drop, W: Write>(
-    telling: &T,
+    telling: &mut T,
     capacity: Capacity,
     lines: &mut Lines<R>,
     output: &mut W,
@@ -316,7 +318,7 @@ macro_rules! serve_bag {
 }
 
 fn serve_priority<P: Kind<u32>, T: Telling, R: Read + Drop, W: Write>(
-    telling: &T,
+    telling: &mut T,
     capacity: Capacity,
     lines: &mut Lines<R>,
     output: &mut W,
@@ -334,7 +336,7 @@ macro_rules! serve_queue {
 }
 
 fn serve_fair<T: Telling, R: Read + Drop, W: Write>(
-    telling: &T,
+    telling: &mut T,
     capacity: Capacity,
     permits: usize,
     lines: &mut Lines<R>,
@@ -353,7 +355,7 @@ macro_rules! serve_bytes {
 }
 
 fn serve_pipe<T: Telling, R: Read + Drop, W: Write>(
-    telling: &T,
+    telling: &mut T,
     capacity: Capacity,
     lines: &mut Lines<R>,
     output: &mut W,
@@ -376,7 +378,7 @@ macro_rules! serve_log {
 }
 
 fn serve_pubsub<T: Telling, R: Read + Drop, W: Write>(
-    telling: &T,
+    telling: &mut T,
     capacity: Capacity,
     first: u64,
     lines: &mut Lines<R>,
@@ -403,7 +405,7 @@ fn places_of(capacity: Capacity) -> usize
 
 fn serve_zerocopy<T: Telling, R: Read + Drop, W: Write>(
     alloc: Global,
-    telling: &T,
+    telling: &mut T,
     capacity: Capacity,
     lines: &mut Lines<R>,
     output: &mut W,
@@ -424,7 +426,7 @@ macro_rules! serve_value {
 }
 
 fn serve_watch<T: Telling, R: Read + Drop, W: Write>(
-    telling: &T,
+    telling: &mut T,
     capacity: Capacity,
     value: Option<u32>,
     lines: &mut Lines<R>,
@@ -438,7 +440,7 @@ fn serve_watch<T: Telling, R: Read + Drop, W: Write>(
 // Makes the primitive that line 1 names, and plays the lines behind it.
 fn serve_opening<T: Telling, R: Read + Drop, W: Write>(
     alloc: Global,
-    telling: &T,
+    telling: &mut T,
     opening: Opening,
     lines: &mut Lines<R>,
     output: &mut W,
@@ -468,7 +470,7 @@ fn serve_opening<T: Telling, R: Read + Drop, W: Write>(
 
 // Writes what comes behind lines that were played so, unless a write has failed.
 fn close<T: Telling, W: Write>(
-    telling: &T,
+    telling: &mut T,
     played: Result<(), Fault>,
     output: &mut W,
 ) -> Result<(), Fault>
@@ -484,7 +486,7 @@ fn close<T: Telling, W: Write>(
 /// Plays a whole script, whose lines haven't been read.
 pub fn play_lines<T: Telling, R: Read + Drop, W: Write>(
     alloc: Global,
-    telling: &T,
+    telling: &mut T,
     lines: &mut Lines<R>,
     output: &mut W,
 ) -> Result<(), Fault>

@@ -8,7 +8,7 @@ use esync_pipe::bytes::Bytes;
 use esync_pipe::pipe::machine::{PipeAsk, PipeCall, PipeHeard};
 use esync_pipe::pipe::{TryReadError, TryWriteError};
 use esync_words::printing::print_bytes;
-use esync_words::vocabulary::Vocabulary;
+use esync_words::vocabulary::{Place, Vocabulary};
 use esync_words::words::Words;
 use std::io::{self, Write};
 
@@ -102,6 +102,14 @@ impl Vocabulary for PipeWords {
             PipeHeard::HasTriedRead(read) => print_tried(read, output),
             PipeHeard::TryFilled(filled) => print_tried(filled, output),
             PipeHeard::Number(number) => write!(output, "{number}"),
+        }
+    }
+
+    fn place(number: usize) -> Option<Place> {
+        match number {
+            0 => Some(Place::of("the readers", "bytes came")),
+            1 => Some(Place::of("the writers", "there may be room")),
+            _ => None,
         }
     }
 }

@@ -6,7 +6,7 @@ ghost use Rattle.esync_script.specs.PubSub.{read_text};
 use esync_pubsub::pubsub::machine::{PubSubAsk, PubSubCall, PubSubHeard};
 use esync_pubsub::pubsub::{Error, TryPublishError, WaitResult};
 use esync_words::printing::print_option;
-use esync_words::vocabulary::Vocabulary;
+use esync_words::vocabulary::{Place, Vocabulary};
 use esync_words::words::Words;
 use std::io::{self, Write};
 
@@ -95,6 +95,14 @@ impl Vocabulary for PubSubWords {
             PubSubHeard::TriedPure(found) => print_option(found.map(u64::from), output),
             PubSubHeard::Unread(count) => write!(output, "{count}"),
             PubSubHeard::Number(number) => write!(output, "{number}"),
+        }
+    }
+
+    fn place(number: usize) -> Option<Place> {
+        match number {
+            0 => Some(Place::of("the subscribers", "a message came")),
+            1 => Some(Place::of("the publishers", "there may be room")),
+            _ => None,
         }
     }
 }

@@ -7,7 +7,7 @@ ghost use Rattle.esync_script.specs.Semaphore.{permit_asks, permit_calls};
 use esync_permits::semaphore::machine::{PermitCall, PermitHeard};
 use esync_permits::semaphore::{Amount, WaitQueueFull};
 use esync_words::printing::print_option;
-use esync_words::vocabulary::Vocabulary;
+use esync_words::vocabulary::{Place, Vocabulary};
 use esync_words::words::Words;
 use std::io::{self, Write};
 
@@ -83,6 +83,13 @@ impl Vocabulary for GreedyWords {
             PermitHeard::Count(permits) => write!(output, "{permits}"),
         }
     }
+
+    fn place(number: usize) -> Option<Place> {
+        match number {
+            0 => Some(Place::of("the waiter", "permits came")),
+            _ => None,
+        }
+    }
 }
 
 /// The words of a fair semaphore.
@@ -120,6 +127,17 @@ impl Vocabulary for FairWords {
             PermitHeard::Granted(Err(WaitQueueFull)) => write!(output, "Ready(Err(WaitQueueFull))"),
             PermitHeard::Tried(tried) => print_tried(*tried, output),
             PermitHeard::Count(permits) => write!(output, "{permits}"),
+        }
+    }
+
+    fn place(number: usize) -> Option<Place> {
+        match number {
+            0 => Some(Place {
+                name: "the queue",
+                event: "it is in front, and permits came or who was before it left",
+                stays: true,
+            }),
+            _ => None,
         }
     }
 }

@@ -1,7 +1,7 @@
 //! The words of a signal.
 use esync_cells::signal::machine::{SignalCall, SignalHeard, Wait};
 use esync_words::printing::print_option;
-use esync_words::vocabulary::Vocabulary;
+use esync_words::vocabulary::{Place, Vocabulary};
 use esync_words::words::Words;
 use std::io::{self, Write};
 
@@ -46,6 +46,13 @@ impl Vocabulary for SignalWords {
             SignalHeard::Taken(taken) => print_option(taken.map(u64::from), output),
             SignalHeard::Signaled(true) => write!(output, "true"),
             SignalHeard::Signaled(false) => write!(output, "false"),
+        }
+    }
+
+    fn place(number: usize) -> Option<Place> {
+        match number {
+            0 => Some(Place::of("the waiter", "a value came")),
+            _ => None,
         }
     }
 }

@@ -5,7 +5,7 @@ ghost use Rattle.esync_script.specs.Watch.{watch_asks, watch_reads};
 use esync_cells::watch::machine::{Await, Reading, WatchCall, WatchHeard};
 use esync_cells::watch::{Change, Judge};
 use esync_words::printing::print_option;
-use esync_words::vocabulary::Vocabulary;
+use esync_words::vocabulary::{Place, Vocabulary};
 use esync_words::words::Words;
 use std::io::{self, Write};
 
@@ -150,6 +150,13 @@ impl Vocabulary for WatchWords {
             WatchHeard::Version(version) => write!(output, "{version}"),
             WatchHeard::HasValue(true) => write!(output, "true"),
             WatchHeard::HasValue(false) => write!(output, "false"),
+        }
+    }
+
+    fn place(number: usize) -> Option<Place> {
+        match number {
+            0 => Some(Place::of("the receivers", "a newer value came")),
+            _ => None,
         }
     }
 }

@@ -3,7 +3,7 @@ ghost use Rattle.std.specs.Prelude.{◌≡◌, OnOk};
 ghost use Rattle.std.specs.Io.KnownBytes.{Appends};
 ghost use Rattle.esync_script.specs.Zerocopy.{lent_text};
 
-use esync_words::vocabulary::Vocabulary;
+use esync_words::vocabulary::{Place, Vocabulary};
 use esync_words::words::Words;
 use esync_zerocopy::zerocopy_channel::machine::{Lent, ZeroCall, ZeroHeard};
 use esync_zerocopy::zerocopy_channel::{Side, SlotLent};
@@ -76,6 +76,14 @@ impl Vocabulary for ZeroWords {
             ZeroHeard::Cleared(Ok(())) => write!(output, "Ok"),
             ZeroHeard::Cleared(Err(SlotLent)) => write!(output, "Err(SlotLent)"),
             ZeroHeard::Count(count) => write!(output, "{count}"),
+        }
+    }
+
+    fn place(number: usize) -> Option<Place> {
+        match number {
+            0 => Some(Place::of("the receivers", "a slot is held")),
+            1 => Some(Place::of("the senders", "a slot is spare")),
+            _ => None,
         }
     }
 }

@@ -1,6 +1,6 @@
 -- What a script has said so far.
-use Rattle.std.proofs.Common.{◌≡◌, ℕ, ◌+◌, ◌-◌, ◌^◌, ◌<◌, ◌≤◌, ◌⊎◌, inl, inr, Bool, true, false, List, [], ◌∷◌, ◌++◌, length, Option, Some, None, refl, ap, sym, ◌∙◌, subst, arith, append_assoc, append-nil, nat_lt}
-use Rattle.std.specs.Prelude.{Result, Ok, Err, IsErr, min, IfSome, not}
+use Rattle.std.proofs.Common.{◌≡◌, ℕ, ◌<◌, ◌≤◌, ◌⊎◌, inl, inr, Bool, true, false, List, [], ◌∷◌, ◌++◌, length, Option, Some, None, refl, ap, sym, ◌∙◌, subst, arith, append_assoc, append-nil, nat_lt}
+use Rattle.std.specs.Prelude.{Result, Ok, Err, IsErr, IfSome}
 use Rattle.std.specs.Result.{IsErrAnd}
 use Rattle.std.specs.Str.{IsUtf8, is_utf8}
 use Rattle.std.proofs.lemmas.Str.{IsUtf8-from_is_utf8, is_utf8-from_IsUtf8}
@@ -14,7 +14,7 @@ use Rattle.esync_words.specs.declared.fault.Fault.{Fault}
 use Rattle.esync_words.specs.declared.fault.Fault.TheVariants.{NotACommand, InputOutput, OutOfMemory}
 use Rattle.esync_words.specs.Lines.{Source, IsRead, first_line, other_lines}
 use Rattle.esync_words.specs.Words.{words_of}
-use Rattle.esync_words.specs.Commands.{says, named, is_readable}
+use Rattle.esync_words.specs.Commands.{says, named}
 use Rattle.esync_words.specs.Played.{IsJudged, Reads, AreSaid, told, Ends, Played, line_number, next_number}
 use Rattle.esync_words.proofs.Known.{appends_nothing, appends_kept, appends_more}
 

@@ -10,4 +10,5 @@ pub mod CommandsLaws
 pub mod Text
 pub mod Tells
 pub mod Diagram
+pub mod Explained
 pub mod Played

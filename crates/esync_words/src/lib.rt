@@ -2,6 +2,7 @@
 #![tactic(auto)]
 
 pub mod diagram;
+pub mod explain;
 pub mod fault;
 pub mod lines;
 pub mod play;

@@ -12,8 +12,10 @@ use crate::lines::Lines;
 use crate::printing::print_reply;
 use crate::vocabulary::{Vocabulary, read_command};
 use crate::words::Words;
+use esync_base::waitqueue::Registered;
 use esync_machine::primitive::{Answer, Command};
 use esync_machine::run::{Machine, Reply};
+use std::fmt::Debug;
 use std::io::{Read, Write};
 
 /// Who gives a command.
@@ -71,6 +73,18 @@ pub trait Telling {
     ) -> Result<(), Fault>
         ensures ok { OnOk result (Appends (W.contents output.old) (W.contents output.new) (tells V.Heard V.text number line.now giver answer.now (items_of wakers.now))) }
         ensures err { IfErr result (λ fault. IsJudged (Err fault) → ⊥) };
+
+    /// Looks at the machine behind a line that was told. It may note what it sees, but not in the output.
+    fn look<V: Vocabulary, M: Registered<Waker = u64> + Debug>(
+        &mut self,
+        _giver: Giver,
+        _wakers: &[Option<u64>],
+        _machine: &M,
+    ) -> Result<(), Fault>
+        ensures { IfErr result (λ fault. IsJudged (Err fault) → ⊥) }
+    {
+        Ok(())
+    }
 
     /// Writes what comes behind the last line.
     fn close<W: Write>(&self, output: &mut W) -> Result<(), Fault>
@@ -189,14 +203,14 @@ pub fn open<O: Opens, T: Telling, R: Read + Drop, W: Write>(
 /// Gives each line that is left of a script to the machine as a command, until its end or the first line that is none, and tells what
 /// comes of it.
 pub fn play<V, M, T, R, W>(
-    telling: &T,
+    telling: &mut T,
     machine: &mut M,
     lines: &mut Lines<R>,
     output: &mut W,
 ) -> Result<(), Fault>
 where
     V: Vocabulary,
-    M: Machine<Command = Command<V::Ask, u64, V::Call>>,
+    M: Machine<Command = Command<V::Ask, u64, V::Call>> + Registered<Waker = u64> + Debug,
     M::Reply: Parts<V::Heard> + Drop,
     T: Telling,
     R: Read + Drop,
@@ -216,6 +230,7 @@ where
         let giver = given_by(&command);
         let reply = machine.step(command);
         telling.tell::<V, W>(number, line, giver, reply.answer(), reply.wakers(), output)?;
+        telling.look::<V, M>(giver, reply.wakers(), machine)?;
     }
     // No input has so many lines.
     Err(Fault::InputOutput)

@@ -12,6 +12,27 @@ use std::io::{self, Write};
 /// How many requests a script can have at a time. Their numbers are those below.
 pub const REQS: usize = 16;
 
+/// A place at which wakers are registered, in the words of an explanation.
+#[derive(Clone, Copy, Debug, PartialEq, Eq)]
+pub struct Place {
+    pub name: &'static str,
+    /// Why who stands there is told.
+    pub event: &'static str,
+    /// Who is told stays there.
+    pub stays: bool,
+}
+
+impl Place {
+    /// One that who is told leaves.
+    pub fn of(name: &'static str, event: &'static str) -> Self {
+        Place {
+            name,
+            event,
+            stays: false,
+        }
+    }
+}
+
 /// The words of a primitive: how its asks and its calls are said, and what is printed of what it answers.
 pub trait Vocabulary {
     type Ask: Drop;
@@ -40,6 +61,11 @@ pub trait Vocabulary {
     /// Writes the text of an answer.
     fn print<W: Write>(heard: &Self::Heard, output: &mut W) -> io::Result<()>
         ensures { OnOk result (Appends (W.contents output.old) (W.contents output.new) (text heard.now)) };
+
+    /// The place of this number at which its wakers are registered, if there is one. The numbers have no gap.
+    fn place(_number: usize) -> Option<Place> {
+        None
+    }
 }
 
 /// The command that a line of these words says.

@@ -1,6 +1,6 @@
 use Rattle.std.proofs.Common.{sym, ◌∙◌, ap}
 use Rattle.esync_words.specs.declared.fault.Fault.TheVariants.{NotACommand}
-use Rattle.esync_words.proofs.Played.{says_words, no_line, bad_line, unsaid_line, good_line, handed_on_by}
+use Rattle.esync_words.proofs.Played.{says_words, no_line, bad_line, good_line, handed_on_by}
 use Rattle.esync_words.proofs.Known.{appends_kept_before}
 use Rattle.esync_words.proofs.play.open.Goals as goal
 

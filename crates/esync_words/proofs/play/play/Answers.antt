@@ -1,4 +1,4 @@
-use Rattle.std.proofs.Common.{subst, sym, ◌∙◌}
+use Rattle.std.proofs.Common.{sym, ◌∙◌}
 use Rattle.esync_words.specs.Commands.{says, command}
 use Rattle.esync_words.specs.Tells.{tells_of}
 use Rattle.esync_words.proofs.Played.{nothing_so_far, more_so_far, kept_so_far, ends_so, ends_untold, handed_on, says_words, at_end, is_there, unreadable, unsaid}
@@ -44,3 +44,10 @@ loop-preserved g c =
 pub returns-clause-played : goal.returns-clause-played
 returns-clause-played g c =
     ends_so g.M.Machine.semantics (says (command g.V.Vocabulary.asks g.V.Vocabulary.calls)) (tells_of g.M.Reply.Parts.answer g.M.Reply.Parts.wakes (g.T.Telling.tells _ g.V.Vocabulary.text)) g.met.M.Machine.idle _ _ _ _ _ _ _ _ _ c.loop.invariant (λ r e. tt)
+
+pub returns-in_err-look-clause-played : goal.returns-in_err-look-clause-played
+returns-in_err-look-clause-played g c =
+    let l = c.in_ok-line.ensures in
+    let o = handed_on c.from_residual-in_err-look.result c.in_err-look.field-0.0 c.from_residual-in_err-look.ensures in
+    let said = sym c.read_command.ensures ∙ c.in-Some.is in
+    rw o (ends_untold g.M.Machine.semantics (says (command g.V.Vocabulary.asks g.V.Vocabulary.calls)) (tells_of g.M.Reply.Parts.answer g.M.Reply.Parts.wakes (g.T.Telling.tells _ g.V.Vocabulary.text)) g.met.M.Machine.idle _ _ _ _ _ _ _ _ _ _ c.read.new.self c.in_ok-line.line.now c.in-Some.command c.step-reply.result _ (kept_so_far g.M.Machine.semantics (says (command g.V.Vocabulary.asks g.V.Vocabulary.calls)) (tells_of g.M.Reply.Parts.answer g.M.Reply.Parts.wakes (g.T.Telling.tells _ g.V.Vocabulary.text)) _ _ _ _ _ _ _ _ _ c.loop.invariant c.read.ensures.output) (is_there (command g.V.Vocabulary.asks g.V.Vocabulary.calls) c.read.new.self _ _ c.in_ok-read.ensures.line c.if-not-branch.false) l.0 l.2 (says_words (command g.V.Vocabulary.asks g.V.Vocabulary.calls) c.in_ok-line.line.now l.1 l.2 ∙ rw c.of.ensures at said) c.step-reply.ensures c.in_err-look.ensures)
