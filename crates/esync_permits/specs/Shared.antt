@@ -5,6 +5,7 @@ use Rattle.esync_base.specs.declared.waitqueue.Poll.TheVariants.{Pending, Ready}
 use Rattle.esync_permits.specs.declared.semaphore.Amount.{Amount}
 use Rattle.esync_permits.specs.declared.semaphore.Amount.TheVariants.{Exactly, AllFrom}
 use Rattle.esync_permits.specs.Fair.{Request}
+use Rattle.esync_permits.specs.declared.semaphore.shared.SemaphoreReleaser.{SemaphoreReleaser}
 
 -- so many permits are what a request for this amount is granted
 abbrev pub Suits : Amount → ℕ → Type 0
@@ -28,3 +29,7 @@ unless false amount = Some amount
 
 abbrev pub fair_wanted : Request → Option Amount
 fair_wanted r = unless r.finished r.amount
+
+-- how many permits a releaser was granted, of a semaphore with these types of an error and of futures
+abbrev pub granted : {S Error Acquire AcquireAll : Type 0} → SemaphoreReleaser S Error Acquire AcquireAll → ℕ
+granted releaser = releaser.permits

@@ -96,6 +96,7 @@ impl<T: Drop, W, H> OnceLock<T, W, H> {
 }
 
 /// A wait for the value: what `get` gives. It acts anew after it was ready.
+#[must_use]
 #[derive(Drop)]
 pub struct OnceGet<'a, T, W, H> {
     lock: &'a OnceLock<T, W, H>,

@@ -56,6 +56,7 @@ impl<T: Drop, W: Copy + Eq, H: Hand<W>> Signal<T, W, H> {
 }
 
 /// A wait for the value: what `wait` gives. It acts anew after it was ready.
+#[must_use]
 #[derive(Drop)]
 pub struct SignalWait<'a, T, W, H> {
     signal: &'a Signal<T, W, H>,

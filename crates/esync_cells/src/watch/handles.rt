@@ -363,6 +363,7 @@ impl<'a, B: WatchBehavior> AnonRcv<'a, B> {
 }
 
 /// The value on its way to a receiver: what `get` gives. It acts anew after it was ready.
+#[must_use]
 #[derive(Drop)]
 pub struct Get<'s, 'a, B: WatchBehavior> {
     receiver: &'s mut Rcv<'a, B>,
@@ -391,6 +392,7 @@ impl<'s, 'a, B: WatchBehavior> Get<'s, 'a, B> {
 }
 
 /// A value that passes a test, on its way to a receiver: what `get_and` gives. It acts anew after it was ready.
+#[must_use]
 #[derive(Drop)]
 pub struct GetAnd<'s, 'a, B: WatchBehavior, F> {
     receiver: &'s mut Rcv<'a, B>,
@@ -426,6 +428,7 @@ impl<'s, 'a, B: WatchBehavior, F: Fn(&B::Value) -> bool> GetAnd<'s, 'a, B, F> {
 }
 
 /// News on its way to a receiver: what `changed` gives. It acts anew after it was ready.
+#[must_use]
 #[derive(Drop)]
 pub struct Changed<'s, 'a, B: WatchBehavior> {
     receiver: &'s mut Rcv<'a, B>,
@@ -455,6 +458,7 @@ impl<'s, 'a, B: WatchBehavior> Changed<'s, 'a, B> {
 }
 
 /// News that pass a test, on their way to a receiver: what `changed_and` gives. It acts anew after it was ready.
+#[must_use]
 #[derive(Drop)]
 pub struct ChangedAnd<'s, 'a, B: WatchBehavior, F> {
     receiver: &'s mut Rcv<'a, B>,

@@ -9,6 +9,7 @@ use super::{
 use esync_base::deque::Deque;
 use esync_base::store::Store;
 use esync_base::waitqueue::{Context, Hand, Poll};
+use std::marker::Model;
 
 /// A handle of a channel of at most `N` messages that can only send.
 pub type Sender<'ch, T, W, H, const N: usize> = MailboxSender<'ch, Deque<T, N>, W, H>;
@@ -27,7 +28,7 @@ impl<'ch, S: Store, W: Copy + Eq, H: Hand<W>> MailboxSender<'ch, S, W, H> {
 
     /// Sends a message, when there is room.
     pub fn send(&self, message: S::Message) -> SendFuture<'ch, SharedMailbox<S, W, H>>
-        ensures { result.request ≡ Some message }
+        ensures { result ≡ Some message }
     {
         self.channel.send(message)
     }
@@ -181,7 +182,7 @@ impl<'ch, C: DynamicChannel> DynamicSender<'ch, C> {
 
     /// Sends a message, when there is room.
     pub fn send(&self, message: C::Message) -> DynamicSendFuture<'ch, C>
-        ensures { result.sending.request ≡ Some message }
+        ensures { result ≡ Some message }
     {
         DynamicSendFuture {
             sending: SendFuture::new(self.channel, message),
@@ -244,12 +245,28 @@ impl<'ch, C: DynamicChannel> DynamicReceiver<'ch, C> {
 }
 
 /// A message on its way into any channel.
+#[must_use]
 #[derive(Drop)]
 pub struct DynamicSendFuture<'ch, C: DynamicChannel> {
     sending: SendFuture<'ch, C>,
 }
 
+impl<'ch, C: DynamicChannel> Model for DynamicSendFuture<'ch, C> {
+    ghost use Rattle.std.specs.Prelude.{Option};
+    ghost use Rattle.std.specs.Coded.{coded_option};
+
+    ghost Value = { Option C.Message };
+
+    ghost coded = { coded_option C.Message.code };
+
+    ghost view = { λ a. a.sending };
+}
+
 impl<'ch, C: DynamicChannel> From<SendFuture<'ch, C>> for DynamicSendFuture<'ch, C> {
+    ghost use Rattle.std.specs.Prelude.{◌≡◌};
+
+    ghost from_gives = { λ sending future. future ≡ sending };
+
     fn from(sending: SendFuture<'ch, C>) -> Self {
         DynamicSendFuture { sending }
     }
@@ -258,21 +275,22 @@ impl<'ch, C: DynamicChannel> From<SendFuture<'ch, C>> for DynamicSendFuture<'ch,
 impl<'ch, C: DynamicChannel> DynamicSendFuture<'ch, C> {
     /// The message was sent.
     pub fn is_finished(&self) -> bool
-        ensures { result ≡ is_none self.now.sending.request }
+        ensures { result ≡ is_none self.now }
     {
         self.sending.is_finished()
     }
 
     /// Sends the message where there is room. A future that is finished isn't polled.
     pub fn poll(&mut self, cx: &Context<C::Waker>) -> Poll<()>
-        requires { IsSome self.old.sending.request }
-        ensures { LeavesRequest result self.old.sending.request self.new.sending.request }
+        requires { IsSome self.old }
+        ensures { LeavesRequest result self.old self.new }
     {
         self.sending.poll(cx)
     }
 }
 
 /// A message on its way out of any channel. It acts anew after it was ready.
+#[must_use]
 #[derive(Drop)]
 pub struct DynamicReceiveFuture<'ch, C> {
     receiving: ReceiveFuture<'ch, C>,

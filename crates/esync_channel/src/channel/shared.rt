@@ -11,6 +11,7 @@ use esync_base::shared::Shared;
 use esync_base::step;
 use esync_base::store::Store;
 use esync_base::waitqueue::{Context, Hand, Poll};
+use std::marker::Model;
 use std::sync::Wait;
 
 /// What a sender or a receiver needs of a channel, whatever its capacity and the way that it keeps its messages.
@@ -92,7 +93,7 @@ impl<S: Store, W: Copy + Eq, H: Hand<W>> SharedMailbox<S, W, H> {
 
     /// Sends a message, when there is room.
     pub fn send(&self, message: S::Message) -> SendFuture<'_, Self>
-        ensures { result.request ≡ Some message }
+        ensures { result ≡ Some message }
     {
         SendFuture::new(self, message)
     }
@@ -271,16 +272,28 @@ impl<T: Drop, W: Copy + Eq, H: Hand<W>, const N: usize> Channel<T, W, H, N> {
 }
 
 /// A message on its way into a channel: what `send` gives.
+#[must_use]
 #[derive(Drop)]
 pub struct SendFuture<'ch, C: DynamicChannel> {
     channel: &'ch C,
     request: SendRequest<C::Message>,
 }
 
+impl<'ch, C: DynamicChannel> Model for SendFuture<'ch, C> {
+    ghost use Rattle.std.specs.Prelude.{Option};
+    ghost use Rattle.std.specs.Coded.{coded_option};
+
+    ghost Value = { Option C.Message };
+
+    ghost coded = { coded_option C.Message.code };
+
+    ghost view = { λ a. a.request };
+}
+
 impl<'ch, C: DynamicChannel> SendFuture<'ch, C> {
     /// The message is still to be sent.
     pub(crate) fn new(channel: &'ch C, message: C::Message) -> Self
-        ensures { result.request ≡ Some message }
+        ensures { result ≡ Some message }
     {
         SendFuture {
             channel,
@@ -290,21 +303,22 @@ impl<'ch, C: DynamicChannel> SendFuture<'ch, C> {
 
     /// The message was sent.
     pub fn is_finished(&self) -> bool
-        ensures { result ≡ is_none self.now.request }
+        ensures { result ≡ is_none self.now }
     {
         self.request.is_finished()
     }
 
     /// Sends the message where there is room. A future that is finished isn't polled.
     pub fn poll(&mut self, cx: &Context<C::Waker>) -> Poll<()>
-        requires { IsSome self.old.request }
-        ensures { LeavesRequest result self.old.request self.new.request }
+        requires { IsSome self.old }
+        ensures { LeavesRequest result self.old self.new }
     {
         self.channel.poll_send(&mut self.request, cx)
     }
 }
 
 /// A message on its way out of a channel: what `receive` gives. It acts anew after it was ready.
+#[must_use]
 #[derive(Drop)]
 pub struct ReceiveFuture<'ch, C> {
     channel: &'ch C,
@@ -323,6 +337,7 @@ impl<'ch, C: DynamicChannel> ReceiveFuture<'ch, C> {
 }
 
 /// A wait for a message, which stays: what `ready_to_receive` gives. It acts anew after it was ready.
+#[must_use]
 #[derive(Drop)]
 pub struct ReceiveReadyFuture<'ch, C> {
     channel: &'ch C,

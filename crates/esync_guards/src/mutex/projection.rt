@@ -44,8 +44,10 @@ pub fn put_part<T, U: Drop, P: Projection<T, U>>(value: &mut T, projection: &P, 
 /// A part of a part: that of the second projection in that of the first.
 #[derive(Drop)]
 pub struct Then<P, Q, U> {
-    first: P,
-    second: Q,
+    /// The part.
+    pub first: P,
+    /// The part of that part.
+    pub second: Q,
     between: PhantomData<U>,
 }
 

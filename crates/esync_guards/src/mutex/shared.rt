@@ -123,6 +123,7 @@ impl<T: Default, W: Copy + Eq, H: Hand<W> + Default> Default for Mutex<T, W, H> 
 }
 
 /// A request for the lock: what `lock` gives. It acts anew after it was ready.
+#[must_use]
 #[derive(Drop)]
 pub struct LockFuture<'a, T, W, H> {
     mutex: &'a Mutex<T, W, H>,

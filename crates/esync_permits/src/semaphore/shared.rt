@@ -1,12 +1,13 @@
 //! Semaphores that tasks on several threads share by reference.
 ghost use Rattle.std.specs.Prelude.{◌≡◌, Some, ◌<◌, ◌≤◌, length, IsSome, IfSome, IfOk, is_none};
-ghost use Rattle.esync_permits.specs.Shared.{Suits, IfReady, Leaves};
+ghost use Rattle.esync_permits.specs.Shared.{Suits, granted, IfReady, Leaves};
 
 use crate::semaphore::{Amount, FairRequest, FairState, GreedyRequest, GreedyState, WaitQueueFull};
 use esync_base::shared::Shared;
 use esync_base::step;
 use esync_base::waitqueue::{Context, Hand, Poll, Wakes};
 use std::convert::Infallible;
+use std::marker::Model;
 
 /// What a shared semaphore takes of its state, greedy or fair. The calls are those of the state and of its requests.
 pub trait PermitState: Drop {
@@ -117,14 +118,14 @@ impl<S: Semaphore> Drop for SemaphoreReleaser<S> {
 impl<S: Semaphore> SemaphoreReleaser<S> {
     /// How many permits were granted.
     pub fn permits(&self) -> usize
-        ensures { result ≡ self.now.permits }
+        ensures { result ≡ granted self.now }
     {
         self.permits
     }
 
     /// Keeps the permits from coming back, and tells how many they are.
     pub fn disarm(self) -> usize
-        ensures { result ≡ self.permits }
+        ensures { result ≡ granted self }
     {
         let SemaphoreReleaser {
             semaphore: _,
@@ -172,7 +173,7 @@ impl<S: PermitState<Waker = W>, W: Copy + Eq, H: Hand<W>> SharedSemaphore<S, W, 
     }
 
     fn try_take(&self, amount: Amount) -> Option<SemaphoreReleaser<&Self>>
-        ensures { IfSome result (λ releaser. Suits amount releaser.permits) }
+        ensures { IfSome result (λ releaser. Suits amount (granted releaser)) }
     {
         let permits = self.inner.guard().try_take(amount)?;
         Some(SemaphoreReleaser {
@@ -183,7 +184,7 @@ impl<S: PermitState<Waker = W>, W: Copy + Eq, H: Hand<W>> SharedSemaphore<S, W, 
 
     /// Takes this number of permits, when they are granted.
     pub fn acquire(&self, permits: usize) -> Acquire<'_, S, W, H>
-        ensures { S.wanted result.request ≡ Some (Amount.Exactly permits) }
+        ensures { S.wanted result ≡ Some (Amount.Exactly permits) }
     {
         Acquire {
             semaphore: self,
@@ -193,14 +194,14 @@ impl<S: PermitState<Waker = W>, W: Copy + Eq, H: Hand<W>> SharedSemaphore<S, W, 
 
     /// Takes this number of permits, if they are granted now.
     pub fn try_acquire(&self, permits: usize) -> Option<SemaphoreReleaser<&Self>>
-        ensures { IfSome result (λ releaser. releaser.permits ≡ permits) }
+        ensures { IfSome result (λ releaser. granted releaser ≡ permits) }
     {
         self.try_take(Amount::Exactly(permits))
     }
 
     /// Takes all permits, when at least `min` are granted.
     pub fn acquire_all(&self, min: usize) -> Acquire<'_, S, W, H>
-        ensures { S.wanted result.request ≡ Some (Amount.AllFrom min) }
+        ensures { S.wanted result ≡ Some (Amount.AllFrom min) }
     {
         Acquire {
             semaphore: self,
@@ -210,7 +211,7 @@ impl<S: PermitState<Waker = W>, W: Copy + Eq, H: Hand<W>> SharedSemaphore<S, W, 
 
     /// Takes all permits, if at least `min` are granted now.
     pub fn try_acquire_all(&self, min: usize) -> Option<SemaphoreReleaser<&Self>>
-        ensures { IfSome result (λ releaser. min ≤ releaser.permits) }
+        ensures { IfSome result (λ releaser. min ≤ granted releaser) }
     {
         self.try_take(Amount::AllFrom(min))
     }
@@ -275,15 +276,24 @@ pub type FairAcquire<'a, W, H, const N: usize> = Acquire<'a, FairState<W, N>, W,
 pub type FairAcquireAll<'a, W, H, const N: usize> = Acquire<'a, FairState<W, N>, W, H>;
 
 /// A request for permits. Where it ends while it waits, it leaves the queue of a fair semaphore.
+#[must_use]
 pub struct Acquire<'a, S: PermitState<Waker = W>, W: Copy + Eq, H: Hand<W>> {
     semaphore: &'a SharedSemaphore<S, W, H>,
     request: S::Request,
 }
 
+impl<'a, S: PermitState<Waker = W>, W: Copy + Eq, H: Hand<W>> Model for Acquire<'a, S, W, H> {
+    ghost Value = { S.Request };
+
+    ghost coded = { S.Request.code };
+
+    ghost view = { λ a. a.request };
+}
+
 impl<'a, S: PermitState<Waker = W>, W: Copy + Eq, H: Hand<W>> Acquire<'a, S, W, H> {
     /// It heard its answer.
     pub fn is_finished(&self) -> bool
-        ensures { result ≡ is_none (S.wanted self.now.request) }
+        ensures { result ≡ is_none (S.wanted self.now) }
     {
         S::is_finished(&self.request)
     }
@@ -295,9 +305,9 @@ impl<'a, S: PermitState<Waker = W>, W: Copy + Eq, H: Hand<W>> Acquire<'a, S, W, 
         &mut self,
         cx: &Context<W>,
     ) -> Poll<Result<SemaphoreReleaser<&'a SharedSemaphore<S, W, H>>, S::Error>>
-        requires { IsSome (S.wanted self.old.request) }
-        ensures granted { IfReady result (λ heard. IfOk heard (λ releaser. IfSome (S.wanted self.old.request) (λ amount. Suits amount releaser.permits))) }
-        ensures request { Leaves result (S.wanted self.old.request) (S.wanted self.new.request) }
+        requires { IsSome (S.wanted self.old) }
+        ensures granted { IfReady result (λ heard. IfOk heard (λ releaser. IfSome (S.wanted self.old) (λ amount. Suits amount (granted releaser)))) }
+        ensures request { Leaves result (S.wanted self.old) (S.wanted self.new) }
     {
         let answer = step!(
             self.semaphore.inner,

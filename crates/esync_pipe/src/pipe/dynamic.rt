@@ -104,7 +104,7 @@ impl<P: DynamicPipe> DynamicWriter<P> {
 
     /// Puts some of the bytes in, when there is room.
     pub fn write<'a>(&'a self, from: &'a [u8]) -> DynamicWriteFuture<'a, P>
-        ensures { result.from.now ≡ from.now }
+        ensures { result ≡ from.now }
     {
         DynamicWriteFuture {
             pipe: &self.pipe,
@@ -191,10 +191,21 @@ pub struct DynamicReader<P> {
     row: CopiedBytes,
 }
 
+impl<P> Model for DynamicReader<P> {
+    ghost use Rattle.std.specs.Prelude.{ℕ, List};
+    ghost use Rattle.std.specs.Coded.{coded_list, coded_ℕ};
+
+    ghost Value = { List ℕ };
+
+    ghost coded = { coded_list coded_ℕ };
+
+    ghost view = { λ a. a.row };
+}
+
 impl<P: DynamicPipe + Drop> DynamicReader<P> {
     /// The end of this pipe, with places for as many bytes as the pipe can hold. No other call takes memory.
     pub fn new(alloc: Global, pipe: P) -> Result<Self, AllocError>
-        ensures { IfOk result (λ reader. length reader.row ≡ 0) }
+        ensures { IfOk result (λ reader. length reader ≡ 0) }
     {
         let row = CopiedBytes::new(alloc, pipe.capacity())?;
         Ok(DynamicReader { pipe, row })
@@ -203,7 +214,7 @@ impl<P: DynamicPipe + Drop> DynamicReader<P> {
     /// Takes the oldest bytes out, as many as there are and as the slice has places, and tells how many. What was filled is forgotten.
     pub fn try_read(&mut self, to: &mut [u8]) -> Result<usize, TryReadError>
         ensures count { IfOk result (λ n. n ≤ length to.old) }
-        ensures filled { length self.new.row ≡ 0 }
+        ensures filled { length self.new ≡ 0 }
     {
         self.row.clear();
         self.pipe.try_read(None, to)
@@ -211,7 +222,7 @@ impl<P: DynamicPipe + Drop> DynamicReader<P> {
 
     /// Takes some bytes out, when there are any. What was filled is forgotten.
     pub fn read<'a, 'b>(&'a mut self, to: &'b mut [u8]) -> DynamicReadFuture<'a, 'b, P>
-        ensures { length result.to.now ≡ length to.old }
+        ensures { length result ≡ length to.old }
     {
         self.row.clear();
         DynamicReadFuture {
@@ -222,7 +233,7 @@ impl<P: DynamicPipe + Drop> DynamicReader<P> {
 
     /// Copies the oldest bytes that stand one behind the other. They stay in the pipe, until `consume` drops them.
     pub fn try_fill_buf(&mut self) -> Result<(), TryReadError>
-        ensures kept { OnErr result (self.new.row ≡ self.old.row) }
+        ensures kept { OnErr result (self.new ≡ self.old) }
     {
         self.row.fill(&self.pipe, None)
     }
@@ -234,15 +245,15 @@ impl<P: DynamicPipe + Drop> DynamicReader<P> {
 
     /// The bytes that were filled and not consumed since.
     pub fn filled(&self) -> &[u8]
-        ensures { result.now ≡ self.now.row }
+        ensures { result.now ≡ self.now }
     {
         self.row.filled()
     }
 
     /// Drops so many of the bytes that were filled, here and in the pipe.
     pub fn consume(&mut self, amt: usize)
-        requires { amt ≤ length self.old.row }
-        ensures { self.new.row ≡ drop amt self.old.row }
+        requires { amt ≤ length self.old }
+        ensures { self.new ≡ drop amt self.old }
     {
         self.row.consume(amt);
         self.pipe.consume(amt);
@@ -250,17 +261,29 @@ impl<P: DynamicPipe + Drop> DynamicReader<P> {
 }
 
 /// Bytes on their way into any pipe. It acts anew after it was ready.
+#[must_use]
 #[derive(Drop)]
 pub struct DynamicWriteFuture<'a, P> {
     pipe: &'a P,
     from: &'a [u8],
 }
 
+impl<'a, P> Model for DynamicWriteFuture<'a, P> {
+    ghost use Rattle.std.specs.Prelude.{ℕ, List};
+    ghost use Rattle.std.specs.Coded.{coded_list, coded_ℕ};
+
+    ghost Value = { List ℕ };
+
+    ghost coded = { coded_list coded_ℕ };
+
+    ghost view = { λ a. a.from.now };
+}
+
 impl<'a, P: DynamicPipe> DynamicWriteFuture<'a, P> {
     /// Puts as many of the bytes in as there is room for, and tells how many. Where there is none, the context's waker waits for it.
     pub fn poll(&mut self, cx: &Context<TaskId>) -> Poll<usize>
-        ensures count { IfReady result (λ n. n ≤ length self.old.from.now) }
-        ensures from { self.new.from.now ≡ self.old.from.now }
+        ensures count { IfReady result (λ n. n ≤ length self.old) }
+        ensures from { self.new ≡ self.old }
     {
         match self.pipe.try_write(Some(cx.waker()), self.from) {
             Ok(n) => Poll::Ready(n),
@@ -270,18 +293,30 @@ impl<'a, P: DynamicPipe> DynamicWriteFuture<'a, P> {
 }
 
 /// Bytes on their way out of any pipe. It acts anew after it was ready.
+#[must_use]
 #[derive(Drop)]
 pub struct DynamicReadFuture<'a, 'b, P> {
     pipe: &'a P,
     to: &'b mut [u8],
 }
 
+impl<'a, 'b, P> Model for DynamicReadFuture<'a, 'b, P> {
+    ghost use Rattle.std.specs.Prelude.{ℕ, List};
+    ghost use Rattle.std.specs.Coded.{coded_list, coded_ℕ};
+
+    ghost Value = { List ℕ };
+
+    ghost coded = { coded_list coded_ℕ };
+
+    ghost view = { λ a. a.to.now };
+}
+
 impl<'a, 'b, P: DynamicPipe> DynamicReadFuture<'a, 'b, P> {
     /// Takes the oldest bytes out, as many as there are and as the slice has places, and tells how many. Where there are none, the
     /// context's waker waits for them.
     pub fn poll(&mut self, cx: &Context<TaskId>) -> Poll<usize>
-        ensures count { IfReady result (λ n. n ≤ length self.old.to.now) }
-        ensures slice { length self.new.to.now ≡ length self.old.to.now }
+        ensures count { IfReady result (λ n. n ≤ length self.old) }
+        ensures slice { length self.new ≡ length self.old }
     {
         let pipe = self.pipe;
         let to = &mut *self.to;
@@ -293,15 +328,27 @@ impl<'a, 'b, P: DynamicPipe> DynamicReadFuture<'a, 'b, P> {
 }
 
 /// A copy on its way to the reader of any pipe. It acts anew after it was ready, and the reader shows the copy by `filled`.
+#[must_use]
 #[derive(Drop)]
 pub struct DynamicFillBufFuture<'r, P> {
     reader: &'r mut DynamicReader<P>,
 }
 
+impl<'r, P> Model for DynamicFillBufFuture<'r, P> {
+    ghost use Rattle.std.specs.Prelude.{ℕ, List};
+    ghost use Rattle.std.specs.Coded.{coded_list, coded_ℕ};
+
+    ghost Value = { List ℕ };
+
+    ghost coded = { coded_list coded_ℕ };
+
+    ghost view = { λ a. a.reader.now };
+}
+
 impl<'r, P: DynamicPipe> DynamicFillBufFuture<'r, P> {
     /// Copies the oldest bytes that stand one behind the other. Where there is none, the context's waker waits for one.
     pub fn poll(&mut self, cx: &Context<TaskId>) -> Poll<()>
-        ensures kept { KeepsCopy result self.old.reader.now.row self.new.reader.now.row }
+        ensures kept { KeepsCopy result self.old self.new }
     {
         let reader = &mut *self.reader;
         match reader.row.fill(&reader.pipe, Some(cx.waker())) {

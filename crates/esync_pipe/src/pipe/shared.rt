@@ -368,7 +368,7 @@ impl<S: ByteState<Waker = W>, W: Copy + Eq, H: Hand<W>> SharedPipe<S, W, H> {
 
     /// The two ends of the pipe. There is one reader, which fills a copy of the oldest bytes.
     pub fn split(&mut self) -> (PipeReader<'_, S, W, H>, PipeWriter<'_, S, W, H>)
-        ensures { length (S.copied result.0.row) ≡ 0 }
+        ensures { length result.0 ≡ 0 }
     {
         let pipe = &*self;
         (PipeReader::new(pipe), PipeWriter { pipe })
@@ -376,21 +376,21 @@ impl<S: ByteState<Waker = W>, W: Copy + Eq, H: Hand<W>> SharedPipe<S, W, H> {
 
     /// Puts some of the bytes in, when there is room.
     pub fn write<'a>(&'a self, from: &'a [u8]) -> WriteFuture<'a, S, W, H>
-        ensures { result.from.now ≡ from.now }
+        ensures { result ≡ from.now }
     {
         WriteFuture { pipe: self, from }
     }
 
     /// Puts all of the bytes in, as there is room.
     pub fn write_all<'a>(&'a self, from: &'a [u8]) -> WriteAllFuture<'a, S, W, H>
-        ensures { result.request ≡ Some from.now }
+        ensures { result ≡ Some from.now }
     {
         WriteAllFuture::new(self, from)
     }
 
     /// Takes some bytes out, when there are any.
     pub fn read<'a, 'b>(&'a self, to: &'b mut [u8]) -> ReadFuture<'a, 'b, S, W, H>
-        ensures { length result.to.now ≡ length to.old }
+        ensures { length result ≡ length to.old }
     {
         ReadFuture { pipe: self, to }
     }
@@ -551,7 +551,7 @@ pub struct PipeWriter<'p, S, W, H> {
 impl<'p, S: ByteState<Waker = W>, W: Copy + Eq, H: Hand<W>> PipeWriter<'p, S, W, H> {
     /// Puts some of the bytes in, when there is room.
     pub fn write<'a>(&'a self, from: &'a [u8]) -> WriteFuture<'a, S, W, H>
-        ensures { result.from.now ≡ from.now }
+        ensures { result ≡ from.now }
     {
         self.pipe.write(from)
     }
@@ -574,9 +574,20 @@ pub struct PipeReader<'p, S: ByteState, W, H> {
     row: S::Copied,
 }
 
+impl<'p, S: ByteState, W, H> Model for PipeReader<'p, S, W, H> {
+    ghost use Rattle.std.specs.Prelude.{ℕ, List};
+    ghost use Rattle.std.specs.Coded.{coded_list, coded_ℕ};
+
+    ghost Value = { List ℕ };
+
+    ghost coded = { coded_list coded_ℕ };
+
+    ghost view = { λ a. S.copied a.row };
+}
+
 impl<'p, S: ByteState<Waker = W>, W: Copy + Eq, H: Hand<W>> PipeReader<'p, S, W, H> {
     fn new(pipe: &'p SharedPipe<S, W, H>) -> Self
-        ensures { length (S.copied result.row) ≡ 0 }
+        ensures { length result ≡ 0 }
     {
         PipeReader {
             pipe,
@@ -587,7 +598,7 @@ impl<'p, S: ByteState<Waker = W>, W: Copy + Eq, H: Hand<W>> PipeReader<'p, S, W,
     /// Takes the oldest bytes out, as many as there are and as the slice has places, and tells how many. What was filled is forgotten.
     pub fn try_read(&mut self, to: &mut [u8]) -> Result<usize, TryReadError>
         ensures count { IfOk result (λ n. n ≤ length to.old) }
-        ensures filled { length (S.copied self.new.row) ≡ 0 }
+        ensures filled { length self.new ≡ 0 }
     {
         self.row = S::nothing_copied();
         self.pipe.try_read(to)
@@ -595,7 +606,7 @@ impl<'p, S: ByteState<Waker = W>, W: Copy + Eq, H: Hand<W>> PipeReader<'p, S, W,
 
     /// Takes some bytes out, when there are any. What was filled is forgotten.
     pub fn read<'a, 'b>(&'a mut self, to: &'b mut [u8]) -> ReadFuture<'a, 'b, S, W, H>
-        ensures { length result.to.now ≡ length to.old }
+        ensures { length result ≡ length to.old }
     {
         self.row = S::nothing_copied();
         self.pipe.read(to)
@@ -603,7 +614,7 @@ impl<'p, S: ByteState<Waker = W>, W: Copy + Eq, H: Hand<W>> PipeReader<'p, S, W,
 
     /// Copies the oldest bytes that stand one behind the other. They stay in the pipe, until `consume` drops them.
     pub fn try_fill_buf(&mut self) -> Result<(), TryReadError>
-        ensures kept { OnErr result (S.copied self.new.row ≡ S.copied self.old.row) }
+        ensures kept { OnErr result (self.new ≡ self.old) }
     {
         self.pipe.step_fill(None, &mut self.row)
     }
@@ -615,7 +626,7 @@ impl<'p, S: ByteState<Waker = W>, W: Copy + Eq, H: Hand<W>> PipeReader<'p, S, W,
 
     /// Copies the oldest bytes that stand one behind the other. Where there is none, the context's waker waits for one.
     pub fn poll_fill_buf(&mut self, cx: &Context<W>) -> Poll<()>
-        ensures kept { KeepsCopy result (S.copied self.old.row) (S.copied self.new.row) }
+        ensures kept { KeepsCopy result self.old self.new }
     {
         match self.pipe.step_fill(Some(cx.waker()), &mut self.row) {
             Ok(()) => Poll::Ready(()),
@@ -625,32 +636,44 @@ impl<'p, S: ByteState<Waker = W>, W: Copy + Eq, H: Hand<W>> PipeReader<'p, S, W,
 
     /// The bytes that were filled and not consumed since.
     pub fn filled(&self) -> &[u8]
-        ensures { result.now ≡ S.copied self.now.row }
+        ensures { result.now ≡ self.now }
     {
         S::copied(&self.row)
     }
 
     /// Drops so many of the bytes that were filled, here and in the pipe.
     pub fn consume(&mut self, amt: usize)
-        requires { amt ≤ length (S.copied self.old.row) }
-        ensures { S.copied self.new.row ≡ drop amt (S.copied self.old.row) }
+        requires { amt ≤ length self.old }
+        ensures { self.new ≡ drop amt self.old }
     {
         self.pipe.step_consume(&mut self.row, amt);
     }
 }
 
 /// Bytes on their way into a pipe: what `write` gives. It acts anew after it was ready.
+#[must_use]
 #[derive(Drop)]
 pub struct WriteFuture<'p, S, W, H> {
     pipe: &'p SharedPipe<S, W, H>,
     from: &'p [u8],
 }
 
+impl<'p, S, W, H> Model for WriteFuture<'p, S, W, H> {
+    ghost use Rattle.std.specs.Prelude.{ℕ, List};
+    ghost use Rattle.std.specs.Coded.{coded_list, coded_ℕ};
+
+    ghost Value = { List ℕ };
+
+    ghost coded = { coded_list coded_ℕ };
+
+    ghost view = { λ a. a.from.now };
+}
+
 impl<'p, S: ByteState<Waker = W>, W: Copy + Eq, H: Hand<W>> WriteFuture<'p, S, W, H> {
     /// Puts as many of the bytes in as there is room for, and tells how many. Where there is none, the context's waker waits for it.
     pub fn poll(&mut self, cx: &Context<W>) -> Poll<usize>
-        ensures count { IfReady result (λ n. n ≤ length self.old.from.now) }
-        ensures from { self.new.from.now ≡ self.old.from.now }
+        ensures count { IfReady result (λ n. n ≤ length self.old) }
+        ensures from { self.new ≡ self.old }
     {
         match self.pipe.step_write(Some(cx.waker()), self.from) {
             Ok(n) => Poll::Ready(n),
@@ -660,16 +683,28 @@ impl<'p, S: ByteState<Waker = W>, W: Copy + Eq, H: Hand<W>> WriteFuture<'p, S, W
 }
 
 /// Bytes on their way into a pipe, all of them: what `write_all` gives.
+#[must_use]
 #[derive(Drop)]
 pub struct WriteAllFuture<'p, S, W, H> {
     pipe: &'p SharedPipe<S, W, H>,
     request: WriteAllRequest<'p>,
 }
 
+impl<'p, S, W, H> Model for WriteAllFuture<'p, S, W, H> {
+    ghost use Rattle.std.specs.Prelude.{ℕ, List, Option};
+    ghost use Rattle.std.specs.Coded.{coded_option, coded_list, coded_ℕ};
+
+    ghost Value = { Option (List ℕ) };
+
+    ghost coded = { coded_option (coded_list coded_ℕ) };
+
+    ghost view = { λ a. a.request };
+}
+
 impl<'p, S: ByteState<Waker = W>, W: Copy + Eq, H: Hand<W>> WriteAllFuture<'p, S, W, H> {
     /// The bytes are still to be written.
     pub(crate) fn new(pipe: &'p SharedPipe<S, W, H>, from: &'p [u8]) -> Self
-        ensures { result.request ≡ Some from.now }
+        ensures { result ≡ Some from.now }
     {
         WriteAllFuture {
             pipe,
@@ -679,7 +714,7 @@ impl<'p, S: ByteState<Waker = W>, W: Copy + Eq, H: Hand<W>> WriteAllFuture<'p, S
 
     /// All bytes were written.
     pub fn is_finished(&self) -> bool
-        ensures { result ≡ is_none self.now.request }
+        ensures { result ≡ is_none self.now }
     {
         self.request.is_finished()
     }
@@ -687,26 +722,38 @@ impl<'p, S: ByteState<Waker = W>, W: Copy + Eq, H: Hand<W>> WriteAllFuture<'p, S
     /// Writes as many of the bytes as there is room for. Where some are left, the context's waker waits for room. A future that is
     /// finished isn't polled.
     pub fn poll(&mut self, cx: &Context<W>) -> Poll<()>
-        requires { IsSome self.old.request }
-        ensures { LeavesBytes result self.new.request }
+        requires { IsSome self.old }
+        ensures { LeavesBytes result self.new }
     {
         self.pipe.step_write_all(&mut self.request, cx)
     }
 }
 
 /// Bytes on their way out of a pipe: what `read` gives. It acts anew after it was ready.
+#[must_use]
 #[derive(Drop)]
 pub struct ReadFuture<'p, 'b, S, W, H> {
     pipe: &'p SharedPipe<S, W, H>,
     to: &'b mut [u8],
 }
 
+impl<'p, 'b, S, W, H> Model for ReadFuture<'p, 'b, S, W, H> {
+    ghost use Rattle.std.specs.Prelude.{ℕ, List};
+    ghost use Rattle.std.specs.Coded.{coded_list, coded_ℕ};
+
+    ghost Value = { List ℕ };
+
+    ghost coded = { coded_list coded_ℕ };
+
+    ghost view = { λ a. a.to.now };
+}
+
 impl<'p, 'b, S: ByteState<Waker = W>, W: Copy + Eq, H: Hand<W>> ReadFuture<'p, 'b, S, W, H> {
     /// Takes the oldest bytes out, as many as there are and as the slice has places, and tells how many. Where there are none, the
     /// context's waker waits for them.
     pub fn poll(&mut self, cx: &Context<W>) -> Poll<usize>
-        ensures count { IfReady result (λ n. n ≤ length self.old.to.now) }
-        ensures slice { length self.new.to.now ≡ length self.old.to.now }
+        ensures count { IfReady result (λ n. n ≤ length self.old) }
+        ensures slice { length self.new ≡ length self.old }
     {
         let pipe = self.pipe;
         let to = &mut *self.to;
@@ -718,15 +765,27 @@ impl<'p, 'b, S: ByteState<Waker = W>, W: Copy + Eq, H: Hand<W>> ReadFuture<'p, '
 }
 
 /// A copy on its way to a reader: what `fill_buf` gives. It acts anew after it was ready, and the reader shows the copy by `filled`.
+#[must_use]
 #[derive(Drop)]
 pub struct FillBufFuture<'r, 'p, S: ByteState, W, H> {
     reader: &'r mut PipeReader<'p, S, W, H>,
 }
 
+impl<'r, 'p, S: ByteState, W, H> Model for FillBufFuture<'r, 'p, S, W, H> {
+    ghost use Rattle.std.specs.Prelude.{ℕ, List};
+    ghost use Rattle.std.specs.Coded.{coded_list, coded_ℕ};
+
+    ghost Value = { List ℕ };
+
+    ghost coded = { coded_list coded_ℕ };
+
+    ghost view = { λ a. a.reader.now };
+}
+
 impl<'r, 'p, S: ByteState<Waker = W>, W: Copy + Eq, H: Hand<W>> FillBufFuture<'r, 'p, S, W, H> {
     /// Copies the oldest bytes that stand one behind the other. Where there is none, the context's waker waits for one.
     pub fn poll(&mut self, cx: &Context<W>) -> Poll<()>
-        ensures kept { KeepsCopy result (S.copied self.old.reader.now.row) (S.copied self.new.reader.now.row) }
+        ensures kept { KeepsCopy result self.old self.new }
     {
         self.reader.poll_fill_buf(cx)
     }
