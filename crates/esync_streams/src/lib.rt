@@ -175,9 +175,9 @@ fn told<A>(poll: Poll<A>) -> TaskPoll<A>
 impl<B: PubSubBehavior<Waker = TaskId>> Sink<B::Message> for SinkAdapter<'_, '_, B> {
     type Error = Exhausted<B::Message>;
 
-    ghost is_flushed = { λ adapter. adapter.sink.request ≡ None };
+    ghost is_flushed = { λ adapter. adapter.sink ≡ None };
 
-    ghost is_closed = { λ adapter. adapter.sink.request ≡ None };
+    ghost is_closed = { λ adapter. adapter.sink ≡ None };
 
     ghost needs = { λ adapter s. s ≡ adapter.registration.now.source.id };
 

@@ -7,6 +7,7 @@ use super::{
 };
 use esync_base::waitqueue::{Context, Poll};
 use std::alloc::AllocError;
+use std::marker::Model;
 
 /// A publisher of a channel of at most `CAP` messages.
 pub type Publisher<
@@ -52,7 +53,7 @@ impl<'a, B: PubSubBehavior> Pub<'a, B> {
 
     /// Publishes a message, when there is room.
     pub fn publish<'s>(&'s self, message: B::Message) -> PublisherWaitFuture<'s, B>
-        ensures { result.request ≡ Some message }
+        ensures { result ≡ Some message }
     {
         PublisherWaitFuture {
             channel: self.channel,
@@ -71,7 +72,7 @@ impl<'a, B: PubSubBehavior> Pub<'a, B> {
 
     /// A sink for the messages that are to be published.
     pub fn sink<'s>(&'s self) -> PubSink<'s, B>
-        ensures { result.request ≡ None }
+        ensures { result ≡ None }
     {
         PubSink {
             channel: self.channel,
@@ -315,16 +316,28 @@ impl<'a, B: PubSubBehavior> Sub<'a, B> {
 }
 
 /// A message on its way to the subscribers: what `publish` gives.
+#[must_use]
 #[derive(Drop)]
 pub struct PublisherWaitFuture<'s, B: PubSubBehavior> {
     channel: &'s B,
     request: PublishRequest<B::Message>,
 }
 
+impl<'s, B: PubSubBehavior> Model for PublisherWaitFuture<'s, B> {
+    ghost use Rattle.std.specs.Prelude.{Option};
+    ghost use Rattle.std.specs.Coded.{coded_option};
+
+    ghost Value = { Option B.Message };
+
+    ghost coded = { coded_option B.Message.code };
+
+    ghost view = { λ a. a.request };
+}
+
 impl<'s, B: PubSubBehavior> PublisherWaitFuture<'s, B> {
     /// The message was published, or refused for good.
     pub fn is_finished(&self) -> bool
-        ensures { result ≡ is_none self.now.request }
+        ensures { result ≡ is_none self.now }
     {
         self.request.is_finished()
     }
@@ -336,14 +349,15 @@ impl<'s, B: PubSubBehavior> PublisherWaitFuture<'s, B> {
     ///
     /// `Exhausted` with the message where the numbers of messages have run out. The future is finished.
     pub fn poll(&mut self, cx: &Context<B::Waker>) -> Poll<Result<(), Exhausted<B::Message>>>
-        requires { IsSome self.old.request }
-        ensures { IfSome self.old.request (λ message. self.new.request ≡ still message result) }
+        requires { IsSome self.old }
+        ensures { IfSome self.old (λ message. self.new ≡ still message result) }
     {
         self.channel.poll_publish(&mut self.request, cx)
     }
 }
 
 /// What a subscriber reads next: what `next_message` gives. It acts anew after it was ready.
+#[must_use]
 #[derive(Drop)]
 pub struct SubscriberWaitFuture<'s, 'a, B: PubSubBehavior> {
     subscriber: &'s mut Sub<'a, B>,
@@ -366,6 +380,7 @@ impl<'s, 'a, B: PubSubBehavior> SubscriberWaitFuture<'s, 'a, B> {
 }
 
 /// The message that a subscriber reads next, past a lag: what `next_message_pure` gives. It acts anew after it was ready.
+#[must_use]
 #[derive(Drop)]
 pub struct NextMessagePure<'s, 'a, B: PubSubBehavior> {
     subscriber: &'s mut Sub<'a, B>,
@@ -386,10 +401,22 @@ impl<'s, 'a, B: PubSubBehavior> NextMessagePure<'s, 'a, B> {
 }
 
 /// A sink for messages that are to be published: what `sink` gives. It stores one, and each poll publishes the stored one.
+#[must_use]
 #[derive(Drop)]
 pub struct PubSink<'s, B: PubSubBehavior> {
     channel: &'s B,
     request: PublishRequest<B::Message>,
+}
+
+impl<'s, B: PubSubBehavior> Model for PubSink<'s, B> {
+    ghost use Rattle.std.specs.Prelude.{Option};
+    ghost use Rattle.std.specs.Coded.{coded_option};
+
+    ghost Value = { Option B.Message };
+
+    ghost coded = { coded_option B.Message.code };
+
+    ghost view = { λ a. a.request };
 }
 
 impl<'s, B: PubSubBehavior> PubSink<'s, B> {
@@ -399,14 +426,14 @@ impl<'s, B: PubSubBehavior> PubSink<'s, B> {
     ///
     /// `Exhausted` with the message where the numbers of messages have run out. No message is stored then.
     pub fn poll_ready(&mut self, cx: &Context<B::Waker>) -> Poll<Result<(), Exhausted<B::Message>>>
-        ensures { Flushes self.old.request result self.new.request }
+        ensures { Flushes self.old result self.new }
     {
         self.poll(cx)
     }
 
     /// Stores a message. One that is still stored is replaced, and lost.
     pub fn start_send(&mut self, message: B::Message)
-        ensures { self.new.request ≡ Some message }
+        ensures { self.new ≡ Some message }
     {
         self.request = PublishRequest::new(message);
     }
@@ -417,7 +444,7 @@ impl<'s, B: PubSubBehavior> PubSink<'s, B> {
     ///
     /// `Exhausted` with the message where the numbers of messages have run out. No message is stored then.
     pub fn poll_flush(&mut self, cx: &Context<B::Waker>) -> Poll<Result<(), Exhausted<B::Message>>>
-        ensures { Flushes self.old.request result self.new.request }
+        ensures { Flushes self.old result self.new }
     {
         self.poll(cx)
     }
@@ -428,14 +455,14 @@ impl<'s, B: PubSubBehavior> PubSink<'s, B> {
     ///
     /// `Exhausted` with the message where the numbers of messages have run out. No message is stored then.
     pub fn poll_close(&mut self, cx: &Context<B::Waker>) -> Poll<Result<(), Exhausted<B::Message>>>
-        ensures { Flushes self.old.request result self.new.request }
+        ensures { Flushes self.old result self.new }
     {
         self.poll(cx)
     }
 
     // Publishes the stored message, if there is one.
     fn poll(&mut self, cx: &Context<B::Waker>) -> Poll<Result<(), Exhausted<B::Message>>>
-        ensures { Flushes self.old.request result self.new.request }
+        ensures { Flushes self.old result self.new }
     {
         if self.request.is_finished() {
             return Poll::Ready(Ok(()));

@@ -313,6 +313,7 @@ impl<T, W: Copy + Eq, H: Hand<W>> Receiver<'_, T, W, H> {
 
 /// A request of a side for its next slot. It acts anew after it was ready; while the slot is lent, it waits and hands out its own
 /// waker.
+#[must_use]
 #[derive(Drop)]
 pub struct ZeroRequest<'a, T, W, H> {
     channel: &'a Channel<T, W, H>,
