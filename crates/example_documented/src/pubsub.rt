@@ -1,0 +1,48 @@
+use crate::bell::Bell;
+use embassy_sync::pubsub::{Pub, PubSubBehavior, PubSubChannel, Sub};
+use embassy_sync::waitqueue::Context;
+use std::io;
+use std::sync::Wait;
+
+/// A channel of 4 messages, of which each of its subscribers hears every one. `dyn_subscriber` gives the same type as `subscriber`.
+pub fn example<R: Print + Wait>(rt: &R) -> io::Result<()> {
+    let bell = Bell::new(rt);
+    let channel: PubSubChannel<u32, u64, _, 4, 4, 4, 4> = PubSubChannel::new(&bell);
+    let Ok(mut sub0) = channel.subscriber() else {
+        return println!(rt; "pubsub: no place for a subscriber");
+    };
+    let Ok(pub0) = channel.publisher() else {
+        return println!(rt; "pubsub: no place for a publisher");
+    };
+    publish_and_hear(rt, &pub0, &mut sub0)
+}
+
+fn publish_and_hear<B: PubSubBehavior<Message = u32, Waker = u64>>(
+    rt: &impl Print,
+    publisher: &Pub<'_, B>,
+    subscriber: &mut Sub<'_, B>,
+) -> io::Result<()> {
+    publish(rt, publisher)?;
+    hear(rt, subscriber)
+}
+
+// The first waits where the channel is full. The second lets the oldest message go there, which some subscribers may miss.
+fn publish<B: PubSubBehavior<Message = u32, Waker = u64>>(
+    rt: &impl Print,
+    publisher: &Pub<'_, B>,
+) -> io::Result<()> {
+    let waits = publisher.publish(42).poll(&Context::from_waker(1));
+    let at_once = publisher.publish_immediate(43);
+    println!(rt; "pubsub: {waits:?}, {at_once:?}")
+}
+
+// Who misses messages is told how many at first, and then not. There is also a try.
+fn hear<B: PubSubBehavior<Message = u32, Waker = u64>>(
+    rt: &impl Print,
+    subscriber: &mut Sub<'_, B>,
+) -> io::Result<()> {
+    let first = subscriber.next_message().poll(&Context::from_waker(1));
+    let second = subscriber.next_message_pure().poll(&Context::from_waker(1));
+    let none = subscriber.try_next_message();
+    println!(rt; "pubsub: {first:?}, {second:?}, {none:?}")
+}
