@@ -193,6 +193,8 @@ impl<S: PermitState<Waker = W>, W: Copy + Eq, H: Hand<W>> SharedSemaphore<S, W, 
     }
 
     /// Takes this number of permits, if they are granted now.
+    ///
+    /// Match on the answer, and `end` the releaser: `Option::map` over it, and a `drop` of the whole `Option`, get no proof.
     pub fn try_acquire(&self, permits: usize) -> Option<SemaphoreReleaser<&Self>>
         ensures { IfSome result (λ releaser. granted releaser ≡ permits) }
     {
