@@ -11,13 +11,13 @@ pub use esync_channel::channel::{
 pub mod machine;
 
 /// The state of a priority channel of at most `N` messages: one leaves that none of the held ones is above.
-pub type ChannelState<T, W, K, const N: usize> = Mailbox<PrioQueue<T, K, N>, W>;
+pub type ChannelState<T, W, O, const N: usize> = Mailbox<PrioQueue<T, O, N>, W>;
 
 /// A bounded channel of at most `N` messages that tasks on several threads share by reference.
-pub type PriorityChannel<T, W, K, H, const N: usize> = SharedMailbox<PrioQueue<T, K, N>, W, H>;
+pub type PriorityChannel<T, W, O, H, const N: usize> = SharedMailbox<PrioQueue<T, O, N>, W, H>;
 
 /// A handle of a priority channel that can only send.
-pub type Sender<'ch, T, W, K, H, const N: usize> = MailboxSender<'ch, PrioQueue<T, K, N>, W, H>;
+pub type Sender<'ch, T, W, O, H, const N: usize> = MailboxSender<'ch, PrioQueue<T, O, N>, W, H>;
 
 /// A handle of a priority channel that can only receive.
-pub type Receiver<'ch, T, W, K, H, const N: usize> = MailboxReceiver<'ch, PrioQueue<T, K, N>, W, H>;
+pub type Receiver<'ch, T, W, O, H, const N: usize> = MailboxReceiver<'ch, PrioQueue<T, O, N>, W, H>;

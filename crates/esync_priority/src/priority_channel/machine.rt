@@ -13,10 +13,10 @@ use esync_machine::run::run;
 use std::alloc::{AllocError, Global};
 
 /// A priority channel of at most `N` messages as a machine, with requests at the numbers below `REQS`.
-pub type PriorityRun<T, W, K, const N: usize, const REQS: usize, const PLACES: usize> = Requests<
-    Mailbox<PrioQueue<T, K, N>, W>,
+pub type PriorityRun<T, W, O, const N: usize, const REQS: usize, const K: usize> = Requests<
+    Mailbox<PrioQueue<T, O, N>, W>,
     REQS,
-    PLACES,
+    K,
 >;
 
 /// Gives the commands to the priority channel, one after another, as `run` does.
@@ -27,16 +27,16 @@ pub type PriorityRun<T, W, K, const N: usize, const REQS: usize, const PLACES: u
 pub fn run_priority_channel<
     T: Drop,
     W: Copy + Eq,
-    K: Kind<T>,
+    O: Kind<T>,
     const N: usize,
     const REQS: usize,
-    const PLACES: usize,
+    const K: usize,
 >(
     alloc: Global,
-    machine: &mut PriorityRun<T, W, K, N, REQS, PLACES>,
+    machine: &mut PriorityRun<T, W, O, N, REQS, K>,
     commands: Vec<ChannelCommand<T, W>>,
-) -> Result<Vec<ChannelReply<T, W, PLACES>>, AllocError>
-    ensures run { IfOk result (λ replies. GoodRun (requests_meaning (channel_rules (Bag T K.above N)) (channel_wakings W.eq (Bag T K.above N)) W.eq PLACES) (record { core = machine.old.state.store; requests = machine.old.requests }) machine.old.state.slots commands.items replies.items (record { core = machine.new.state.store; requests = machine.new.requests }) machine.new.state.slots) }
+) -> Result<Vec<ChannelReply<T, W, K>>, AllocError>
+    ensures run { IfOk result (λ replies. GoodRun (requests_meaning (channel_rules (Bag T O.above N)) (channel_wakings W.eq (Bag T O.above N)) W.eq K) (record { core = machine.old.state.store; requests = machine.old.requests }) machine.old.state.slots commands.items replies.items (record { core = machine.new.state.store; requests = machine.new.requests }) machine.new.state.slots) }
     ensures refused { OnErr result (machine.new ≡ machine.old) }
 {
     run(alloc, machine, commands)
