@@ -34,3 +34,15 @@ returns g c =
     rw (c.free.ensures.messages, c.lower_from.ensures.messages, c.put.ensures, ← c.self.view_is)
     (log_left g.row.CAP g.row.SUBS a.held.messages a.held.counts a.next a.positions.row a.subscribers c.self.invariant c.args.place c.in-Some.position (sym c.get.ensures ∙ c.in-Some.is)
     c.lower_from.new.self.counts c.first_unread-from.result o f.length f.before f.behind)
+
+pub get-requires : goal.get-requires
+get-requires g c = search rules
+
+pub unreachable-requires : goal.unreachable-requires
+unreachable-requires g c = search rules
+
+pub first_unread-from-requires : goal.first_unread-from-requires
+first_unread-from-requires g c = search rules
+
+pub free-requires : goal.free-requires
+free-requires g c = search rules

@@ -34,3 +34,18 @@ returns-clause-state g c =
     let o = rw (← c.self.view_is) at c.oldest.ensures in
     let shared = rw (← c.self.view_is) at c.requires.shared in
     rw (c.lower.ensures.messages, c.put.ensures, ← c.self.view_is) (log_took g.row.CAP g.row.SUBS a.held.messages a.held.counts a.next a.positions.row a.subscribers c.self.invariant c.args.place c.args.position at from held (shared_more g.row.CAP g.row.SUBS a.held.messages a.held.counts a.next a.positions.row a.subscribers c.self.invariant c.args.place c.args.position at from held shared))
+
+pub oldest-requires : goal.oldest-requires
+oldest-requires g c = search rules
+
+pub message-requires : goal.message-requires
+message-requires g c = search rules
+
+pub clone-requires : goal.clone-requires
+clone-requires g c = search rules
+
+pub branch-message-requires : goal.branch-message-requires
+branch-message-requires g c = search rules
+
+pub from_residual-requires : goal.from_residual-requires
+from_residual-requires g c = search rules

@@ -1,4 +1,4 @@
-use Rattle.std.proofs.Common.{◌≡◌, ◌-◌, ◌∙◌, ap, length, arith}
+use Rattle.std.proofs.Common.{rules, ◌≡◌, ◌-◌, ◌∙◌, ap, length, arith}
 use Rattle.std.specs.Prelude.{slice_get}
 use Rattle.esync_pubsub.proofs.Logged.{last_one, log_front, log_take_last, log_took_last}
 use Rattle.esync_pubsub.proofs.log.Log.take_last.Goals as goal
@@ -33,3 +33,6 @@ returns-clause-state g c =
     let last = rw (← c.self.view_is) at c.requires.last in
     let one = last_one g.row.CAP g.row.SUBS a.held.messages a.held.counts a.next a.positions.row a.subscribers c.self.invariant c.args.place c.args.position at from held last in
     rw (c.take_front.ensures.messages, c.put.ensures, ← c.self.view_is) (log_took_last g.row.CAP g.row.SUBS a.held.messages a.held.counts a.next a.positions.row a.subscribers c.self.invariant c.args.place c.args.position at from held one)
+
+pub take_front-requires : goal.take_front-requires
+take_front-requires g c = search rules

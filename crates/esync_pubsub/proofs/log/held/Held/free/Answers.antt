@@ -1,4 +1,4 @@
-use Rattle.std.proofs.Common.{◌<◌, ◌+◌, ◌≡◌, ◌∙◌, refl, ap, drop, arith}
+use Rattle.std.proofs.Common.{rules, ◌<◌, ◌+◌, ◌≡◌, ◌∙◌, refl, ap, drop, arith}
 use Rattle.std.proofs.lemmas.List.{length-drop, drop-drop}
 use Rattle.esync_pubsub.specs.Counts.{unread}
 use Rattle.esync_pubsub.proofs.Counted.{unread_front}
@@ -16,3 +16,12 @@ loop-message-preserved g c =
       drop-drop (unread (drop 1 cs)) 1 ms ∙ ap (λ k. drop k ms) more ∙ v.1,
       drop-drop (unread (drop 1 cs)) 1 cs ∙ ap (λ k. drop k cs) more ∙ v.2,
     )
+
+pub len-message-end-requires : goal.len-message-end-requires
+len-message-end-requires g c = search rules
+
+pub is_unread-requires : goal.is_unread-requires
+is_unread-requires g c = search rules
+
+pub pop-requires : goal.pop-requires
+pop-requires g c = search rules

@@ -1,4 +1,4 @@
-use Rattle.std.proofs.Common.{◌-◌, ◌<◌, ◌∙◌, length, arith}
+use Rattle.std.proofs.Common.{rules, ◌-◌, ◌<◌, ◌∙◌, length, arith}
 use Rattle.std.specs.Prelude.{slice_index}
 use Rattle.std.proofs.lemmas.List.{length-set}
 use Rattle.esync_pubsub.proofs.Counted.{lowered_before, lowered_behind, lowered_rest}
@@ -22,3 +22,6 @@ loop-i-preserved g c =
       lowered_behind cs0 cs c.args.from i n start here some v.4 v.3,
       lowered_rest cs0 cs c.args.from i n start here some v.4,
     )
+
+pub len-i-end-requires : goal.len-i-end-requires
+len-i-end-requires g c = search rules

@@ -1,4 +1,4 @@
-use Rattle.std.proofs.Common.{◌<◌, length, arith}
+use Rattle.std.proofs.Common.{rules, ◌<◌, length, arith}
 use Rattle.esync_pubsub.proofs.Beside.{count_push}
 use Rattle.esync_pubsub.proofs.log.held.Held.push.Goals as goal
 
@@ -10,3 +10,18 @@ returns-clause-counts g c =
     let next = c.slot_of_next-place in
     let below : next.result < g.row.N = omega (arith, next.ensures.within) in
     rw (c.put.ensures, ← c.self.view_is) (count_push g.row.N a.counts.row a.messages.front c.push_back.new.self.front a.messages.items c.push_back.new.self.items c.args.message next.result c.args.count c.self.invariant.0 room pushed.ok pushed.front next.ensures.place below)
+
+pub slot_of_next-place-requires : goal.slot_of_next-place-requires
+slot_of_next-place-requires g c = search rules
+
+pub push_back-requires : goal.push_back-requires
+push_back-requires g c = search rules
+
+pub drop-requires : goal.drop-requires
+drop-requires g c = search rules
+
+pub unreachable-requires : goal.unreachable-requires
+unreachable-requires g c = search rules
+
+pub put-requires : goal.put-requires
+put-requires g c = search rules
