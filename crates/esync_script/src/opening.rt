@@ -287,11 +287,23 @@ macro_rules! at_capacity {
     };
 }
 
-// A script over a channel of at most `n` messages.
-macro_rules! serve_list {
-    ($n:literal, $telling:ident, $lines:ident, $output:ident) => {
-        serve::<ChannelWords, _, T, R, W>($telling, channel::<Deque<u32, $n>>(), $lines, $output)
+// A call of a function of a number of places, at this one.
+macro_rules! at_places {
+    ($n:literal, $serve:ident::<$($of:ident),*>($($argument:ident),*)) => {
+        $serve::<$n, $($of),*>($($argument),*)
     };
+}
+
+// A script over a channel of at most `N` messages.
+fn serve_list<const N: usize, T: Telling, R: Read + Drop, W: Write>(
+    telling: &mut T,
+    lines: &mut Lines<R>,
+    output: &mut W,
+) -> Result<(), Fault>
+    requires { N ≤ 8 }
+    ensures { PlaysMessages ⟦<u64 as PartialEq>⟧.eq T.tells (BoundedList ℕ N) lines.old.number lines.old.left (W.contents output.old) (W.contents output.new) result }
+{
+    serve::<ChannelWords, _, T, R, W>(telling, channel::<Deque<u32, N>>(), lines, output)
 }
 
 fn serve_channel<T: Telling, R: Read + Drop, W: Write>(
@@ -302,19 +314,22 @@ fn serve_channel<T: Telling, R: Read + Drop, W: Write>(
 ) -> Result<(), Fault>
     ensures { PlaysMessages ⟦<u64 as PartialEq>⟧.eq T.tells (BoundedList ℕ (places capacity)) lines.old.number lines.old.left (W.contents output.old) (W.contents output.new) result }
 {
-    at_capacity!(capacity, serve_list!(telling, lines, output))
+    at_capacity!(
+        capacity,
+        at_places!(serve_list::<T, R, W>(telling, lines, output))
+    )
 }
 
-// A script over a priority channel of at most `n` messages.
-macro_rules! serve_bag {
-    ($n:literal, $order:ident, $telling:ident, $lines:ident, $output:ident) => {
-        serve::<ChannelWords, _, T, R, W>(
-            $telling,
-            channel::<PrioQueue<u32, $order, $n>>(),
-            $lines,
-            $output,
-        )
-    };
+// A script over a priority channel of at most `N` messages.
+fn serve_bag<const N: usize, P: Kind<u32>, T: Telling, R: Read + Drop, W: Write>(
+    telling: &mut T,
+    lines: &mut Lines<R>,
+    output: &mut W,
+) -> Result<(), Fault>
+    requires { N ≤ 8 }
+    ensures { PlaysMessages ⟦<u64 as PartialEq>⟧.eq T.tells (Bag ℕ P.above N) lines.old.number lines.old.left (W.contents output.old) (W.contents output.new) result }
+{
+    serve::<ChannelWords, _, T, R, W>(telling, channel::<PrioQueue<u32, P, N>>(), lines, output)
 }
 
 fn serve_priority<P: Kind<u32>, T: Telling, R: Read + Drop, W: Write>(
@@ -325,14 +340,23 @@ fn serve_priority<P: Kind<u32>, T: Telling, R: Read + Drop, W: Write>(
 ) -> Result<(), Fault>
     ensures { PlaysMessages ⟦<u64 as PartialEq>⟧.eq T.tells (Bag ℕ P.above (places capacity)) lines.old.number lines.old.left (W.contents output.old) (W.contents output.new) result }
 {
-    at_capacity!(capacity, serve_bag!(P, telling, lines, output))
+    at_capacity!(
+        capacity,
+        at_places!(serve_bag::<P, T, R, W>(telling, lines, output))
+    )
 }
 
-// A script over a fair semaphore with a queue of `n` places.
-macro_rules! serve_queue {
-    ($n:literal, $permits:ident, $telling:ident, $lines:ident, $output:ident) => {
-        serve::<FairWords, _, T, R, W>($telling, fair::<$n>($permits), $lines, $output)
-    };
+// A script over a fair semaphore with a queue of `N` places.
+fn serve_queue<const N: usize, T: Telling, R: Read + Drop, W: Write>(
+    telling: &mut T,
+    permits: usize,
+    lines: &mut Lines<R>,
+    output: &mut W,
+) -> Result<(), Fault>
+    requires { N ≤ 8 }
+    ensures { PlaysFair ⟦<u64 as PartialEq>⟧.eq T.tells N permits lines.old.number lines.old.left (W.contents output.old) (W.contents output.new) result }
+{
+    serve::<FairWords, _, T, R, W>(telling, fair::<N>(permits), lines, output)
 }
 
 fn serve_fair<T: Telling, R: Read + Drop, W: Write>(
@@ -344,14 +368,22 @@ fn serve_fair<T: Telling, R: Read + Drop, W: Write>(
 ) -> Result<(), Fault>
     ensures { PlaysFair ⟦<u64 as PartialEq>⟧.eq T.tells (places capacity) permits lines.old.number lines.old.left (W.contents output.old) (W.contents output.new) result }
 {
-    at_capacity!(capacity, serve_queue!(permits, telling, lines, output))
+    at_capacity!(
+        capacity,
+        at_places!(serve_queue::<T, R, W>(telling, permits, lines, output))
+    )
 }
 
-// A script over a pipe of at most `n` bytes.
-macro_rules! serve_bytes {
-    ($n:literal, $telling:ident, $lines:ident, $output:ident) => {
-        serve::<PipeWords, _, T, R, W>($telling, pipe::<$n>(), $lines, $output)
-    };
+// A script over a pipe of at most `N` bytes.
+fn serve_bytes<const N: usize, T: Telling, R: Read + Drop, W: Write>(
+    telling: &mut T,
+    lines: &mut Lines<R>,
+    output: &mut W,
+) -> Result<(), Fault>
+    requires { N ≤ 8 }
+    ensures { PlaysPipe ⟦<u64 as PartialEq>⟧.eq T.tells N lines.old.number lines.old.left (W.contents output.old) (W.contents output.new) result }
+{
+    serve::<PipeWords, _, T, R, W>(telling, pipe::<N>(), lines, output)
 }
 
 fn serve_pipe<T: Telling, R: Read + Drop, W: Write>(
@@ -362,7 +394,10 @@ fn serve_pipe<T: Telling, R: Read + Drop, W: Write>(
 ) -> Result<(), Fault>
     ensures { PlaysPipe ⟦<u64 as PartialEq>⟧.eq T.tells (places capacity) lines.old.number lines.old.left (W.contents output.old) (W.contents output.new) result }
 {
-    at_capacity!(capacity, serve_bytes!(telling, lines, output))
+    at_capacity!(
+        capacity,
+        at_places!(serve_bytes::<T, R, W>(telling, lines, output))
+    )
 }
 
 // A script over a channel for many of at most `n` messages.
@@ -418,11 +453,18 @@ fn serve_zerocopy<T: Telling, R: Read + Drop, W: Write>(
     }
 }
 
-// A script over a watch of at most `n` counted receivers.
-macro_rules! serve_value {
-    ($n:literal, $value:ident, $telling:ident, $lines:ident, $output:ident) => {
-        serve::<WatchWords, _, T, R, W>($telling, watch::<$n>($value), $lines, $output)
-    };
+// A script over a watch of at most `N` counted receivers.
+fn serve_value<const N: usize, T: Telling, R: Read + Drop, W: Write>(
+    telling: &mut T,
+    value: Option<u32>,
+    lines: &mut Lines<R>,
+    output: &mut W,
+) -> Result<(), Fault>
+    requires some { 1 ≤ N }
+    requires few { N ≤ 8 }
+    ensures { PlaysWatch ⟦<u64 as PartialEq>⟧.eq T.tells N value lines.old.number lines.old.left (W.contents output.old) (W.contents output.new) result }
+{
+    serve::<WatchWords, _, T, R, W>(telling, watch::<N>(value), lines, output)
 }
 
 fn serve_watch<T: Telling, R: Read + Drop, W: Write>(
@@ -434,7 +476,10 @@ fn serve_watch<T: Telling, R: Read + Drop, W: Write>(
 ) -> Result<(), Fault>
     ensures { PlaysWatch ⟦<u64 as PartialEq>⟧.eq T.tells (places capacity) value lines.old.number lines.old.left (W.contents output.old) (W.contents output.new) result }
 {
-    at_capacity!(capacity, serve_value!(value, telling, lines, output))
+    at_capacity!(
+        capacity,
+        at_places!(serve_value::<T, R, W>(telling, value, lines, output))
+    )
 }
 
 // Makes the primitive that line 1 names, and plays the lines behind it.

@@ -1,16 +1,16 @@
 use Rattle.esync_script.proofs.opening.serve_channel.Goals as goal
 
 pub returns-in-One : goal.returns-in-One
-returns-in-One g c = rw (c.in-One.is, ← c.channel.ensures.object, ← c.channel.ensures.registrations) c.serve.ensures
+returns-in-One g c = rw c.in-One.is c.serve_list.ensures
 
 pub returns-in-Two : goal.returns-in-Two
-returns-in-Two g c = rw (c.in-Two.is, ← c.channel-in-Two.ensures.object, ← c.channel-in-Two.ensures.registrations) c.serve-in-Two.ensures
+returns-in-Two g c = rw c.in-Two.is c.serve_list-in-Two.ensures
 
 pub returns-in-Three : goal.returns-in-Three
-returns-in-Three g c = rw (c.in-Three.is, ← c.channel-in-Three.ensures.object, ← c.channel-in-Three.ensures.registrations) c.serve-in-Three.ensures
+returns-in-Three g c = rw c.in-Three.is c.serve_list-in-Three.ensures
 
 pub returns-in-Four : goal.returns-in-Four
-returns-in-Four g c = rw (c.in-Four.is, ← c.channel-in-Four.ensures.object, ← c.channel-in-Four.ensures.registrations) c.serve-in-Four.ensures
+returns-in-Four g c = rw c.in-Four.is c.serve_list-in-Four.ensures
 
 pub returns-in-Eight : goal.returns-in-Eight
-returns-in-Eight g c = rw (c.in-Eight.is, ← c.channel-in-Eight.ensures.object, ← c.channel-in-Eight.ensures.registrations) c.serve-in-Eight.ensures
+returns-in-Eight g c = rw c.in-Eight.is c.serve_list-in-Eight.ensures
