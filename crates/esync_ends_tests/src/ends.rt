@@ -1,5 +1,6 @@
 use esync_ends::replay::{Player, SyncRun};
 use esync_ends::{ends, ends_of};
+use esync_notes::same;
 use esync_words::fault::Fault;
 use std::alloc::Global;
 use std::process::Abort;
@@ -62,8 +63,8 @@ fn a_waker_that_is_kept_back_is_found(rt: HostRuntime) -> Result<(), Fail> {
     );
     let untold =
         "after line 4, end 2: request 1 is Ready and was not told\nafter line 5, end 2: request 1 is Ready and was not told\n6 ends, 2 polls, 2 not told\n";
-    assert_eq!(&rt; str::from_utf8(&output)?, untold);
-    assert_eq!(&rt; status, 1);
+    same!(&rt; str::from_utf8(&output)?, untold);
+    same!(&rt; status, 1);
     Ok(())
 }
 
@@ -71,20 +72,20 @@ fn a_waker_that_is_kept_back_is_found(rt: HostRuntime) -> Result<(), Fail> {
 fn each_request_is_ended_after_each_line(rt: HostRuntime) -> Result<(), Fail> {
     let script = "channel 1\nstart 1 receive\npoll 1 1\nstart 2 receive\ntry-send 7\n";
     let left = left_by(rt.alloc(), script);
-    assert_eq!(&rt;
+    same!(&rt;
         str::from_utf8(&left.output)?,
         "6 ends, 2 polls, 0 not told\n"
     );
-    assert_eq!(&rt; left.status, 0);
+    same!(&rt; left.status, 0);
     Ok(())
 }
 
 #[test]
 fn a_line_that_is_no_command_ends_it(rt: HostRuntime) -> Result<(), Fail> {
     let left = left_by(rt.alloc(), "channel 1\nstart 0 receive\npop\n");
-    assert_eq!(&rt; str::from_utf8(&left.output)?, "");
-    assert_eq!(&rt; str::from_utf8(&left.errors)?, "line 3: not a command\n");
-    assert_eq!(&rt; left.status, 2);
+    same!(&rt; str::from_utf8(&left.output)?, "");
+    same!(&rt; str::from_utf8(&left.errors)?, "line 3: not a command\n");
+    same!(&rt; left.status, 2);
     Ok(())
 }
 

@@ -1,6 +1,7 @@
 //! Reads and writes that fail in mid-stream, each in turn.
 use crate::ends::KeepsBack;
 use esync_ends::ends_of;
+use esync_notes::same;
 use std::alloc::Global;
 use std::io::{self, ErrorKind, Read, Write};
 use std::process::Abort;
@@ -103,8 +104,8 @@ fn a_read_that_fails_leaves_nothing(rt: HostRuntime) -> Result<(), Fail> {
 fn nothing_is_written_behind_a_write_that_fails(rt: HostRuntime) -> Result<(), Fail> {
     for count in 0..UNTOLD.len() {
         let (output, errors, status) = left_by(rt.alloc(), (usize::MAX, ErrorKind::Other), count);
-        assert_eq!(rt; output.as_slice(), &UNTOLD.as_bytes()[..count]);
-        assert_eq!(rt; str::from_utf8(&errors)?, "input or output failed\n");
+        same!(rt; output.as_slice(), &UNTOLD.as_bytes()[..count]);
+        same!(rt; str::from_utf8(&errors)?, "input or output failed\n");
         assert_eq!(rt; status, 3, "behind {count} writes");
     }
     Ok(())
@@ -113,8 +114,8 @@ fn nothing_is_written_behind_a_write_that_fails(rt: HostRuntime) -> Result<(), F
 #[test]
 fn bytes_that_come_and_go_one_by_one_change_nothing(rt: HostRuntime) -> Result<(), Fail> {
     let (output, errors, status) = left_by(rt.alloc(), (7, ErrorKind::Interrupted), usize::MAX);
-    assert_eq!(rt; str::from_utf8(&output)?, UNTOLD);
-    assert_eq!(rt; errors.len(), 0);
-    assert_eq!(rt; status, 1);
+    same!(rt; str::from_utf8(&output)?, UNTOLD);
+    same!(rt; errors.len(), 0);
+    same!(rt; status, 1);
     Ok(())
 }

@@ -1,7 +1,7 @@
 use crate::threads::Deaf;
 use esync_base::waitqueue::{Context, Hand, Poll};
 use esync_guards::mutex::{LockFuture, Mutex, MutexGuard, Second, TryLockError};
-use esync_notes::{Notes, woken};
+use esync_notes::{Notes, holds, same, woken};
 use std::process::Abort;
 
 // A guard of a mutex that is not locked.
@@ -40,14 +40,14 @@ fn a_part_is_written_through_a_mapped_guard(rt: HostRuntime) {
     let mutex = Mutex::new((0u32, 1u32), &notes);
     let mut request = mutex.lock();
     let mut part = polls(&rt, &mut request, 1).map(Second {});
-    assert_eq!(rt; *part.get(), 1);
+    same!(rt; *part.get(), 1);
     *part.get_mut() = 2;
     part.end();
     let guard = polls(&rt, &mut request, 1);
-    assert_eq!(rt; *guard.get(), (0, 2));
+    same!(rt; *guard.get(), (0, 2));
     drop(guard);
     woken!(&rt, &notes, &[]);
-    assert_eq!(rt; mutex.into_inner(), (0, 2));
+    same!(rt; mutex.into_inner(), (0, 2));
 }
 
 // Locks, sees the value, narrows the guard to the second part, sees and writes it, and unlocks.
@@ -58,9 +58,9 @@ fn writes_second<H: Hand<u64>>(
     part: u32,
 ) {
     let guard = locks(rt, mutex);
-    assert_eq!(rt; *guard.get(), shows);
+    same!(rt; *guard.get(), shows);
     let mut second = guard.map(Second {});
-    assert_eq!(rt; *second.get(), shows.1);
+    same!(rt; *second.get(), shows.1);
     *second.get_mut() = part;
 }
 
@@ -69,7 +69,7 @@ fn a_mapped_guard_that_is_dropped_unlocks(rt: HostRuntime) {
     let mutex: Mutex<(u32, u32), u64, Deaf<HostRuntime>> = Mutex::from((0, 1));
     writes_second(&rt, &mutex, (0, 1), 2);
     writes_second(&rt, &mutex, (0, 2), 3);
-    assert_eq!(rt; *locks(&rt, &mutex).get(), (0, 3));
+    same!(rt; *locks(&rt, &mutex).get(), (0, 3));
 }
 
 #[test]
@@ -81,10 +81,10 @@ fn the_end_of_a_mapped_guard_wakes_who_waits(rt: HostRuntime) {
     waits(&rt, &mut request, 8);
     let mut part = guard.map(Second {});
     *part.get_mut() = 9;
-    assert_eq!(rt; *part.get(), 9);
+    same!(rt; *part.get(), 9);
     part.end();
     woken!(&rt, &notes, &[8]);
-    assert_eq!(rt; *polls(&rt, &mut request, 8).get(), (4, 9));
+    same!(rt; *polls(&rt, &mut request, 8).get(), (4, 9));
 }
 
 #[test]
@@ -92,10 +92,10 @@ fn a_part_of_a_part_is_written(rt: HostRuntime) {
     let notes = Notes::new(&rt);
     let mutex = Mutex::new(((1u32, 2u32), (3u32, 4u32)), &notes);
     let mut part = locks(&rt, &mutex).map(Second {}).map(Second {});
-    assert_eq!(rt; *part.get(), 4);
+    same!(rt; *part.get(), 4);
     *part.get_mut() = 9;
     part.end();
-    assert_eq!(rt; *locks(&rt, &mutex).get(), ((1, 2), (3, 9)));
+    same!(rt; *locks(&rt, &mutex).get(), ((1, 2), (3, 9)));
 }
 
 #[test]
@@ -104,7 +104,7 @@ fn the_end_of_a_guard_wakes_who_waits(rt: HostRuntime) {
     let mut mutex = Mutex::new(5u32, &notes);
     *mutex.get_mut() = 6;
     let mut guard = locks(&rt, &mutex);
-    assert!(rt; matches!(mutex.try_lock(), Err(TryLockError)));
+    holds!(rt; matches!(mutex.try_lock(), Err(TryLockError)));
     let mut first = mutex.lock();
     let mut second = mutex.lock();
     waits(&rt, &mut first, 1);
@@ -112,11 +112,11 @@ fn the_end_of_a_guard_wakes_who_waits(rt: HostRuntime) {
     waits(&rt, &mut second, 2);
     woken!(&rt, &notes, &[1]);
     *guard.get_mut() = 7;
-    assert_eq!(rt; *guard.get(), 7);
+    same!(rt; *guard.get(), 7);
     guard.end();
     woken!(&rt, &notes, &[2]);
     let held = polls(&rt, &mut second, 2);
-    assert_eq!(rt; *held.get(), 7);
+    same!(rt; *held.get(), 7);
     waits(&rt, &mut first, 1);
     held.end();
     woken!(&rt, &notes, &[1]);

@@ -4,6 +4,7 @@ use esync_guards::mutex::{MutexState, Second, TryLockError};
 use esync_machine::primitive::{Answer, Command};
 use esync_machine::requests::Requests;
 use esync_machine::run::Machine;
+use esync_notes::{holds, same};
 use std::alloc::AllocError;
 use std::process::Abort;
 
@@ -20,8 +21,8 @@ fn gives(
     handed_out: Option<u64>,
 ) {
     let reply = mutex.step(command);
-    assert!(rt; reply.answer == answer);
-    assert!(rt; reply.wakes.get(0) == handed_out);
+    holds!(rt; reply.answer == answer);
+    holds!(rt; reply.wakes.get(0) == handed_out);
 }
 
 fn call(
@@ -111,16 +112,16 @@ fn what_is_of_another_kind_is_not_there(rt: HostRuntime) {
 fn a_mutex_shows_who_waits(rt: HostRuntime) -> Result<(), AllocError> {
     let mut wakes: Wakes<u64, 1> = Wakes::new();
     let mut mutex: MutexState<u64> = MutexState::new();
-    assert_eq!(rt;
+    same!(rt;
         mutex.poll_lock(&Context::from_waker(1), &mut wakes),
         Poll::Ready(())
     );
-    assert_eq!(rt;
+    same!(rt;
         mutex.poll_lock(&Context::from_waker(2), &mut wakes),
         Poll::Pending
     );
     let shown = format!(in rt.alloc(); "{mutex:?}")?;
-    assert_eq!(rt;
+    same!(rt;
         shown.as_str(),
         "MutexState { locked: true, waker: WakerRegistration { waker: Some(2) } }"
     );

@@ -1,5 +1,6 @@
 use esync_base::waitqueue::{Context, Hand, Poll};
 use esync_guards::mutex::{Mutex, TryLockError};
+use esync_notes::same;
 use std::marker::PhantomData;
 use std::process::Abort;
 use std::sync::Wait;
@@ -57,7 +58,7 @@ fn what_two_threads_add_under_the_lock_is_all_there(rt: HostRuntime) {
             }
         }
     });
-    assert_eq!(rt; mutex.into_inner(), 20_000);
+    same!(rt; mutex.into_inner(), 20_000);
 }
 
 const NOT_TRIED: u32 = 0;
@@ -99,11 +100,11 @@ fn another_thread_is_refused_while_a_guard_reads_and_writes(rt: HostRuntime) {
             here.abort()
         }
         *guard.get_mut() = 7;
-        assert_eq!(here; awaits(told, 50_000_000), REFUSED);
-        assert_eq!(here; *guard.get(), 7);
+        same!(here; awaits(told, 50_000_000), REFUSED);
+        same!(here; *guard.get(), 7);
         guard.end();
     });
-    assert_eq!(rt; mutex.into_inner(), 7);
+    same!(rt; mutex.into_inner(), 7);
 }
 
 const WOKEN: u32 = 3;
@@ -173,5 +174,5 @@ fn who_is_woken_can_lock_at_once(rt: HostRuntime) {
         }
         guard.end();
     });
-    assert_eq!(rt; woken.load(Ordering::SeqCst), LOCKED);
+    same!(rt; woken.load(Ordering::SeqCst), LOCKED);
 }

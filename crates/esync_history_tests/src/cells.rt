@@ -3,6 +3,7 @@ use esync_cells::lazy_lock::Given;
 use esync_cells::once_lock::OnceState;
 use esync_cells::signal::SignalState;
 use esync_history::executor::{Act, Executor, Outcome};
+use esync_notes::{holds, same};
 use esync_run::lazy_lock::{LazyCall, LazyHolder, LazyRun};
 use esync_run::once_lock::{Get, OnceCall, OnceRun};
 use esync_run::primitive::{Answer, Command};
@@ -28,8 +29,8 @@ fn a_value_reaches_the_task_that_waits(rt: HostRuntime) -> Result<(), Fail> {
     let signal: Signal = Requests::new(SignalState::new());
     let tasks = vec![in alloc; waits, vec![in alloc; signals(5)]?]?;
     let mut executor = Executor::new(alloc, signal, tasks)?;
-    assert_eq!(rt; executor.run(2), Outcome::Limit);
-    assert_eq!(rt; executor.run(1), Outcome::Done);
+    same!(rt; executor.run(2), Outcome::Limit);
+    same!(rt; executor.run(1), Outcome::Done);
     Ok(())
 }
 
@@ -41,9 +42,9 @@ fn one_value_of_two_waits_is_taken_once(rt: HostRuntime) -> Result<(), Fail> {
     let signal: Signal = Requests::new(SignalState::new());
     let tasks = vec![in alloc; first, second, vec![in alloc; signals(5)]?]?;
     let mut executor = Executor::new(alloc, signal, tasks)?;
-    assert_eq!(rt; executor.run(4), Outcome::Limit);
-    assert_eq!(rt; executor.run(1), Outcome::Stalled);
-    assert_eq!(rt; executor.run(10), Outcome::Stalled);
+    same!(rt; executor.run(4), Outcome::Limit);
+    same!(rt; executor.run(1), Outcome::Stalled);
+    same!(rt; executor.run(10), Outcome::Stalled);
     Ok(())
 }
 
@@ -61,10 +62,10 @@ fn once(alloc: Global, is_set: bool) -> Result<Executor<Once>, Fail> {
 #[test]
 fn a_wait_for_a_value_that_is_set_once_wakes_itself(rt: HostRuntime) -> Result<(), Fail> {
     let mut waits = once(rt.alloc(), false)?;
-    assert_eq!(rt; waits.run(50), Outcome::Limit);
+    same!(rt; waits.run(50), Outcome::Limit);
     let mut hears = once(rt.alloc(), true)?;
-    assert_eq!(rt; hears.run(2), Outcome::Limit);
-    assert_eq!(rt; hears.run(1), Outcome::Done);
+    same!(rt; hears.run(2), Outcome::Limit);
+    same!(rt; hears.run(1), Outcome::Done);
     Ok(())
 }
 
@@ -84,16 +85,16 @@ fn lazy(alloc: Global) -> Result<Executor<Lazy>, Fail> {
 #[test]
 fn nothing_is_there_once_a_task_took_the_value_out(rt: HostRuntime) -> Result<(), Fail> {
     let mut executor = lazy(rt.alloc())?;
-    assert_eq!(rt; executor.run(2), Outcome::Limit);
-    assert_eq!(rt; executor.run(1), Outcome::Done);
+    same!(rt; executor.run(2), Outcome::Limit);
+    same!(rt; executor.run(1), Outcome::Done);
     for (task, answers) in [
         (0, &[Answer::Gives(5)][..]),
         (1, &[Answer::Gives(5), Answer::NoSuch][..]),
     ] {
         let heard = executor.heard(task).unwrap_or(&[]);
-        assert_eq!(rt; heard.len(), answers.len());
+        same!(rt; heard.len(), answers.len());
         for (reply, answer) in heard.iter().zip(answers.iter()) {
-            assert!(rt; reply.answer == *answer);
+            holds!(rt; reply.answer == *answer);
         }
     }
     Ok(())

@@ -2,6 +2,7 @@
 use esync_base::waitqueue::TaskId;
 use esync_history::executor::{Act, Executor, Outcome};
 use esync_machine::run::Machine;
+use esync_notes::{holds, same};
 use esync_run::primitive::{Answer, Command};
 use esync_run::pubsub::{
     Events, PubSubAsk, PubSubCall, PubSubCommand, PubSubHeard, PubSubReply, PubSubRun,
@@ -44,12 +45,12 @@ fn published(reply: &PubSubReply<u32, TaskId, 4>) -> Option<Result<(), u32>> {
 #[test]
 fn a_task_that_waits_for_room_hears_that_the_numbers_ran_out(rt: HostRuntime) -> Result<(), Fail> {
     let mut executor = executor(rt.alloc())?;
-    assert_eq!(rt; executor.run(5), Outcome::Limit);
-    assert_eq!(rt; executor.run(1), Outcome::Done);
+    same!(rt; executor.run(5), Outcome::Limit);
+    same!(rt; executor.run(1), Outcome::Done);
     let heard = executor.heard(0).unwrap_or(&[]);
-    assert_eq!(rt; heard.len(), 3);
+    same!(rt; heard.len(), 3);
     for (reply, answer) in heard.iter().zip([Ok(()), Err(6), Err(7)]) {
-        assert!(rt; published(reply) == Some(answer));
+        holds!(rt; published(reply) == Some(answer));
     }
     Ok(())
 }

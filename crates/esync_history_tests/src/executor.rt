@@ -2,6 +2,7 @@ use esync_base::waitqueue::TaskId;
 use esync_channel::channel::{ChannelState, TrySendError};
 use esync_history::executor::{Act, Executor, NewError, Outcome};
 use esync_machine::run::Machine;
+use esync_notes::{holds, same};
 use esync_run::channel::{ChannelAsk, ChannelCall, ChannelCommand, ChannelHeard, ChannelRun};
 use esync_run::primitive::{Answer, Command};
 use esync_run::requests::Requests;
@@ -75,14 +76,14 @@ fn a_message_reaches_the_task_that_waits(rt: HostRuntime) -> Result<(), Fail> {
     let alloc = rt.alloc();
     let tasks = one_act_each(alloc, &[receive(0), try_send(7)])?;
     let mut executor = Executor::new(alloc, channel(), tasks)?;
-    assert_eq!(rt; executor.run(10), Outcome::Done);
-    assert_eq!(rt; executor.run(0), Outcome::Done);
-    assert!(rt; has_heard(&executor, 0, &[received(7)]));
-    assert!(rt; has_heard(&executor, 1, &[sent()]));
-    assert!(rt; executor.heard(2).is_none());
-    assert!(rt; executor.heard(usize::MAX).is_none());
+    same!(rt; executor.run(10), Outcome::Done);
+    same!(rt; executor.run(0), Outcome::Done);
+    holds!(rt; has_heard(&executor, 0, &[received(7)]));
+    holds!(rt; has_heard(&executor, 1, &[sent()]));
+    holds!(rt; executor.heard(2).is_none());
+    holds!(rt; executor.heard(usize::MAX).is_none());
     let mut channel = executor.into_machine();
-    assert_eq!(rt; held(&mut channel), Some(0));
+    same!(rt; held(&mut channel), Some(0));
     Ok(())
 }
 
@@ -91,15 +92,15 @@ fn a_run_goes_on_after_its_limit(rt: HostRuntime) -> Result<(), Fail> {
     let alloc = rt.alloc();
     let tasks = one_act_each(alloc, &[receive(0), try_send(7)])?;
     let mut executor = Executor::new(alloc, channel(), tasks)?;
-    assert_eq!(rt; executor.run(0), Outcome::Limit);
-    assert!(rt; has_heard(&executor, 0, &[]));
-    assert!(rt; has_heard(&executor, 1, &[]));
-    assert_eq!(rt; executor.run(2), Outcome::Limit);
-    assert!(rt; has_heard(&executor, 0, &[]));
-    assert!(rt; has_heard(&executor, 1, &[sent()]));
-    assert_eq!(rt; executor.run(1), Outcome::Done);
-    assert!(rt; has_heard(&executor, 0, &[received(7)]));
-    assert!(rt; has_heard(&executor, 1, &[sent()]));
+    same!(rt; executor.run(0), Outcome::Limit);
+    holds!(rt; has_heard(&executor, 0, &[]));
+    holds!(rt; has_heard(&executor, 1, &[]));
+    same!(rt; executor.run(2), Outcome::Limit);
+    holds!(rt; has_heard(&executor, 0, &[]));
+    holds!(rt; has_heard(&executor, 1, &[sent()]));
+    same!(rt; executor.run(1), Outcome::Done);
+    holds!(rt; has_heard(&executor, 0, &[received(7)]));
+    holds!(rt; has_heard(&executor, 1, &[sent()]));
     Ok(())
 }
 
@@ -107,10 +108,10 @@ fn a_run_goes_on_after_its_limit(rt: HostRuntime) -> Result<(), Fail> {
 fn a_task_that_nobody_wakes_stalls(rt: HostRuntime) -> Result<(), Fail> {
     let alloc = rt.alloc();
     let mut executor = Executor::new(alloc, channel(), one_act_each(alloc, &[receive(0)])?)?;
-    assert_eq!(rt; executor.run(0), Outcome::Limit);
-    assert_eq!(rt; executor.run(1), Outcome::Stalled);
-    assert_eq!(rt; executor.run(10), Outcome::Stalled);
-    assert!(rt; has_heard(&executor, 0, &[]));
+    same!(rt; executor.run(0), Outcome::Limit);
+    same!(rt; executor.run(1), Outcome::Stalled);
+    same!(rt; executor.run(10), Outcome::Stalled);
+    holds!(rt; has_heard(&executor, 0, &[]));
     Ok(())
 }
 
@@ -119,10 +120,10 @@ fn two_receivers_wake_each_other_for_ever(rt: HostRuntime) -> Result<(), Fail> {
     let alloc = rt.alloc();
     let tasks = one_act_each(alloc, &[receive(0), receive(1)])?;
     let mut executor = Executor::new(alloc, channel(), tasks)?;
-    assert_eq!(rt; executor.run(50), Outcome::Limit);
-    assert_eq!(rt; executor.run(50), Outcome::Limit);
-    assert!(rt; has_heard(&executor, 0, &[]));
-    assert!(rt; has_heard(&executor, 1, &[]));
+    same!(rt; executor.run(50), Outcome::Limit);
+    same!(rt; executor.run(50), Outcome::Limit);
+    holds!(rt; has_heard(&executor, 0, &[]));
+    holds!(rt; has_heard(&executor, 1, &[]));
     Ok(())
 }
 
@@ -130,16 +131,16 @@ fn two_receivers_wake_each_other_for_ever(rt: HostRuntime) -> Result<(), Fail> {
 fn tasks_without_acts_have_ended(rt: HostRuntime) -> Result<(), Fail> {
     let alloc = rt.alloc();
     let mut nobody = Executor::new(alloc, channel(), Vec::new(alloc))?;
-    assert_eq!(rt; nobody.run(0), Outcome::Done);
-    assert!(rt; nobody.heard(0).is_none());
+    same!(rt; nobody.run(0), Outcome::Done);
+    holds!(rt; nobody.heard(0).is_none());
     let empty = vec![in alloc; Vec::new(alloc)]?;
     let mut idle = Executor::new(alloc, channel(), empty)?;
-    assert_eq!(rt; idle.run(0), Outcome::Done);
-    assert!(rt; has_heard(&idle, 0, &[]));
+    same!(rt; idle.run(0), Outcome::Done);
+    holds!(rt; has_heard(&idle, 0, &[]));
     let beside = vec![in alloc; Vec::new(alloc), vec![in alloc; try_send(7)]?]?;
     let mut executor = Executor::new(alloc, channel(), beside)?;
-    assert_eq!(rt; executor.run(0), Outcome::Limit);
-    assert_eq!(rt; executor.run(1), Outcome::Done);
+    same!(rt; executor.run(0), Outcome::Limit);
+    same!(rt; executor.run(1), Outcome::Done);
     Ok(())
 }
 
@@ -164,10 +165,10 @@ fn an_await_of_an_occupied_number_is_over(rt: HostRuntime) -> Result<(), Fail> {
     channel.step(Command::Start(3, ChannelAsk::Receive));
     let acts = vec![in alloc; receive(3), try_send(7)]?;
     let mut executor = Executor::new(alloc, channel, vec![in alloc; acts]?)?;
-    assert_eq!(rt; executor.run(2), Outcome::Done);
-    assert!(rt; has_heard(&executor, 0, &[Answer::NoSuch, sent()]));
+    same!(rt; executor.run(2), Outcome::Done);
+    holds!(rt; has_heard(&executor, 0, &[Answer::NoSuch, sent()]));
     let mut channel = executor.into_machine();
-    assert_eq!(rt; held(&mut channel), Some(1));
+    same!(rt; held(&mut channel), Some(1));
     Ok(())
 }
 
@@ -176,9 +177,9 @@ fn an_await_whose_request_a_call_ends_stalls(rt: HostRuntime) -> Result<(), Fail
     let alloc = rt.alloc();
     let tasks = one_act_each(alloc, &[receive(0), Act::Call(Command::End(0))])?;
     let mut executor = Executor::new(alloc, channel(), tasks)?;
-    assert_eq!(rt; executor.run(10), Outcome::Stalled);
-    assert!(rt; has_heard(&executor, 0, &[]));
-    assert!(rt; has_heard(&executor, 1, &[Answer::Done]));
+    same!(rt; executor.run(10), Outcome::Stalled);
+    holds!(rt; has_heard(&executor, 0, &[]));
+    holds!(rt; has_heard(&executor, 1, &[Answer::Done]));
     Ok(())
 }
 
@@ -188,22 +189,22 @@ fn acts_of_a_task_come_in_order(rt: HostRuntime) -> Result<(), Fail> {
     let acts = vec![in alloc; try_send(1), try_send(2), receive(4)]?;
     let mut executor = Executor::new(alloc, channel(), vec![in alloc; acts]?)?;
     let full = Answer::Gives(ChannelHeard::TrySent(Err(TrySendError::Full(2))));
-    assert_eq!(rt; executor.run(2), Outcome::Limit);
-    assert!(rt; has_heard(&executor, 0, &[sent(), full]));
-    assert_eq!(rt; executor.run(1), Outcome::Done);
-    assert!(rt; has_heard(&executor, 0, &[sent(), full, received(1)]));
+    same!(rt; executor.run(2), Outcome::Limit);
+    holds!(rt; has_heard(&executor, 0, &[sent(), full]));
+    same!(rt; executor.run(1), Outcome::Done);
+    holds!(rt; has_heard(&executor, 0, &[sent(), full, received(1)]));
     let (mut channel, heard) = executor.into_parts();
-    assert_eq!(rt; held(&mut channel), Some(0));
-    assert_eq!(rt; heard.len(), 1);
-    assert!(rt; heard.first().is_some_and(|answers| answers.len() == 3));
+    same!(rt; held(&mut channel), Some(0));
+    same!(rt; heard.len(), 1);
+    holds!(rt; heard.first().is_some_and(|answers| answers.len() == 3));
     Ok(())
 }
 
 // What `new` says to these tasks.
 fn is_refused(rt: &impl Abort, alloc: Global, tasks: Tasks) {
     match Executor::new(alloc, channel(), tasks) {
-        Ok(_) => assert!(rt; false),
-        Err(error) => assert_eq!(rt; error, NewError::NoSuch),
+        Ok(_) => holds!(rt; false),
+        Err(error) => same!(rt; error, NewError::NoSuch),
     }
 }
 

@@ -1,6 +1,7 @@
 use esync_base::waitqueue::TaskId;
 use esync_guards::mutex::Second;
 use esync_history::executor::{Act, Executor, Outcome};
+use esync_notes::same;
 use esync_run::mutex::{Guarded, Lock, MutexCommand, MutexRun};
 use esync_run::primitive::Command;
 use esync_run::requests::Requests;
@@ -26,15 +27,15 @@ fn executor(alloc: Global, end: usize) -> Result<Executor<Mutex>, Fail> {
 #[test]
 fn the_end_of_a_guard_wakes_the_task_that_waits(rt: HostRuntime) -> Result<(), Fail> {
     let mut executor = executor(rt.alloc(), 0)?;
-    assert_eq!(rt; executor.run(3), Outcome::Limit);
-    assert_eq!(rt; executor.run(1), Outcome::Done);
+    same!(rt; executor.run(3), Outcome::Limit);
+    same!(rt; executor.run(1), Outcome::Done);
     Ok(())
 }
 
 #[test]
 fn a_guard_that_stays_keeps_the_others_waiting(rt: HostRuntime) -> Result<(), Fail> {
     let mut executor = executor(rt.alloc(), 2)?;
-    assert_eq!(rt; executor.run(2), Outcome::Limit);
-    assert_eq!(rt; executor.run(1), Outcome::Stalled);
+    same!(rt; executor.run(2), Outcome::Limit);
+    same!(rt; executor.run(1), Outcome::Stalled);
     Ok(())
 }

@@ -1,6 +1,7 @@
 use esync_base::waitqueue::TaskId;
 use esync_history::executor::{Act, Executor, Outcome};
 use esync_machine::run::Machine;
+use esync_notes::{holds, same};
 use esync_permits::semaphore::machine::fair::{FairCommand, FairRun};
 use esync_permits::semaphore::machine::greedy::GreedyRun;
 use esync_permits::semaphore::machine::{PermitCall, PermitHeard};
@@ -32,8 +33,8 @@ fn executor(alloc: Global) -> Result<Executor<Semaphore>, Fail> {
 #[test]
 fn a_place_is_free_after_an_end(rt: HostRuntime) -> Result<(), Fail> {
     let alloc = rt.alloc();
-    assert_eq!(rt; executor(alloc)?.run(6), Outcome::Limit);
-    assert_eq!(rt; executor(alloc)?.run(7), Outcome::Stalled);
+    same!(rt; executor(alloc)?.run(6), Outcome::Limit);
+    same!(rt; executor(alloc)?.run(7), Outcome::Stalled);
     Ok(())
 }
 
@@ -51,12 +52,12 @@ fn a_greedy_semaphore_grants_the_small_request(rt: HostRuntime) -> Result<(), Fa
     for (released, outcome) in [(3, Outcome::Done), (1, Outcome::Stalled)] {
         let semaphore: GreedyRun<TaskId, 16, 1> = Requests::new(GreedyState::new(0));
         let mut executor = Executor::new(alloc, semaphore, two_waits(alloc, released)?)?;
-        assert_eq!(rt; executor.run(4), Outcome::Limit);
-        assert_eq!(rt; executor.run(1), outcome);
+        same!(rt; executor.run(4), Outcome::Limit);
+        same!(rt; executor.run(1), outcome);
         let reply = executor
             .into_machine()
             .step(Command::Call(PermitCall::Permits));
-        assert!(rt; reply.answer == Answer::Gives(PermitHeard::Count(0)));
+        holds!(rt; reply.answer == Answer::Gives(PermitHeard::Count(0)));
     }
     Ok(())
 }
@@ -70,11 +71,11 @@ fn a_fair_semaphore_keeps_the_permit_for_the_large_request(rt: HostRuntime) -> R
     ] {
         let semaphore: Semaphore = Requests::new(FairState::new(0));
         let mut executor = Executor::new(alloc, semaphore, two_waits(alloc, released)?)?;
-        assert_eq!(rt; executor.run(turns), outcome);
+        same!(rt; executor.run(turns), outcome);
         let reply = executor
             .into_machine()
             .step(Command::Call(PermitCall::Permits));
-        assert!(rt; reply.answer == Answer::Gives(PermitHeard::Count(left)));
+        holds!(rt; reply.answer == Answer::Gives(PermitHeard::Count(left)));
     }
     Ok(())
 }

@@ -1,5 +1,6 @@
 use esync_base::waitqueue::TaskId;
 use esync_history::executor::{Act, Executor, Outcome};
+use esync_notes::same;
 use esync_pipe::pipe::PipeState;
 use esync_run::bytes::Bytes;
 use esync_run::pipe::{PipeAsk, PipeRun};
@@ -21,15 +22,15 @@ fn executor(alloc: Global, count: usize) -> Result<Executor<Pipe>, Fail> {
 #[test]
 fn a_read_makes_room_for_the_task_that_writes(rt: HostRuntime) -> Result<(), Fail> {
     let mut executor = executor(rt.alloc(), 4)?;
-    assert_eq!(rt; executor.run(2), Outcome::Limit);
-    assert_eq!(rt; executor.run(1), Outcome::Done);
+    same!(rt; executor.run(2), Outcome::Limit);
+    same!(rt; executor.run(1), Outcome::Done);
     Ok(())
 }
 
 #[test]
 fn a_write_of_all_without_room_stalls(rt: HostRuntime) -> Result<(), Fail> {
     let mut executor = executor(rt.alloc(), 1)?;
-    assert_eq!(rt; executor.run(2), Outcome::Limit);
-    assert_eq!(rt; executor.run(1), Outcome::Stalled);
+    same!(rt; executor.run(2), Outcome::Limit);
+    same!(rt; executor.run(1), Outcome::Stalled);
     Ok(())
 }

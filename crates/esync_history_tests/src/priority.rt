@@ -1,6 +1,7 @@
 use esync_base::waitqueue::TaskId;
 use esync_history::executor::{Act, Executor, Outcome};
 use esync_machine::run::Machine;
+use esync_notes::{holds, same};
 use esync_priority::priority_channel::{ChannelState, Max};
 use esync_run::channel::{ChannelAsk, ChannelCall, ChannelCommand, ChannelHeard};
 use esync_run::primitive::{Answer, Command};
@@ -27,12 +28,12 @@ fn executor(alloc: Global, act: ChannelAct) -> Result<Executor<Channel>, Fail> {
 #[test]
 fn a_place_reaches_the_task_that_waits(rt: HostRuntime) -> Result<(), Fail> {
     let mut executor = executor(rt.alloc(), Act::Await(3, ChannelAsk::Receive))?;
-    assert_eq!(rt; executor.run(4), Outcome::Limit);
-    assert_eq!(rt; executor.run(1), Outcome::Done);
+    same!(rt; executor.run(4), Outcome::Limit);
+    same!(rt; executor.run(1), Outcome::Done);
     let mut channel = executor.into_machine();
     for message in [2, 1] {
         let reply = channel.step(Command::Call(ChannelCall::TryReceive));
-        assert!(rt; reply.answer == Answer::Gives(ChannelHeard::TryReceived(Ok(message))));
+        holds!(rt; reply.answer == Answer::Gives(ChannelHeard::TryReceived(Ok(message))));
     }
     Ok(())
 }
@@ -41,7 +42,7 @@ fn a_place_reaches_the_task_that_waits(rt: HostRuntime) -> Result<(), Fail> {
 fn a_send_without_room_stalls(rt: HostRuntime) -> Result<(), Fail> {
     let len = Act::Call(Command::Call(ChannelCall::Len));
     let mut executor = executor(rt.alloc(), len)?;
-    assert_eq!(rt; executor.run(3), Outcome::Limit);
-    assert_eq!(rt; executor.run(1), Outcome::Stalled);
+    same!(rt; executor.run(3), Outcome::Limit);
+    same!(rt; executor.run(1), Outcome::Stalled);
     Ok(())
 }

@@ -1,6 +1,7 @@
 use esync_base::waitqueue::TaskId;
 use esync_history::executor::{Act, Executor, Outcome};
 use esync_machine::run::Machine;
+use esync_notes::holds;
 use esync_run::primitive::{Answer, Command};
 use esync_run::pubsub::{Events, PubSubAsk, PubSubCall, PubSubCommand, PubSubHeard, PubSubRun};
 use esync_run::requests::Requests;
@@ -42,7 +43,7 @@ fn a_message_that_is_read_makes_room_for_the_task_that_publishes(
         assert_eq!(rt; executor.run(turns - 1), Outcome::Limit, "{awaited}");
         assert_eq!(rt; executor.run(1), outcome, "{awaited}");
         let reply = executor.into_machine().step(Command::Call(PubSubCall::Len));
-        assert!(rt; reply.answer == Answer::Gives(PubSubHeard::Number(held)));
+        holds!(rt; reply.answer == Answer::Gives(PubSubHeard::Number(held)));
     }
     Ok(())
 }

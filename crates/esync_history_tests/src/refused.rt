@@ -4,6 +4,7 @@
 use esync_base::waitqueue::TaskId;
 use esync_channel::channel::ChannelState;
 use esync_history::executor::{Act, Executor, NewError, Outcome};
+use esync_notes::same;
 use esync_run::channel::{ChannelAsk, ChannelCall, ChannelCommand, ChannelRun};
 use esync_run::primitive::Command;
 use esync_run::requests::Requests;
@@ -32,6 +33,6 @@ fn a_refused_executor_is_made_again(rt: HostRuntime) -> Result<(), Fail> {
         Err(NewError::NoMemory) => made(rt.alloc())?,
         executor => executor?,
     };
-    assert_eq!(rt; executor.run(10), Outcome::Done);
+    same!(rt; executor.run(10), Outcome::Done);
     Ok(())
 }

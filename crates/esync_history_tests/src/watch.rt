@@ -1,6 +1,7 @@
 use esync_base::waitqueue::TaskId;
 use esync_cells::watch::{Change, Judge};
 use esync_history::executor::{Act, Executor, Outcome};
+use esync_notes::same;
 use esync_run::primitive::{Answer, Command};
 use esync_run::requests::Requests;
 use esync_run::watch::{Await, Reading, WatchCall, WatchCommand, WatchHeard, WatchRun, Watched};
@@ -59,8 +60,8 @@ fn a_new_value_reaches_the_receiver_that_waits(rt: HostRuntime) -> Result<(), Fa
         let receives = vec![in alloc; calls(WatchCall::Receiver(0)), reads(read)]?;
         let sends = vec![in alloc; calls(WatchCall::Id), calls(WatchCall::Send(5))]?;
         let mut executor = Executor::new(alloc, watch, vec![in alloc; receives, sends]?)?;
-        assert_eq!(rt; executor.run(4), Outcome::Limit);
-        assert_eq!(rt; executor.run(1), outcome);
+        same!(rt; executor.run(4), Outcome::Limit);
+        same!(rt; executor.run(1), outcome);
     }
     Ok(())
 }
@@ -122,11 +123,11 @@ fn want_of_memory_is_no_answer_that_is_kept(rt: HostRuntime) -> Result<(), Fail>
         value: 5,
     };
     let mut executor = scarce_executor(rt.alloc(), scarce)?;
-    assert_eq!(rt; executor.run(9), Outcome::Limit);
-    assert_eq!(rt; told(&executor, 0), Some((1, None)));
+    same!(rt; executor.run(9), Outcome::Limit);
+    same!(rt; told(&executor, 0), Some((1, None)));
     is_refused.set(false);
-    assert_eq!(rt; executor.run(1), Outcome::Done);
-    assert_eq!(rt; told(&executor, 0), Some((2, Some(5))));
-    assert_eq!(rt; told(&executor, 1), Some((1, None)));
+    same!(rt; executor.run(1), Outcome::Done);
+    same!(rt; told(&executor, 0), Some((2, Some(5))));
+    same!(rt; told(&executor, 1), Some((1, None)));
     Ok(())
 }

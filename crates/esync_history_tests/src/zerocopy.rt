@@ -1,6 +1,7 @@
 use esync_base::waitqueue::TaskId;
 use esync_history::executor::{Act, Executor, Outcome};
 use esync_machine::run::Machine;
+use esync_notes::{holds, same};
 use esync_run::primitive::{Answer, Command};
 use esync_run::requests::Requests;
 use esync_run::zerocopy_channel::{Lent, ZeroCall, ZeroCommand, ZeroHeard, ZeroRun};
@@ -40,13 +41,13 @@ fn a_slot_that_is_given_back_reaches_the_task_that_sends(rt: HostRuntime) -> Res
         (false, 6, Outcome::Stalled, 7),
     ] {
         let mut executor = executor(rt.alloc(), gives_back)?;
-        assert_eq!(rt; executor.run(turns - 1), Outcome::Limit);
-        assert_eq!(rt; executor.run(1), outcome);
+        same!(rt; executor.run(turns - 1), Outcome::Limit);
+        same!(rt; executor.run(1), outcome);
         let reply = executor
             .into_machine()
             .step(Command::Call(ZeroCall::Try(Side::Receiver)));
         let shown = ZeroHeard::Tried(Some(Lent::Held(0, value)));
-        assert!(rt; reply.answer == Answer::Gives(shown));
+        holds!(rt; reply.answer == Answer::Gives(shown));
     }
     Ok(())
 }

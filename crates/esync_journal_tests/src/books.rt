@@ -11,6 +11,7 @@ use esync_history::recorded::{Receipt, Recorded, audit};
 use esync_machine::primitive::{Answer, Command};
 use esync_machine::requests::Requests;
 use esync_machine::run::Machine;
+use esync_notes::{holds, same};
 use std::alloc::Global;
 use std::marker::Brand;
 use std::process::Abort;
@@ -28,9 +29,9 @@ const SEND: Asked = Command::Call(ChannelCall::TrySend(7));
 const RECEIVE: Asked = Command::Call(ChannelCall::TryReceive);
 
 fn is(rt: &impl Abort, receipt: &ChannelReceipt, number: usize, heard: ChannelHeard<u32>) {
-    assert_eq!(rt; receipt.number, number);
-    assert_eq!(rt; receipt.entry.seat, number);
-    assert!(rt; receipt.entry.reply.answer == Answer::Gives(heard));
+    same!(rt; receipt.number, number);
+    same!(rt; receipt.entry.seat, number);
+    holds!(rt; receipt.entry.reply.answer == Answer::Gives(heard));
 }
 
 // What a seat of another book hears, whose channel is full.
@@ -58,26 +59,26 @@ fn two_seats<L: Ledger>(
 {
     let channel: Channel = Requests::new(ChannelState::new());
     let (recorded, mut seats) = Recorded::<_, L>::new(alloc, blank, channel, 2)?;
-    assert_eq!(rt; seats.seats_left(), 2);
+    same!(rt; seats.seats_left(), 2);
     let mut first = seats.seat();
     let mut second = seats.seat();
-    assert_eq!(rt; seats.seats_left(), 0);
+    same!(rt; seats.seats_left(), 0);
     let mut book = recorded.into_book();
     let sent = book.record(&mut first, SEND)?;
     let received = book.record(&mut second, RECEIVE)?;
     is(rt, &sent, 0, ChannelHeard::TrySent(Ok(())));
     is(rt, &received, 1, ChannelHeard::TryReceived(Ok(7)));
-    assert!(rt; first.number() == 0 && first.calls() == 1);
-    assert!(rt; second.number() == 1 && second.calls() == 1);
-    assert!(rt; audit(&[received, sent], &book));
-    assert!(rt; !audit(&[sent, sent], &book));
-    assert!(rt; !audit(&[other], &book));
-    assert!(rt; audit(&[], &book));
+    holds!(rt; first.number() == 0 && first.calls() == 1);
+    holds!(rt; second.number() == 1 && second.calls() == 1);
+    holds!(rt; audit(&[received, sent], &book));
+    holds!(rt; !audit(&[sent, sent], &book));
+    holds!(rt; !audit(&[other], &book));
+    holds!(rt; audit(&[], &book));
     let journal = book.journal();
-    assert_eq!(rt; journal.len(), 2);
-    assert!(rt; journal[1].seat == 1 && journal[1].command == RECEIVE);
+    same!(rt; journal.len(), 2);
+    holds!(rt; journal[1].seat == 1 && journal[1].command == RECEIVE);
     let handed_in = vec![in alloc; first, second]?;
-    assert_eq!(rt; book.settle(seats, handed_in), Some(2));
+    same!(rt; book.settle(seats, handed_in), Some(2));
     Ok(())
 }
 
@@ -95,6 +96,6 @@ fn two_seats_take_turns(rt: HostRuntime) -> Result<(), Fail> {
 
 #[test]
 fn two_books_are_settled_with_their_own_seats(rt: HostRuntime) -> Result<(), Fail> {
-    assert!(rt; settle_two(rt.alloc())? == (Some(1), Some(0)));
+    holds!(rt; settle_two(rt.alloc())? == (Some(1), Some(0)));
     Ok(())
 }

@@ -7,6 +7,7 @@ use esync_channel::channel::machine::{ChannelCall, ChannelRun};
 use esync_history::recorded::{Recorded, Seat};
 use esync_machine::primitive::Command;
 use esync_machine::requests::Requests;
+use esync_notes::holds;
 use std::alloc::Global;
 use std::marker::Brand;
 use std::process::Abort;
@@ -67,7 +68,7 @@ fn both_meet<L: Ledger + Send + Sync, R: Threads + Wait + Abort + Sync>(
         move || meets(rt, shared, first, left, right),
         move || meets(rt, shared, second, right, left),
     );
-    assert!(rt; both == (true, true));
+    holds!(rt; both == (true, true));
     Ok(())
 }
 

@@ -10,6 +10,7 @@ use esync_history::recorded::{Book, Recorded};
 use esync_machine::primitive::{Answer, Command};
 use esync_machine::requests::Requests;
 use esync_machine::run::{Keep, Machine, run};
+use esync_notes::{holds, same};
 use esync_zerocopy::zerocopy_channel::ChannelState as SlotState;
 use esync_zerocopy::zerocopy_channel::machine::{ZeroCall, ZeroHeard, ZeroRun};
 use std::alloc::{AllocError, Global};
@@ -56,12 +57,12 @@ fn a_refused_run_takes_no_step(rt: HostRuntime) -> Result<(), Fail> {
     let replies = match run(alloc, &mut channel, again!(two_sends(alloc))) {
         Ok(replies) => replies,
         Err(AllocError) => {
-            assert_eq!(rt; held(&mut channel), Some(0));
+            same!(rt; held(&mut channel), Some(0));
             run(alloc, &mut channel, two_sends(alloc)?)?
         }
     };
-    assert_eq!(rt; replies.len(), 2);
-    assert_eq!(rt; held(&mut channel), Some(2));
+    same!(rt; replies.len(), 2);
+    same!(rt; held(&mut channel), Some(2));
     Ok(())
 }
 
@@ -86,7 +87,7 @@ fn opening_of_three<L: Ledger>(alloc: Global, blank: Blank) -> Result<Option<usi
 #[test]
 fn a_refused_opening_is_made_again(rt: HostRuntime) -> Result<(), Fail> {
     let made = again!(opening_of_three::<Brand>(rt.alloc(), Blank::new(2)));
-    assert_eq!(rt; made, Some(3));
+    same!(rt; made, Some(3));
     Ok(())
 }
 
@@ -101,15 +102,15 @@ fn some_refused<L: Ledger>(rt: &impl Abort, alloc: Global, blank: Blank) -> Resu
     let mut seat = seats.seat();
     for _ in 0..CALLS {
         let _ = book.record(&mut seat, LEN);
-        assert_eq!(rt; book.journal().len(), seat.calls());
+        same!(rt; book.journal().len(), seat.calls());
     }
     if seat.calls() != CALLS {
-        assert_eq!(rt; seat.calls(), CALLS - 1);
-        assert_eq!(rt; book.record(&mut seat, LEN)?.number, CALLS - 1);
+        same!(rt; seat.calls(), CALLS - 1);
+        same!(rt; book.record(&mut seat, LEN)?.number, CALLS - 1);
     }
     let mut handed_in = again!(Vec::with_capacity(alloc, 1));
-    assert!(rt; handed_in.push(seat).is_ok());
-    assert_eq!(rt; book.settle(seats, handed_in), Some(CALLS));
+    holds!(rt; handed_in.push(seat).is_ok());
+    same!(rt; book.settle(seats, handed_in), Some(CALLS));
     Ok(())
 }
 

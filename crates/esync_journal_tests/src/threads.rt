@@ -10,6 +10,7 @@ use esync_history::recorded::{Book, Entry, Receipt, Recorded, Seat, Seats, audit
 use esync_machine::primitive::{Answer, Command};
 use esync_machine::requests::Requests;
 use esync_machine::run::{Keep, Reply};
+use esync_notes::{holds, same};
 use esync_permits::semaphore::machine::fair::FairRun;
 use esync_permits::semaphore::machine::greedy::GreedyRun;
 use esync_permits::semaphore::machine::{PermitCall, PermitHeard};
@@ -85,13 +86,13 @@ where
     let (first, mut receipts) = one;
     let (second, others) = two;
     receipts.extend_from_slice(&others)?;
-    assert_eq!(rt; book.journal().len(), 2 * CALLS);
-    assert_eq!(rt; entries_of(book.journal(), first.number()), CALLS);
-    assert_eq!(rt; entries_of(book.journal(), second.number()), CALLS);
-    assert!(rt; audit(&receipts, &book));
-    assert!(rt; book.opening().keep()?.step(look.0) == look.1);
+    same!(rt; book.journal().len(), 2 * CALLS);
+    same!(rt; entries_of(book.journal(), first.number()), CALLS);
+    same!(rt; entries_of(book.journal(), second.number()), CALLS);
+    holds!(rt; audit(&receipts, &book));
+    holds!(rt; book.opening().keep()?.step(look.0) == look.1);
     let handed_in = vec![in alloc; first, second]?;
-    assert_eq!(rt; book.settle(seats, handed_in), Some(2 * CALLS));
+    same!(rt; book.settle(seats, handed_in), Some(2 * CALLS));
     Ok(receipts)
 }
 

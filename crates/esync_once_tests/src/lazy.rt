@@ -1,5 +1,6 @@
 //! A value that is made when it is first asked for: how often its maker is called, and what is dropped.
 use esync_cells::lazy_lock::{Given, LazyLock, LazyState, Maker};
+use esync_notes::same;
 use std::sync::atomic::AtomicU64;
 use std::sync::atomic::Ordering::SeqCst;
 
@@ -24,13 +25,13 @@ impl Maker<u32> for Counting<'_> {
 fn a_maker_is_called_once(rt: HostRuntime) {
     let calls = AtomicU64::new(0);
     let mut state = LazyState::new(Counting { calls: &calls });
-    assert_eq!(rt; calls.load(SeqCst), 0);
-    assert_eq!(rt; *state.get(), 20);
-    assert_eq!(rt; *state.get(), 20);
-    assert_eq!(rt; state.into_inner(), 20);
-    assert_eq!(rt; calls.load(SeqCst), 1);
+    same!(rt; calls.load(SeqCst), 0);
+    same!(rt; *state.get(), 20);
+    same!(rt; *state.get(), 20);
+    same!(rt; state.into_inner(), 20);
+    same!(rt; calls.load(SeqCst), 1);
     drop(LazyState::<u32, Counting<'_>>::new(Counting { calls: &calls }));
-    assert_eq!(rt; calls.load(SeqCst), 1);
+    same!(rt; calls.load(SeqCst), 1);
     assert_eq!(rt;
         LazyState::<u32, Given<u32>>::new(Given { value: 7 }).into_inner(),
         7
@@ -44,11 +45,11 @@ fn a_closure_is_called_once(rt: HostRuntime) {
         calls.fetch_add(1, SeqCst);
         20u32
     });
-    assert_eq!(rt; calls.load(SeqCst), 0);
-    assert_eq!(rt; *lazy.get(&rt), 20);
-    assert_eq!(rt; *lazy.get(&rt), 20);
-    assert_eq!(rt; lazy.into_inner(), 20);
-    assert_eq!(rt; calls.load(SeqCst), 1);
+    same!(rt; calls.load(SeqCst), 0);
+    same!(rt; *lazy.get(&rt), 20);
+    same!(rt; *lazy.get(&rt), 20);
+    same!(rt; lazy.into_inner(), 20);
+    same!(rt; calls.load(SeqCst), 1);
 }
 
 #[test]
@@ -59,13 +60,13 @@ fn a_closure_is_not_called_where_nobody_asks(rt: HostRuntime) {
         20u32
     });
     drop(lazy);
-    assert_eq!(rt; calls.load(SeqCst), 0);
+    same!(rt; calls.load(SeqCst), 0);
     let lazy = LazyLock::new(|| {
         calls.fetch_add(1, SeqCst);
         21u32
     });
-    assert_eq!(rt; lazy.into_inner(), 21);
-    assert_eq!(rt; calls.load(SeqCst), 1);
+    same!(rt; lazy.into_inner(), 21);
+    same!(rt; calls.load(SeqCst), 1);
 }
 
 // Counts when it is dropped.
@@ -84,9 +85,9 @@ impl Drop for DropCheck<'_> {
 fn a_lazy_value_is_dropped_with_its_lock(rt: HostRuntime) {
     let drops = AtomicU64::new(0);
     let lazy = LazyLock::new(|| DropCheck { drops: &drops });
-    assert_eq!(rt; drops.load(SeqCst), 0);
+    same!(rt; drops.load(SeqCst), 0);
     let _ = lazy.get(&rt);
-    assert_eq!(rt; drops.load(SeqCst), 0);
+    same!(rt; drops.load(SeqCst), 0);
     drop(lazy);
-    assert_eq!(rt; drops.load(SeqCst), 1);
+    same!(rt; drops.load(SeqCst), 1);
 }

@@ -5,6 +5,7 @@ use esync_cells::once_lock::{InitError, OnceState};
 use esync_machine::primitive::{Answer, Command};
 use esync_machine::requests::Requests;
 use esync_machine::run::Reply;
+use esync_notes::{holds, same};
 use std::process::Abort;
 use std::test::Fail;
 
@@ -12,10 +13,10 @@ type Replies<'a, A> = &'a [Reply<Answer<A>, u64, 1>];
 
 // Each reply has this answer, and hands out this waker alone or none.
 fn are<A: PartialEq>(rt: &impl Abort, replies: Replies<'_, A>, want: &[(Answer<A>, Option<u64>)]) {
-    assert_eq!(rt; replies.len(), want.len());
+    same!(rt; replies.len(), want.len());
     for (reply, (answer, waker)) in replies.iter().zip(want) {
-        assert!(rt; reply.answer == *answer);
-        assert_eq!(rt; reply.wakes.as_slice(), [*waker].as_slice());
+        holds!(rt; reply.answer == *answer);
+        same!(rt; reply.wakes.as_slice(), [*waker].as_slice());
     }
 }
 

@@ -1,6 +1,7 @@
 use esync_base::waitqueue::{Context, Poll, Wakes};
 use esync_cells::lazy_lock::{Given, LazyState};
 use esync_cells::once_lock::{InitError, OnceState};
+use esync_notes::{holds, same};
 use std::alloc::AllocError;
 use std::process::Abort;
 
@@ -11,25 +12,25 @@ fn gets(rt: &impl Abort, once: &OnceState<u32, u64>, waker: u64, value: Option<u
         Poll::Ready(shown) => Some(*shown),
         Poll::Pending => None,
     };
-    assert_eq!(rt; heard, value);
+    same!(rt; heard, value);
     let handed_out = if value.is_none() { Some(waker) } else { None };
-    assert_eq!(rt; wakes.as_slice(), [handed_out].as_slice());
+    same!(rt; wakes.as_slice(), [handed_out].as_slice());
 }
 
 #[test]
 fn the_first_value_stays_until_it_is_taken(rt: HostRuntime) {
     let mut once: OnceState<u32, u64> = OnceState::new();
-    assert_eq!(rt; once.try_get().copied(), None);
+    same!(rt; once.try_get().copied(), None);
     gets(&rt, &once, 1, None);
-    assert!(rt; once.init(42) == Ok(()));
-    assert!(rt; once.init(43) == Err(InitError::Set(43)));
+    holds!(rt; once.init(42) == Ok(()));
+    holds!(rt; once.init(43) == Err(InitError::Set(43)));
     gets(&rt, &once, 1, Some(42));
     gets(&rt, &once, 2, Some(42));
-    assert_eq!(rt; once.try_get().copied(), Some(42));
-    assert!(rt; once.is_set());
-    assert_eq!(rt; once.take(), Some(42));
-    assert!(rt; !once.is_set());
-    assert_eq!(rt; once.take(), None);
+    same!(rt; once.try_get().copied(), Some(42));
+    holds!(rt; once.is_set());
+    same!(rt; once.take(), Some(42));
+    holds!(rt; !once.is_set());
+    same!(rt; once.take(), None);
     gets(&rt, &once, 1, None);
 }
 
@@ -41,29 +42,29 @@ fn a_value_is_made_where_there_is_none(rt: HostRuntime) {
         calls = 1;
         5
     });
-    assert_eq!(rt; made, 5);
-    assert_eq!(rt; calls, 1);
+    same!(rt; made, 5);
+    same!(rt; calls, 1);
     let shown = *once.get_or_init(|| {
         calls = 2;
         6
     });
-    assert_eq!(rt; shown, 5);
-    assert_eq!(rt; calls, 1);
-    assert_eq!(rt; once.into_inner(), Some(5));
+    same!(rt; shown, 5);
+    same!(rt; calls, 1);
+    same!(rt; once.into_inner(), Some(5));
     let never: OnceState<u32, u64> = OnceState::new();
-    assert_eq!(rt; never.into_inner(), None);
-    assert_eq!(rt; InitError::Set(7u32).into_value(), 7);
+    same!(rt; never.into_inner(), None);
+    same!(rt; InitError::Set(7u32).into_value(), 7);
 }
 
 #[test]
 fn the_locks_show_their_value(rt: HostRuntime) -> Result<(), AllocError> {
     let mut once: OnceState<u32, u64> = OnceState::new();
-    assert!(rt; once.init(3) == Ok(()));
+    holds!(rt; once.init(3) == Ok(()));
     let shown = format!(in rt.alloc(); "{once:?}")?;
     assert!(rt; shown.starts_with("OnceState { data: Some(3)"), "{shown}");
     let lazy = LazyState::new(Given { value: 4u32 });
     let shown = format!(in rt.alloc(); "{lazy:?}")?;
-    assert_eq!(rt;
+    same!(rt;
         shown.as_str(),
         "LazyState { data: None, maker: Given { value: 4 } }"
     );

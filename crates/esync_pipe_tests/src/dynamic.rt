@@ -1,5 +1,6 @@
 //! The ends of any pipe, by a reference to its `dyn` that the test makes.
 use esync_base::waitqueue::{Context, Hand, Poll, TaskId};
+use esync_notes::{holds, same};
 use esync_pipe::pipe::{
     DynamicPipe, DynamicReader, DynamicWriter, Pipe, TryReadError, TryWriteError,
 };
@@ -34,14 +35,14 @@ impl<R: Wait + Abort> Hand<TaskId> for Turns<R> {
 // A fill that shows these bytes, or finds none.
 fn fills<P: DynamicPipe + Drop>(rt: &impl Abort, reader: &mut DynamicReader<P>, bytes: &[u8]) {
     match reader.try_fill_buf() {
-        Ok(()) => assert_eq!(rt; reader.filled(), bytes),
-        Err(TryReadError::Empty) => assert_eq!(rt; bytes.len(), 0),
+        Ok(()) => same!(rt; reader.filled(), bytes),
+        Err(TryReadError::Empty) => same!(rt; bytes.len(), 0),
     }
 }
 
 // Consumes so many of the bytes that were filled.
 fn consumes<P: DynamicPipe + Drop>(rt: &impl Abort, reader: &mut DynamicReader<P>, count: usize) {
-    assert!(rt; count <= reader.filled().len());
+    holds!(rt; count <= reader.filled().len());
     reader.consume(count);
 }
 
@@ -54,23 +55,23 @@ fn dynamic_dispatch_pipe(rt: HostRuntime) -> Result<(), AllocError> {
     let pipe: &dyn DynamicPipe = &shared;
     let mut reader: DynamicReader<&dyn DynamicPipe> = DynamicReader::new(rt.alloc(), pipe)?;
     let writer: DynamicWriter<&dyn DynamicPipe> = DynamicWriter::new(pipe);
-    assert!(rt; writer.try_write(&[42, 43]) == Ok(2));
+    holds!(rt; writer.try_write(&[42, 43]) == Ok(2));
     fills(&rt, &mut reader, &[42, 43]);
     fills(&rt, &mut reader, &[42, 43]);
     consumes(&rt, &mut reader, 1);
-    assert_eq!(rt; reader.filled(), [43].as_slice());
+    same!(rt; reader.filled(), [43].as_slice());
     fills(&rt, &mut reader, &[43]);
     consumes(&rt, &mut reader, 1);
     fills(&rt, &mut reader, &[]);
-    assert!(rt; writer.try_write(&[44, 45, 46]) == Ok(3));
-    assert!(rt; writer.try_write(&[45, 46]) == Err(TryWriteError::Full));
+    holds!(rt; writer.try_write(&[44, 45, 46]) == Ok(3));
+    holds!(rt; writer.try_write(&[45, 46]) == Err(TryWriteError::Full));
     fills(&rt, &mut reader, &[44]);
     consumes(&rt, &mut reader, 1);
     fills(&rt, &mut reader, &[45, 46]);
-    assert!(rt; writer.try_write(&[47]) == Ok(1));
+    holds!(rt; writer.try_write(&[47]) == Ok(1));
     fills(&rt, &mut reader, &[45, 46, 47]);
     consumes(&rt, &mut reader, 3);
-    assert!(rt; shared.is_empty());
+    holds!(rt; shared.is_empty());
     Ok(())
 }
 
@@ -84,11 +85,11 @@ fn a_refused_reader_is_made_again(rt: HostRuntime) -> Result<(), AllocError> {
     });
     let pipe: &dyn DynamicPipe = &shared;
     let writer: DynamicWriter<&dyn DynamicPipe> = DynamicWriter::new(pipe);
-    assert!(rt; writer.try_write(&[42, 43]) == Ok(2));
+    holds!(rt; writer.try_write(&[42, 43]) == Ok(2));
     let mut reader: DynamicReader<&dyn DynamicPipe> = match DynamicReader::new(rt.alloc(), pipe) {
         Ok(reader) => reader,
         Err(AllocError) => {
-            assert_eq!(rt; shared.len(), 2);
+            same!(rt; shared.len(), 2);
             DynamicReader::new(rt.alloc(), pipe)?
         }
     };
@@ -141,25 +142,25 @@ fn the_futures_of_any_pipe_wait(rt: HostRuntime) -> Result<(), AllocError> {
         Context::from_waker(TaskId(2)),
     );
     let mut to = [0; 4];
-    assert!(rt; reads_some(&mut reader, &mut to[..], &one).is_none());
+    holds!(rt; reads_some(&mut reader, &mut to[..], &one).is_none());
     match writes_some(&writer, &[1, 2, 3], &two) {
-        Some(rest) => assert_eq!(rt; rest, [3].as_slice()),
+        Some(rest) => same!(rt; rest, [3].as_slice()),
         None => rt.abort(),
     }
-    assert!(rt; writes_some(&copied, &[3], &two).is_none());
+    holds!(rt; writes_some(&copied, &[3], &two).is_none());
     match reads_some(&mut reader, &mut to[..], &one) {
-        Some(bytes) => assert_eq!(rt; bytes, [1, 2].as_slice()),
+        Some(bytes) => same!(rt; bytes, [1, 2].as_slice()),
         None => rt.abort(),
     }
     let mut fill = reader.fill_buf();
-    assert!(rt; fill.poll(&one) == Poll::Pending);
-    assert!(rt; writer.try_write(&[4]) == Ok(1));
-    assert!(rt; fill.poll(&one) == Poll::Ready(()));
-    assert!(rt; fill.poll(&one) == Poll::Ready(()));
+    holds!(rt; fill.poll(&one) == Poll::Pending);
+    holds!(rt; writer.try_write(&[4]) == Ok(1));
+    holds!(rt; fill.poll(&one) == Poll::Ready(()));
+    holds!(rt; fill.poll(&one) == Poll::Ready(()));
     drop(fill);
-    assert_eq!(rt; reader.filled(), [4].as_slice());
-    assert!(rt; reader.try_read(&mut to[..]) == Ok(1));
-    assert_eq!(rt; reader.filled().len(), 0);
-    assert!(rt; pipe.capacity() == 2);
+    same!(rt; reader.filled(), [4].as_slice());
+    holds!(rt; reader.try_read(&mut to[..]) == Ok(1));
+    same!(rt; reader.filled().len(), 0);
+    holds!(rt; pipe.capacity() == 2);
     Ok(())
 }

@@ -2,7 +2,7 @@
 ghost use Rattle.std.specs.Prelude.{◌≤◌, IfSome, length};
 
 use esync_base::waitqueue::{Context, Hand, Poll};
-use esync_notes::{Notes, drop_at, woken};
+use esync_notes::{Notes, drop_at, holds, same, woken};
 use esync_pipe::pipe::{ByteState, Pipe, PipeReader, SharedPipe, TryReadError, TryWriteError};
 use std::process::Abort;
 
@@ -73,12 +73,12 @@ fn a_write_goes_on_behind_its_count(rt: HostRuntime) {
     let pipe: Pipe<u64, _, 3> = Pipe::new(&notes);
     let cx = Context::from_waker(1);
     match writes_some(&pipe, &[1, 2, 3, 4], &cx) {
-        Some(rest) => assert_eq!(rt; rest, [4].as_slice()),
+        Some(rest) => same!(rt; rest, [4].as_slice()),
         None => rt.abort(),
     }
-    assert!(rt; writes_some(&pipe, &[4], &cx).is_none());
+    holds!(rt; writes_some(&pipe, &[4], &cx).is_none());
     let mut to = [0; 2];
-    assert_eq!(rt; reads_twice(&pipe, &mut to[..], &cx), [3].as_slice());
+    same!(rt; reads_twice(&pipe, &mut to[..], &cx), [3].as_slice());
     woken!(&rt, &notes, &[1]);
 }
 
@@ -87,10 +87,10 @@ fn a_write_of_all_is_polled_until_it_is_finished(rt: HostRuntime) {
     let notes = Notes::new(&rt);
     let pipe: Pipe<u64, _, 3> = Pipe::new(&notes);
     let cx = Context::from_waker(1);
-    assert!(rt; writes_all(&pipe, &[], &cx, 1));
-    assert!(rt; writes_all(&pipe, &[1, 2, 3], &cx, 1));
-    assert!(rt; !writes_all(&pipe, &[4], &cx, 2));
-    assert!(rt; !writes_all(&pipe, &[], &cx, 0));
+    holds!(rt; writes_all(&pipe, &[], &cx, 1));
+    holds!(rt; writes_all(&pipe, &[1, 2, 3], &cx, 1));
+    holds!(rt; !writes_all(&pipe, &[4], &cx, 2));
+    holds!(rt; !writes_all(&pipe, &[], &cx, 0));
     woken!(&rt, &notes, &[]);
 }
 
@@ -101,13 +101,13 @@ fn receiver_receives_given_try_write_async(rt: HostRuntime) {
     let cx = Context::from_waker(1);
     let mut to = [0; 16];
     let mut read = pipe.read(&mut to[..]);
-    assert!(rt; read.poll(&cx) == Poll::Pending);
+    holds!(rt; read.poll(&cx) == Poll::Pending);
     woken!(&rt, &notes, &[]);
-    assert!(rt; pipe.try_write(&[42]) == Ok(1));
+    holds!(rt; pipe.try_write(&[42]) == Ok(1));
     woken!(&rt, &notes, &[1]);
-    assert!(rt; read.poll(&cx) == Poll::Ready(1));
+    holds!(rt; read.poll(&cx) == Poll::Ready(1));
     drop(read);
-    assert_eq!(rt; to[0], 42);
+    same!(rt; to[0], 42);
 }
 
 #[test]
@@ -117,15 +117,15 @@ fn sender_send_completes_if_capacity(rt: HostRuntime) {
     let cx = Context::from_waker(1);
     let from = [42];
     let mut write = pipe.write(&from[..]);
-    assert!(rt; write.poll(&cx) == Poll::Ready(1));
-    assert!(rt; write.poll(&cx) == Poll::Pending);
+    holds!(rt; write.poll(&cx) == Poll::Ready(1));
+    holds!(rt; write.poll(&cx) == Poll::Pending);
     let mut to = [0; 16];
     let mut read = pipe.read(&mut to[..]);
-    assert!(rt; read.poll(&cx) == Poll::Ready(1));
+    holds!(rt; read.poll(&cx) == Poll::Ready(1));
     drop(read);
-    assert_eq!(rt; to[0], 42);
+    same!(rt; to[0], 42);
     woken!(&rt, &notes, &[1]);
-    assert!(rt; write.poll(&cx) == Poll::Ready(1));
+    holds!(rt; write.poll(&cx) == Poll::Ready(1));
 }
 
 #[test]
@@ -135,22 +135,22 @@ fn a_write_of_all_goes_on_where_a_read_makes_room(rt: HostRuntime) {
     let (one, nine) = (Context::from_waker(1), Context::from_waker(9));
     let mut to = [0; 2];
     let mut read = pipe.read(&mut to[..]);
-    assert!(rt; read.poll(&nine) == Poll::Pending);
+    holds!(rt; read.poll(&nine) == Poll::Pending);
     let from = [1, 2, 3, 4, 5];
     let mut write = pipe.write_all(&from[..]);
-    assert!(rt; !write.is_finished());
-    assert!(rt; write.poll(&one) == Poll::Pending);
+    holds!(rt; !write.is_finished());
+    holds!(rt; write.poll(&one) == Poll::Pending);
     woken!(&rt, &notes, &[9]);
-    assert!(rt; read.poll(&nine) == Poll::Ready(2));
+    holds!(rt; read.poll(&nine) == Poll::Ready(2));
     woken!(&rt, &notes, &[1]);
     drop(read);
-    assert_eq!(rt; to, [1, 2]);
-    assert!(rt; !write.is_finished());
-    assert!(rt; write.poll(&one) == Poll::Ready(()));
-    assert!(rt; write.is_finished());
+    same!(rt; to, [1, 2]);
+    holds!(rt; !write.is_finished());
+    holds!(rt; write.poll(&one) == Poll::Ready(()));
+    holds!(rt; write.is_finished());
     let mut rest = [0; 16];
-    assert!(rt; pipe.try_read(&mut rest[..]) == Ok(3));
-    assert_eq!(rt; &rest[..3], [3, 4, 5].as_slice());
+    holds!(rt; pipe.try_read(&mut rest[..]) == Ok(3));
+    same!(rt; &rest[..3], [3, 4, 5].as_slice());
     woken!(&rt, &notes, &[]);
 }
 
@@ -165,14 +165,14 @@ fn a_read_dropped_while_it_waits_takes_nothing(rt: HostRuntime) {
         let mut read = Some(pipe.read(&mut to[..]));
         drop_at(&mut read, point == 0);
         if let Some(read) = &mut read {
-            assert!(rt; read.poll(&cx) == Poll::Pending);
+            holds!(rt; read.poll(&cx) == Poll::Pending);
         }
         drop_at(&mut read, point == 1);
         woken!(&rt, &notes, &[]);
-        assert!(rt; pipe.try_write(&[7, 8]) == Ok(2));
+        holds!(rt; pipe.try_write(&[7, 8]) == Ok(2));
         woken!(&rt, &notes, told);
         drop_at(&mut read, point == 2);
-        assert_eq!(rt; pipe.len(), 2);
+        same!(rt; pipe.len(), 2);
     }
 }
 
@@ -187,16 +187,16 @@ fn a_write_of_all_dropped_while_it_waits_writes_no_more(rt: HostRuntime) {
         let mut write = Some(pipe.write_all(&from[..]));
         drop_at(&mut write, point == 0);
         if let Some(write) = &mut write {
-            assert!(rt; !write.is_finished());
-            assert!(rt; write.poll(&cx) == Poll::Pending);
+            holds!(rt; !write.is_finished());
+            holds!(rt; write.poll(&cx) == Poll::Pending);
         }
         drop_at(&mut write, point == 1);
         woken!(&rt, &notes, &[]);
-        assert_eq!(rt; pipe.len(), held);
+        same!(rt; pipe.len(), held);
         pipe.clear();
         woken!(&rt, &notes, told);
         drop_at(&mut write, point == 2);
-        assert!(rt; pipe.is_empty());
+        holds!(rt; pipe.is_empty());
     }
 }
 
@@ -207,23 +207,23 @@ fn a_fill_waits_for_bytes_and_acts_anew(rt: HostRuntime) {
     let (mut reader, writer) = pipe.split();
     let cx = Context::from_waker(1);
     let mut fill = reader.fill_buf();
-    assert!(rt; fill.poll(&cx) == Poll::Pending);
-    assert!(rt; writer.try_write(&[1, 2]) == Ok(2));
+    holds!(rt; fill.poll(&cx) == Poll::Pending);
+    holds!(rt; writer.try_write(&[1, 2]) == Ok(2));
     woken!(&rt, &notes, &[1]);
-    assert!(rt; fill.poll(&cx) == Poll::Ready(()));
-    assert!(rt; writer.try_write(&[3]) == Ok(1));
-    assert!(rt; fill.poll(&cx) == Poll::Ready(()));
+    holds!(rt; fill.poll(&cx) == Poll::Ready(()));
+    holds!(rt; writer.try_write(&[3]) == Ok(1));
+    holds!(rt; fill.poll(&cx) == Poll::Ready(()));
     drop(fill);
-    assert_eq!(rt; reader.filled(), [1, 2, 3].as_slice());
-    assert!(rt; writer.try_write(&[4]) == Err(TryWriteError::Full));
-    assert_eq!(rt; takes_filled(&mut reader, &cx), 3);
-    assert!(rt; reader.poll_fill_buf(&cx) == Poll::Pending);
-    assert!(rt; reader.try_fill_buf() == Err(TryReadError::Empty));
-    assert!(rt; writer.try_write(&[5]) == Ok(1));
+    same!(rt; reader.filled(), [1, 2, 3].as_slice());
+    holds!(rt; writer.try_write(&[4]) == Err(TryWriteError::Full));
+    same!(rt; takes_filled(&mut reader, &cx), 3);
+    holds!(rt; reader.poll_fill_buf(&cx) == Poll::Pending);
+    holds!(rt; reader.try_fill_buf() == Err(TryReadError::Empty));
+    holds!(rt; writer.try_write(&[5]) == Ok(1));
     woken!(&rt, &notes, &[1]);
     let mut to = [0; 4];
     let mut read = reader.read(&mut to[..]);
-    assert!(rt; read.poll(&cx) == Poll::Ready(1));
+    holds!(rt; read.poll(&cx) == Poll::Ready(1));
     drop(read);
-    assert_eq!(rt; to[0], 5);
+    same!(rt; to[0], 5);
 }

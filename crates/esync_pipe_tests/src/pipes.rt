@@ -1,6 +1,6 @@
 //! A shared pipe, its two ends, and what its calls wake.
 use esync_base::waitqueue::{Context, Hand, Poll};
-use esync_notes::{Notes, woken};
+use esync_notes::{Notes, holds, same, woken};
 use esync_pipe::pipe::{ByteState, Pipe, PipeReader, SharedPipe, TryReadError, TryWriteError};
 use std::process::Abort;
 use std::sync::Wait;
@@ -13,8 +13,8 @@ fn fills<S: ByteState<Waker = u64>, H: Hand<u64>>(
     bytes: &[u8],
 ) {
     match reader.try_fill_buf() {
-        Ok(()) => assert_eq!(rt; reader.filled(), bytes),
-        Err(TryReadError::Empty) => assert_eq!(rt; bytes.len(), 0),
+        Ok(()) => same!(rt; reader.filled(), bytes),
+        Err(TryReadError::Empty) => same!(rt; bytes.len(), 0),
     }
 }
 
@@ -24,7 +24,7 @@ fn consumes<S: ByteState<Waker = u64>, H: Hand<u64>>(
     reader: &mut PipeReader<'_, S, u64, H>,
     count: usize,
 ) {
-    assert!(rt; count <= reader.filled().len());
+    holds!(rt; count <= reader.filled().len());
     reader.consume(count);
 }
 
@@ -32,10 +32,10 @@ fn consumes<S: ByteState<Waker = u64>, H: Hand<u64>>(
 fn writing_once(rt: HostRuntime) {
     let notes = Notes::new(&rt);
     let pipe: Pipe<u64, _, 3> = Pipe::new(&notes);
-    assert!(rt; pipe.try_write(&[1]) == Ok(1));
-    assert_eq!(rt; pipe.free_capacity(), 2);
-    assert!(rt; pipe.len() == 1 && !pipe.is_empty() && !pipe.is_full());
-    assert_eq!(rt; pipe.capacity(), 3);
+    holds!(rt; pipe.try_write(&[1]) == Ok(1));
+    same!(rt; pipe.free_capacity(), 2);
+    holds!(rt; pipe.len() == 1 && !pipe.is_empty() && !pipe.is_full());
+    same!(rt; pipe.capacity(), 3);
     woken!(&rt, &notes, &[]);
 }
 
@@ -43,22 +43,22 @@ fn writing_once(rt: HostRuntime) {
 fn writing_when_full(rt: HostRuntime) {
     let notes = Notes::new(&rt);
     let pipe: Pipe<u64, _, 3> = Pipe::new(&notes);
-    assert!(rt; pipe.try_write(&[42]) == Ok(1));
-    assert!(rt; pipe.try_write(&[43]) == Ok(1));
-    assert!(rt; pipe.try_write(&[44]) == Ok(1));
-    assert!(rt; pipe.try_write(&[45]) == Err(TryWriteError::Full));
-    assert!(rt; pipe.free_capacity() == 0 && pipe.is_full() && !pipe.is_empty());
+    holds!(rt; pipe.try_write(&[42]) == Ok(1));
+    holds!(rt; pipe.try_write(&[43]) == Ok(1));
+    holds!(rt; pipe.try_write(&[44]) == Ok(1));
+    holds!(rt; pipe.try_write(&[45]) == Err(TryWriteError::Full));
+    holds!(rt; pipe.free_capacity() == 0 && pipe.is_full() && !pipe.is_empty());
 }
 
 #[test]
 fn receiving_once_with_one_send(rt: HostRuntime) {
     let notes = Notes::new(&rt);
     let pipe: Pipe<u64, _, 3> = Pipe::new(&notes);
-    assert!(rt; pipe.try_write(&[42]) == Ok(1));
+    holds!(rt; pipe.try_write(&[42]) == Ok(1));
     let mut to = [0; 16];
-    assert!(rt; pipe.try_read(&mut to[..]) == Ok(1));
-    assert_eq!(rt; to[0], 42);
-    assert!(rt; pipe.free_capacity() == 3 && pipe.is_empty());
+    holds!(rt; pipe.try_read(&mut to[..]) == Ok(1));
+    same!(rt; to[0], 42);
+    holds!(rt; pipe.free_capacity() == 3 && pipe.is_empty());
 }
 
 #[test]
@@ -66,8 +66,8 @@ fn receiving_when_empty(rt: HostRuntime) {
     let notes = Notes::new(&rt);
     let pipe: Pipe<u64, _, 3> = Pipe::new(&notes);
     let mut to = [0; 16];
-    assert!(rt; pipe.try_read(&mut to[..]) == Err(TryReadError::Empty));
-    assert_eq!(rt; pipe.free_capacity(), 3);
+    holds!(rt; pipe.try_read(&mut to[..]) == Err(TryReadError::Empty));
+    same!(rt; pipe.free_capacity(), 3);
 }
 
 #[test]
@@ -75,10 +75,10 @@ fn simple_send_and_receive(rt: HostRuntime) {
     let notes = Notes::new(&rt);
     let mut pipe: Pipe<u64, _, 3> = Pipe::new(&notes);
     let (mut reader, writer) = pipe.split();
-    assert!(rt; writer.try_write(&[42]) == Ok(1));
+    holds!(rt; writer.try_write(&[42]) == Ok(1));
     let mut to = [0; 16];
-    assert!(rt; reader.try_read(&mut to[..]) == Ok(1));
-    assert_eq!(rt; to[0], 42);
+    holds!(rt; reader.try_read(&mut to[..]) == Ok(1));
+    same!(rt; to[0], 42);
 }
 
 #[test]
@@ -86,24 +86,24 @@ fn read_buf(rt: HostRuntime) {
     let notes = Notes::new(&rt);
     let mut pipe: Pipe<u64, _, 3> = Pipe::new(&notes);
     let (mut reader, writer) = pipe.split();
-    assert!(rt; writer.try_write(&[42, 43]) == Ok(2));
+    holds!(rt; writer.try_write(&[42, 43]) == Ok(2));
     fills(&rt, &mut reader, &[42, 43]);
     fills(&rt, &mut reader, &[42, 43]);
     consumes(&rt, &mut reader, 1);
-    assert_eq!(rt; reader.filled(), [43].as_slice());
+    same!(rt; reader.filled(), [43].as_slice());
     fills(&rt, &mut reader, &[43]);
     consumes(&rt, &mut reader, 1);
     fills(&rt, &mut reader, &[]);
-    assert!(rt; writer.try_write(&[44, 45, 46]) == Ok(3));
-    assert!(rt; writer.try_write(&[45, 46]) == Err(TryWriteError::Full));
+    holds!(rt; writer.try_write(&[44, 45, 46]) == Ok(3));
+    holds!(rt; writer.try_write(&[45, 46]) == Err(TryWriteError::Full));
     fills(&rt, &mut reader, &[44]);
     consumes(&rt, &mut reader, 1);
     fills(&rt, &mut reader, &[45, 46]);
-    assert!(rt; writer.try_write(&[47]) == Ok(1));
+    holds!(rt; writer.try_write(&[47]) == Ok(1));
     fills(&rt, &mut reader, &[45, 46, 47]);
     consumes(&rt, &mut reader, 3);
     fills(&rt, &mut reader, &[]);
-    assert!(rt; pipe.is_empty());
+    holds!(rt; pipe.is_empty());
 }
 
 #[test]
@@ -113,11 +113,11 @@ fn writer_is_cloneable(rt: HostRuntime) {
     let (mut reader, writer) = pipe.split();
     let copied = writer;
     match writer.clone() {
-        Ok(cloned) => assert!(rt; cloned.try_write(&[1]) == Ok(1)),
+        Ok(cloned) => holds!(rt; cloned.try_write(&[1]) == Ok(1)),
         Err(_) => rt.abort(),
     }
-    assert!(rt; copied.try_write(&[2]) == Ok(1));
-    assert!(rt; writer.try_write(&[3]) == Ok(1));
+    holds!(rt; copied.try_write(&[2]) == Ok(1));
+    holds!(rt; writer.try_write(&[3]) == Ok(1));
     fills(&rt, &mut reader, &[1, 2, 3]);
 }
 
@@ -126,12 +126,12 @@ fn a_read_forgets_what_was_filled(rt: HostRuntime) {
     let notes = Notes::new(&rt);
     let mut pipe: Pipe<u64, _, 3> = Pipe::new(&notes);
     let (mut reader, writer) = pipe.split();
-    assert!(rt; writer.try_write(&[1, 2]) == Ok(2));
+    holds!(rt; writer.try_write(&[1, 2]) == Ok(2));
     fills(&rt, &mut reader, &[1, 2]);
     let mut to = [0; 1];
-    assert!(rt; reader.try_read(&mut to[..]) == Ok(1));
-    assert_eq!(rt; to[0], 1);
-    assert_eq!(rt; reader.filled().len(), 0);
+    holds!(rt; reader.try_read(&mut to[..]) == Ok(1));
+    same!(rt; to[0], 1);
+    same!(rt; reader.filled().len(), 0);
     fills(&rt, &mut reader, &[2]);
 }
 
@@ -142,14 +142,14 @@ fn a_context_waits_where_a_try_is_refused(rt: HostRuntime) {
     let (one, two) = (Context::from_waker(1), Context::from_waker(2));
     let mut to = [0; 4];
     let empty = pipe.try_read_with_context(Some(&one), &mut to[..]);
-    assert!(rt; empty == Err(TryReadError::Empty));
+    holds!(rt; empty == Err(TryReadError::Empty));
     woken!(&rt, &notes, &[]);
-    assert!(rt; pipe.try_write_with_context(Some(&two), &[5]) == Ok(1));
+    holds!(rt; pipe.try_write_with_context(Some(&two), &[5]) == Ok(1));
     woken!(&rt, &notes, &[1]);
-    assert!(rt; pipe.try_write_with_context(Some(&two), &[6]) == Err(TryWriteError::Full));
+    holds!(rt; pipe.try_write_with_context(Some(&two), &[6]) == Err(TryWriteError::Full));
     woken!(&rt, &notes, &[]);
-    assert!(rt; pipe.try_read_with_context(Some(&one), &mut to[..]) == Ok(1));
-    assert_eq!(rt; to[0], 5);
+    holds!(rt; pipe.try_read_with_context(Some(&one), &mut to[..]) == Ok(1));
+    same!(rt; to[0], 5);
     woken!(&rt, &notes, &[2]);
 }
 
@@ -158,11 +158,11 @@ fn clear_wakes_the_writer(rt: HostRuntime) {
     let notes = Notes::new(&rt);
     let pipe: Pipe<u64, _, 2> = Pipe::new(&notes);
     let two = Context::from_waker(2);
-    assert!(rt; pipe.try_write(&[1, 2, 3]) == Ok(2));
-    assert!(rt; pipe.try_write_with_context(Some(&two), &[3]) == Err(TryWriteError::Full));
+    holds!(rt; pipe.try_write(&[1, 2, 3]) == Ok(2));
+    holds!(rt; pipe.try_write_with_context(Some(&two), &[3]) == Err(TryWriteError::Full));
     pipe.clear();
     woken!(&rt, &notes, &[2]);
-    assert!(rt; pipe.is_empty() && pipe.free_capacity() == 2);
+    holds!(rt; pipe.is_empty() && pipe.free_capacity() == 2);
 }
 
 #[test]
@@ -170,9 +170,9 @@ fn a_consume_from_full_wakes_the_writer(rt: HostRuntime) {
     let notes = Notes::new(&rt);
     let mut pipe: Pipe<u64, _, 2> = Pipe::new(&notes);
     let (mut reader, writer) = pipe.split();
-    assert!(rt; writer.try_write(&[1, 2]) == Ok(2));
+    holds!(rt; writer.try_write(&[1, 2]) == Ok(2));
     let mut write = writer.write(&[3]);
-    assert!(rt; write.poll(&Context::from_waker(7)) == Poll::Pending);
+    holds!(rt; write.poll(&Context::from_waker(7)) == Poll::Pending);
     fills(&rt, &mut reader, &[1, 2]);
     consumes(&rt, &mut reader, 0);
     woken!(&rt, &notes, &[]);
@@ -213,7 +213,7 @@ fn reads<S: ByteState<Waker = u64>, H: Hand<u64>>(pipe: &SharedPipe<S, u64, H>) 
 fn two_threads_share_a_pipe(rt: HostRuntime) {
     let pipe: Pipe<u64, _, 3> = Pipe::new(Nobody { rt: &rt });
     let (written, read) = thread::join(&rt, || writes(&pipe), || reads(&pipe));
-    assert_eq!(rt; written, 3);
+    same!(rt; written, 3);
     let left = pipe.len();
-    assert!(rt; (read == 3 && left == 0) || (read == 0 && left == 3));
+    holds!(rt; (read == 3 && left == 0) || (read == 0 && left == 3));
 }

@@ -1,5 +1,6 @@
 //! Calls of a state, with what they answer and hand out.
 use esync_base::waitqueue::{Context, Poll, Wakes};
+use esync_notes::{holds, same};
 use esync_pubsub::pubsub::{
     Exhausted, PubSubState, PublishRequest, SubId, TryPublishError, WaitResult,
 };
@@ -10,9 +11,9 @@ pub type Two<T, const CAP: usize> = PubSubState<T, u64, CAP, 2, 2>;
 
 /// The wakers that were handed out are these.
 pub fn hand_out(rt: &impl Abort, wakes: &Wakes<u64, 2>, wakers: &[u64]) {
-    assert_eq!(rt; wakes.len(), wakers.len());
+    same!(rt; wakes.len(), wakers.len());
     for (noted, waker) in wakes.as_slice().iter().zip(wakers) {
-        assert_eq!(rt; *noted, Some(*waker));
+        same!(rt; *noted, Some(*waker));
     }
 }
 
@@ -32,7 +33,7 @@ pub fn leaves<T: Clone, const CAP: usize>(
     wakers: &[u64],
 ) {
     let mut wakes = Wakes::new();
-    assert!(rt; state.is_subscriber(&id));
+    holds!(rt; state.is_subscriber(&id));
     state.leave(id, &mut wakes);
     hand_out(rt, &wakes, wakers);
 }
@@ -46,7 +47,7 @@ pub fn publishes<const CAP: usize>(
     wakers: &[u64],
 ) {
     let mut wakes = Wakes::new();
-    assert!(rt; state.try_publish(message, &mut wakes) == answer);
+    holds!(rt; state.try_publish(message, &mut wakes) == answer);
     hand_out(rt, &wakes, wakers);
 }
 
@@ -59,7 +60,7 @@ pub fn publishes_at_once<const CAP: usize>(
     wakers: &[u64],
 ) {
     let mut wakes = Wakes::new();
-    assert!(rt; state.publish_immediate(message, &mut wakes) == answer);
+    holds!(rt; state.publish_immediate(message, &mut wakes) == answer);
     hand_out(rt, &wakes, wakers);
 }
 
@@ -72,8 +73,8 @@ pub fn reads<const CAP: usize>(
     wakers: &[u64],
 ) {
     let mut wakes = Wakes::new();
-    assert!(rt; state.is_subscriber(id));
-    assert!(rt; state.try_next_message(id, &mut wakes) == Ok(answer));
+    holds!(rt; state.is_subscriber(id));
+    holds!(rt; state.try_next_message(id, &mut wakes) == Ok(answer));
     hand_out(rt, &wakes, wakers);
 }
 
@@ -86,8 +87,8 @@ pub fn reads_on<const CAP: usize>(
     wakers: &[u64],
 ) {
     let mut wakes = Wakes::new();
-    assert!(rt; state.is_subscriber(id));
-    assert!(rt; state.try_next_message_pure(id, &mut wakes) == Ok(answer));
+    holds!(rt; state.is_subscriber(id));
+    holds!(rt; state.try_next_message_pure(id, &mut wakes) == Ok(answer));
     hand_out(rt, &wakes, wakers);
 }
 
@@ -102,8 +103,8 @@ pub fn polls<const CAP: usize>(
 ) {
     let mut wakes = Wakes::new();
     let cx = Context::from_waker(waker);
-    assert!(rt; state.is_subscriber(id));
-    assert!(rt; state.get_message_with_context(id, &cx, &mut wakes) == Ok(answer));
+    holds!(rt; state.is_subscriber(id));
+    holds!(rt; state.get_message_with_context(id, &cx, &mut wakes) == Ok(answer));
     hand_out(rt, &wakes, wakers);
 }
 
@@ -118,8 +119,8 @@ pub fn polls_on<const CAP: usize>(
 ) {
     let mut wakes = Wakes::new();
     let cx = Context::from_waker(waker);
-    assert!(rt; state.is_subscriber(id));
-    assert!(rt; state.get_message_pure_with_context(id, &cx, &mut wakes) == Ok(answer));
+    holds!(rt; state.is_subscriber(id));
+    holds!(rt; state.get_message_pure_with_context(id, &cx, &mut wakes) == Ok(answer));
     hand_out(rt, &wakes, wakers);
 }
 
@@ -134,8 +135,8 @@ pub fn streams<const CAP: usize>(
 ) {
     let mut wakes = Wakes::new();
     let cx = Context::from_waker(waker);
-    assert!(rt; state.is_subscriber(id));
-    assert!(rt; state.poll_next(id, &cx, &mut wakes) == Ok(answer));
+    holds!(rt; state.is_subscriber(id));
+    holds!(rt; state.poll_next(id, &cx, &mut wakes) == Ok(answer));
     hand_out(rt, &wakes, wakers);
 }
 
@@ -149,8 +150,8 @@ pub fn polls_publish<const CAP: usize>(
     wakers: &[u64],
 ) {
     let mut wakes = Wakes::new();
-    assert!(rt; !request.is_finished());
-    assert!(rt; request.poll_state(state, &Context::from_waker(waker), &mut wakes) == answer);
+    holds!(rt; !request.is_finished());
+    holds!(rt; request.poll_state(state, &Context::from_waker(waker), &mut wakes) == answer);
     hand_out(rt, &wakes, wakers);
 }
 
@@ -161,6 +162,24 @@ pub fn has<T: Clone, const CAP: usize>(
     id: &SubId,
     available: u64,
 ) {
-    assert!(rt; state.is_subscriber(id));
-    assert_eq!(rt; state.available(id), available);
+    holds!(rt; state.is_subscriber(id));
+    same!(rt; state.available(id), available);
+}
+
+/// All messages are dropped, which hands out these wakers.
+pub fn clears<const CAP: usize>(rt: &impl Abort, state: &mut Two<u32, CAP>, wakers: &[u64]) {
+    let mut wakes = Wakes::new();
+    state.clear(&mut wakes);
+    hand_out(rt, &wakes, wakers);
+}
+
+/// A read gives this message, and hands out these wakers.
+pub fn reads_message<const CAP: usize>(
+    rt: &impl Abort,
+    state: &mut Two<u32, CAP>,
+    id: &SubId,
+    message: u32,
+    wakers: &[u64],
+) {
+    reads(rt, state, id, Some(WaitResult::Message(message)), wakers);
 }

@@ -1,3 +1,4 @@
+use esync_notes::same;
 use esync_script::explain;
 use std::alloc::Global;
 use std::io::{self, Write};
@@ -36,11 +37,11 @@ fn an_explanation_has_each_line_with_its_answer(rt: HostRuntime) -> Result<(), F
         rt.alloc(),
         "signal 1\nstart 0 wait\npoll 0 7\nsignal 5\npop\n",
     );
-    assert_eq!(rt;
+    same!(rt;
         str::from_utf8(&output)?,
         "1: signal 1\n2: start 0 wait\n   Ok | -\n3: poll 0 7\n   Pending | -\n4: signal 5\n   Ok | 7\n"
     );
-    assert_eq!(rt; status, 2);
+    same!(rt; status, 2);
     Ok(())
 }
 
@@ -50,7 +51,7 @@ fn an_explanation_notes_what_is_held_and_who_is_registered(rt: HostRuntime) -> R
         rt.alloc(),
         "fair 2 1\nstart 3 acquire 2\npoll 3 7\nrelease 1\n",
     );
-    assert_eq!(rt;
+    same!(rt;
         str::from_utf8(&notes)?,
         "   Requests { state: FairState { permits: 1, queue: Queue { entries: [] } }, table: {3: Waiting(Exactly(2), None)} }
    the queue: 7
@@ -130,11 +131,11 @@ fn an_explanation_ends_where_a_note_is_not_written(rt: HostRuntime) -> Result<()
     let (mut output, mut errors) = (Vec::new(alloc), Vec::new(alloc));
     let input = "signal 1\nsignal 5\nsignal 6\n";
     let status = explain(alloc, input.as_bytes(), &mut output, Closed {}, &mut errors);
-    assert_eq!(rt;
+    same!(rt;
         str::from_utf8(&output)?,
         "1: signal 1\n2: signal 5\n   Ok | -\n"
     );
-    assert_eq!(rt; str::from_utf8(&errors)?, "input or output failed\n");
-    assert_eq!(rt; status, 3);
+    same!(rt; str::from_utf8(&errors)?, "input or output failed\n");
+    same!(rt; status, 3);
     Ok(())
 }

@@ -1,6 +1,7 @@
 use esync_base::waitqueue::Wakes;
 use esync_channel::channel::machine::ChannelHeard;
 use esync_machine::primitive::Answer;
+use esync_notes::{holds, same};
 use esync_script::channel::ChannelWords;
 use esync_script::{script, trace, trace_pages};
 use esync_words::fault::Fault;
@@ -352,9 +353,9 @@ fn a_trace_is_the_picture_of_the_readme(rt: HostRuntime) -> Result<(), Fail> {
         "channel 1\nstart 1 receive\npoll 1 1\nstart 2 receive\npoll 2 2\ntry-send 7\nend 2\npoll 1 1\npoll 1 1\n";
     let (mut output, mut errors) = (Vec::new(rt.alloc()), Vec::new(rt.alloc()));
     let status = trace(rt.alloc(), input.as_bytes(), &mut output, &mut errors);
-    assert_eq!(rt; str::from_utf8(&output)?, PICTURE);
-    assert_eq!(rt; str::from_utf8(&errors)?, "");
-    assert_eq!(rt; status, 0);
+    same!(rt; str::from_utf8(&output)?, PICTURE);
+    same!(rt; str::from_utf8(&errors)?, "");
+    same!(rt; status, 0);
     Ok(())
 }
 
@@ -365,9 +366,9 @@ fn a_trace_ends_as_its_script_does(rt: HostRuntime) -> Result<(), Fail> {
     let status = trace(rt.alloc(), input.as_bytes(), &mut output, &mut errors);
     let drawn =
         "sequenceDiagram\n    participant object as signal 1\n    caller->>object: 2: signal 5\n    object-->>caller: Ok\n";
-    assert_eq!(rt; str::from_utf8(&output)?, drawn);
-    assert_eq!(rt; str::from_utf8(&errors)?, "line 3: not a command\n");
-    assert_eq!(rt; status, 2);
+    same!(rt; str::from_utf8(&output)?, drawn);
+    same!(rt; str::from_utf8(&errors)?, "line 3: not a command\n");
+    same!(rt; status, 2);
     Ok(())
 }
 
@@ -381,16 +382,16 @@ fn pages_of(alloc: Global, input: &str) -> (Vec<u8>, Vec<u8>, u8) {
 #[test]
 fn a_document_is_the_picture_in_a_fence(rt: HostRuntime) -> Result<(), Fail> {
     let (output, errors, status) = pages_of(rt.alloc(), "signal 1\nsignal 5\nend 1\npop\n");
-    assert_eq!(rt;
+    same!(rt;
         str::from_utf8(&output)?,
         "```mermaid\nsequenceDiagram\n    participant object as signal 1\n    caller->>object: 2: signal 5\n    object-->>caller: Ok\n    caller-xobject: 3: drop 1\n    object-->>caller: Err(NoSuch)\n```\n"
     );
-    assert_eq!(rt; str::from_utf8(&errors)?, "line 4: not a command\n");
-    assert_eq!(rt; status, 2);
+    same!(rt; str::from_utf8(&errors)?, "line 4: not a command\n");
+    same!(rt; status, 2);
     let (output, errors, status) = pages_of(rt.alloc(), "signal\n");
-    assert!(rt; output.is_empty());
-    assert_eq!(rt; str::from_utf8(&errors)?, "line 1: not a command\n");
-    assert_eq!(rt; status, 2);
+    holds!(rt; output.is_empty());
+    same!(rt; str::from_utf8(&errors)?, "line 1: not a command\n");
+    same!(rt; status, 2);
     Ok(())
 }
 
@@ -404,14 +405,14 @@ fn a_document_has_fifty_lines_a_page(rt: HostRuntime) -> Result<(), Fail> {
         }
         let (output, _, status) = pages_of(alloc, &input);
         let output = str::from_utf8(&output)?;
-        assert_eq!(rt; status, 0);
-        assert_eq!(rt;
+        same!(rt; status, 0);
+        same!(rt;
             output
                 .matches("```mermaid\nsequenceDiagram\n    participant object")
                 .count(),
             pages
         );
-        assert_eq!(rt; output.matches("```\n").count(), pages);
+        same!(rt; output.matches("```\n").count(), pages);
         let end = format!(in alloc;
             "caller->>object: {last}: reset\n    object-->>caller: Ok\n```\n"
         )?;
@@ -422,7 +423,7 @@ fn a_document_has_fifty_lines_a_page(rt: HostRuntime) -> Result<(), Fail> {
         input.push_str("reset\n")?;
     }
     let (output, _, _) = pages_of(alloc, &input);
-    assert!(rt;
+    holds!(rt;
         str::from_utf8(&output)?.ends_with(
             "50: reset\n    object-->>caller: Ok\n```\n\nFrom line 51:\n\n```mermaid\nsequenceDiagram\n    participant object\n    caller->>object: 51: reset\n    object-->>caller: Ok\n```\n"
         )
@@ -653,7 +654,7 @@ fn prints_several_wakers_in_order(rt: HostRuntime) -> Result<(), Fail> {
     let answer = Answer::Gives(ChannelHeard::<u32>::Ready);
     let mut text = Vec::new(rt.alloc());
     print_reply::<ChannelWords, _>(&answer, wakes.as_slice(), &mut text)?;
-    assert_eq!(rt; str::from_utf8(&text)?, "Ready | 9 0 9\n");
+    same!(rt; str::from_utf8(&text)?, "Ready | 9 0 9\n");
     Ok(())
 }
 
@@ -661,8 +662,8 @@ fn prints_several_wakers_in_order(rt: HostRuntime) -> Result<(), Fail> {
 fn want_of_memory_is_no_answer(rt: HostRuntime) {
     let mut text = Vec::new(rt.alloc());
     let printed = print_answer::<ChannelWords, _>(&Answer::NoMemory, &mut text);
-    assert_eq!(rt; printed, Err(Fault::OutOfMemory));
-    assert_eq!(rt; text.len(), 0);
+    same!(rt; printed, Err(Fault::OutOfMemory));
+    same!(rt; text.len(), 0);
 }
 
 const FAILS: Piece = Piece::Fails(ErrorKind::Other);
@@ -744,9 +745,9 @@ fn a_failed_read_ends_the_script(rt: HostRuntime) -> Result<(), Fail> {
         };
         let (mut printed, mut reported) = (Vec::new(rt.alloc()), Vec::new(rt.alloc()));
         let ended = script(rt.alloc(), input, &mut printed, &mut reported);
-        assert_eq!(rt; str::from_utf8(&printed)?, output);
-        assert_eq!(rt; str::from_utf8(&reported)?, errors);
-        assert_eq!(rt; ended, status);
+        same!(rt; str::from_utf8(&printed)?, output);
+        same!(rt; str::from_utf8(&reported)?, errors);
+        same!(rt; ended, status);
     }
     Ok(())
 }
@@ -770,8 +771,8 @@ fn answers_are_written_before_a_read_that_may_wait(rt: HostRuntime) -> Result<()
         written: &written,
     };
     let ended = script(rt.alloc(), input, output, Vec::new(rt.alloc()));
-    assert_eq!(rt; ended, 0);
-    assert_eq!(rt; str::from_utf8(&text)?, "0 | -\n1 | -\nOk | -\n");
+    same!(rt; ended, 0);
+    same!(rt; str::from_utf8(&text)?, "0 | -\n1 | -\nOk | -\n");
     assert_eq!(rt;
         seen.get(),
         text.len(),
@@ -801,8 +802,8 @@ fn a_failed_write_ends_the_script(rt: HostRuntime) -> Result<(), Fail> {
                 &b"0 | -\n1 | -\n"[..left],
                 "with room for {left}"
             );
-            assert_eq!(rt; str::from_utf8(&reported)?, FAILED);
-            assert_eq!(rt; ended, 3);
+            same!(rt; str::from_utf8(&reported)?, FAILED);
+            same!(rt; ended, 3);
         }
     }
     Ok(())
@@ -825,8 +826,8 @@ fn errors_that_cannot_be_written_change_no_status(rt: HostRuntime) -> Result<(),
             &mut printed,
             errors,
         );
-        assert_eq!(rt; ended, 2);
-        assert_eq!(rt; str::from_utf8(&printed)?, "0 | -\n");
+        same!(rt; ended, 2);
+        same!(rt; str::from_utf8(&printed)?, "0 | -\n");
     }
     Ok(())
 }

@@ -1,5 +1,6 @@
 //! Reads and writes of single bytes, of which each fails in turn: a script that is answered, and one that is drawn.
 use crate::scripts::{FAILED, Piece, Pieces, Room};
+use esync_notes::same;
 use esync_script::{script, trace};
 use std::alloc::{AllocError, Global};
 use std::cell::Cell;
@@ -85,7 +86,7 @@ fn a_read_that_fails_leaves_what_is_told_of_the_lines_before_it(
                 told_of(alloc, &parts, count)?,
                 "behind {count} reads"
             );
-            assert_eq!(rt; str::from_utf8(&errors)?, FAILED);
+            same!(rt; str::from_utf8(&errors)?, FAILED);
             assert_eq!(rt; status, 3, "behind {count} reads");
         }
     }
@@ -100,8 +101,8 @@ fn nothing_is_written_behind_a_write_that_fails(rt: HostRuntime) -> Result<(), F
         let pieces = [Piece::Bytes(SCRIPT.as_bytes())];
         for count in 0..told.len() {
             let (output, errors, status) = left_by(alloc, is_drawn, &pieces, count);
-            assert_eq!(rt; output.as_slice(), &told[..count]);
-            assert_eq!(rt; str::from_utf8(&errors)?, FAILED);
+            same!(rt; output.as_slice(), &told[..count]);
+            same!(rt; str::from_utf8(&errors)?, FAILED);
             assert_eq!(rt; status, 3, "behind {count} writes");
         }
     }
@@ -117,7 +118,7 @@ fn an_interrupted_read_of_single_bytes_changes_nothing(rt: HostRuntime) -> Resul
             let pieces = failing_behind(alloc, count, ErrorKind::Interrupted)?;
             let (output, errors, status) = left_by(alloc, is_drawn, &pieces, usize::MAX);
             assert_eq!(rt; output, told, "behind {count} reads");
-            assert_eq!(rt; errors.len(), 0);
+            same!(rt; errors.len(), 0);
             assert_eq!(rt; status, 0, "behind {count} reads");
         }
     }

@@ -1,341 +1,474 @@
 use esync_base::waitqueue::{Context, Hand, Poll};
-use esync_notes::{Notes, drop_at, woken};
+use esync_notes::{Notes, holds, same};
 use esync_permits::semaphore::{
-    Acquire, FairSemaphore, FairState, GreedySemaphore, GreedyState, PermitState, Semaphore,
-    SemaphoreReleaser, SharedSemaphore, WaitQueueFull,
+    Acquire, FairSemaphore, GreedySemaphore, PermitState, Semaphore, SemaphoreReleaser,
+    SharedSemaphore,
 };
 use std::process::Abort;
 use std::sync::Wait;
 
-// A poll that answers Pending, and hands out these wakers.
-fn waits<S: PermitState<Waker = u64>, H: Hand<u64>, R: Wait>(
+type Releaser<'a, S, H> = SemaphoreReleaser<&'a SharedSemaphore<S, u64, H>>;
+
+// The hand was given these wakers, in this order, since it was last asked.
+fn told<R: Wait + Abort>(notes: &Notes<'_, R>, wakers: &[u64]) {
+    holds!(notes.rt(); notes.are(wakers));
+}
+
+// This number of permits is there.
+fn has<S: PermitState<Waker = u64>, H: Hand<u64>>(
     rt: &impl Abort,
+    semaphore: &SharedSemaphore<S, u64, H>,
+    permits: usize,
+) {
+    same!(rt; semaphore.permits(), permits);
+}
+
+// A poll that answers Pending, and hands out these wakers.
+fn waits<S: PermitState<Waker = u64>, H: Hand<u64>, R: Wait + Abort>(
     notes: &Notes<'_, R>,
     request: &mut Acquire<'_, S, u64, H>,
     waker: u64,
     handed_out: &[u64],
 ) {
-    assert!(rt; !request.is_finished());
-    let answer = request.poll(&Context::from_waker(waker));
-    assert!(rt; matches!(answer, Poll::Pending));
-    woken!(rt, notes, handed_out);
+    holds!(notes.rt(); !request.is_finished());
+    match request.poll(&Context::from_waker(waker)) {
+        Poll::Pending => told(notes, handed_out),
+        _ => notes.rt().abort(),
+    }
 }
 
-// A poll that is granted this number of permits, and hands out these wakers.
-fn is_granted<'a, S: PermitState<Waker = u64>, H: Hand<u64>, R: Wait>(
-    rt: &impl Abort,
+// A request for this number of permits that waits with this waker, and hands out nothing.
+fn waiting<'a, S: PermitState<Waker = u64>, H: Hand<u64>, R: Wait + Abort>(
     notes: &Notes<'_, R>,
-    request: &mut Acquire<'a, S, u64, H>,
+    semaphore: &'a SharedSemaphore<S, u64, H>,
+    permits: usize,
+    waker: u64,
+) -> Acquire<'a, S, u64, H> {
+    let mut request = semaphore.acquire(permits);
+    waits(notes, &mut request, waker, &[]);
+    request
+}
+
+// The last poll of a request, which is granted this number of permits, and hands out these wakers.
+fn granted<'a, S: PermitState<Waker = u64>, H: Hand<u64>, R: Wait + Abort>(
+    notes: &Notes<'_, R>,
+    mut request: Acquire<'a, S, u64, H>,
     waker: u64,
     permits: usize,
     handed_out: &[u64],
-) -> SemaphoreReleaser<&'a SharedSemaphore<S, u64, H>> {
-    assert!(rt; !request.is_finished());
+) -> Releaser<'a, S, H> {
+    holds!(notes.rt(); !request.is_finished());
+    let releaser = match request.poll(&Context::from_waker(waker)) {
+        Poll::Ready(Ok(releaser)) => releaser,
+        _ => notes.rt().abort(),
+    };
+    holds!(notes.rt(); request.is_finished());
+    same!(notes.rt(); releaser.permits(), permits);
+    told(notes, handed_out);
+    releaser
+}
+
+// The last poll of a request, which is granted all permits that are there, this number, and gives them back. Nobody else is told.
+fn has_its_turn<S: PermitState<Waker = u64>, H: Hand<u64>, R: Wait + Abort>(
+    notes: &Notes<'_, R>,
+    semaphore: &SharedSemaphore<S, u64, H>,
+    request: Acquire<'_, S, u64, H>,
+    waker: u64,
+    permits: usize,
+) {
+    let releaser = granted(notes, request, waker, permits, &[]);
+    has(notes.rt(), semaphore, 0);
+    releaser.end();
+    has(notes.rt(), semaphore, permits);
+    told(notes, &[]);
+}
+
+// The last poll of a request, which hears an error: the only one is that there is no place. It hands out nothing.
+fn is_refused<S: PermitState<Waker = u64>, H: Hand<u64>, R: Wait + Abort>(
+    notes: &Notes<'_, R>,
+    mut request: Acquire<'_, S, u64, H>,
+    waker: u64,
+) {
+    holds!(notes.rt(); !request.is_finished());
     match request.poll(&Context::from_waker(waker)) {
-        Poll::Ready(Ok(releaser)) => {
-            assert_eq!(rt; releaser.permits(), permits);
-            assert!(rt; request.is_finished());
-            woken!(rt, notes, handed_out);
+        Poll::Ready(Err(_)) => told(notes, &[]),
+        _ => notes.rt().abort(),
+    }
+    holds!(notes.rt(); request.is_finished());
+}
+
+// This number of permits, which are granted now.
+fn takes<S: Semaphore>(rt: &impl Abort, semaphore: S, permits: usize) -> SemaphoreReleaser<S> {
+    match semaphore.try_acquire(permits) {
+        Some(releaser) => {
+            same!(rt; releaser.permits(), permits);
             releaser
         }
-        _ => rt.abort(),
+        None => rt.abort(),
     }
 }
 
-// A permit, which is granted.
-fn takes_one<S: Semaphore>(rt: &impl Abort, semaphore: S) -> SemaphoreReleaser<S> {
-    match semaphore.try_acquire(1) {
-        Some(releaser) => releaser,
-        None => rt.abort(),
-    }
+// This number of permits isn't granted now.
+fn refuses<S: Semaphore>(rt: &impl Abort, semaphore: S, permits: usize) {
+    holds!(rt; semaphore.try_acquire(permits).is_none());
+}
+
+// Drops a request, which hands out these wakers.
+fn ends<S: PermitState<Waker = u64>, H: Hand<u64>, R: Wait + Abort>(
+    notes: &Notes<'_, R>,
+    request: Acquire<'_, S, u64, H>,
+    handed_out: &[u64],
+) {
+    drop(request);
+    told(notes, handed_out);
+}
+
+// Drops a releaser, which hands out these wakers.
+fn gives_back<S: PermitState<Waker = u64>, H: Hand<u64>, R: Wait + Abort>(
+    notes: &Notes<'_, R>,
+    releaser: Releaser<'_, S, H>,
+    handed_out: &[u64],
+) {
+    drop(releaser);
+    told(notes, handed_out);
+}
+
+// Gives back a number of permits, which hands out these wakers.
+fn releases<S: PermitState<Waker = u64>, H: Hand<u64>, R: Wait + Abort>(
+    notes: &Notes<'_, R>,
+    semaphore: &SharedSemaphore<S, u64, H>,
+    permits: usize,
+    handed_out: &[u64],
+) {
+    semaphore.release(permits);
+    told(notes, handed_out);
+}
+
+// Of a semaphore of 3 permits.
+fn waits_for_all<S: PermitState<Waker = u64>, H: Hand<u64>, R: Wait + Abort>(
+    notes: &Notes<'_, R>,
+    semaphore: &SharedSemaphore<S, u64, H>,
+) {
+    let first = takes(notes.rt(), semaphore, 1);
+    let mut large = waiting(notes, semaphore, 3, 1);
+    let second = takes(notes.rt(), semaphore, 1);
+    waits(notes, &mut large, 1, &[]);
+    gives_back(notes, first, &[1]);
+    waits(notes, &mut large, 1, &[]);
+    gives_back(notes, second, &[1]);
+    has_its_turn(notes, semaphore, large, 1, 3);
 }
 
 #[test]
 fn a_greedy_request_waits_for_all_its_permits(rt: HostRuntime) {
     let notes = Notes::new(&rt);
-    let semaphore: GreedySemaphore<u64, _> = GreedySemaphore::new(3, &notes);
-    let first = takes_one(&rt, &semaphore);
-    let mut large = semaphore.acquire(3);
-    waits(&rt, &notes, &mut large, 1, &[]);
-    let second = takes_one(&rt, &semaphore);
-    waits(&rt, &notes, &mut large, 1, &[]);
-    drop(first);
-    woken!(&rt, &notes, &[1]);
-    waits(&rt, &notes, &mut large, 1, &[]);
-    drop(second);
-    woken!(&rt, &notes, &[1]);
-    let releaser = is_granted(&rt, &notes, &mut large, 1, 3, &[]);
-    assert_eq!(rt; semaphore.permits(), 0);
-    releaser.end();
-    assert_eq!(rt; semaphore.permits(), 3);
+    waits_for_all(&notes, &GreedySemaphore::<u64, _>::new(3, &notes));
+}
+
+// A request for all 3 permits is granted, and only when they are back one for a single permit that waits behind it.
+fn have_their_turns<S: PermitState<Waker = u64>, H: Hand<u64>, R: Wait + Abort>(
+    notes: &Notes<'_, R>,
+    semaphore: &SharedSemaphore<S, u64, H>,
+    large: Acquire<'_, S, u64, H>,
+    mut small: Acquire<'_, S, u64, H>,
+) {
+    let releaser = granted(notes, large, 1, 3, &[2]);
+    waits(notes, &mut small, 2, &[]);
+    gives_back(notes, releaser, &[2]);
+    let releaser = granted(notes, small, 2, 1, &[]);
+    has(notes.rt(), semaphore, 2);
+    same!(notes.rt(); releaser.disarm(), 1);
+    has(notes.rt(), semaphore, 2);
+}
+
+// Of a semaphore of 3 permits with 2 places.
+fn may_not_overtake<S: PermitState<Waker = u64>, H: Hand<u64>, R: Wait + Abort>(
+    notes: &Notes<'_, R>,
+    semaphore: &SharedSemaphore<S, u64, H>,
+) {
+    let first = takes(notes.rt(), semaphore, 1);
+    let large = waiting(notes, semaphore, 3, 1);
+    refuses(notes.rt(), semaphore, 1);
+    let mut small = waiting(notes, semaphore, 1, 2);
+    is_refused(notes, semaphore.acquire(1), 3);
+    gives_back(notes, first, &[1]);
+    waits(notes, &mut small, 2, &[]);
+    have_their_turns(notes, semaphore, large, small);
 }
 
 #[test]
 fn a_small_fair_request_may_not_overtake(rt: HostRuntime) {
     let notes = Notes::new(&rt);
-    let semaphore: FairSemaphore<u64, _, 2> = FairSemaphore::new(3, &notes);
-    let first = takes_one(&rt, &semaphore);
-    let mut large = semaphore.acquire(3);
-    waits(&rt, &notes, &mut large, 1, &[]);
-    assert!(rt; semaphore.try_acquire(1).is_none());
-    let mut small = semaphore.acquire(1);
-    waits(&rt, &notes, &mut small, 2, &[]);
-    let mut late = semaphore.acquire(1);
-    assert!(rt; !late.is_finished());
-    let refused = late.poll(&Context::from_waker(3));
-    assert!(rt; matches!(refused, Poll::Ready(Err(WaitQueueFull))));
-    assert!(rt; late.is_finished());
-    woken!(&rt, &notes, &[]);
-    drop(first);
-    woken!(&rt, &notes, &[1]);
-    waits(&rt, &notes, &mut small, 2, &[]);
-    let releaser = is_granted(&rt, &notes, &mut large, 1, 3, &[2]);
-    waits(&rt, &notes, &mut small, 2, &[]);
-    releaser.end();
-    woken!(&rt, &notes, &[2]);
-    let releaser = is_granted(&rt, &notes, &mut small, 2, 1, &[]);
-    assert_eq!(rt; semaphore.permits(), 2);
-    assert_eq!(rt; releaser.disarm(), 1);
-    assert_eq!(rt; semaphore.permits(), 2);
+    may_not_overtake(&notes, &FairSemaphore::<u64, _, 2>::new(3, &notes));
 }
 
-#[test]
-fn the_new_front_is_told_of_a_cancelled_one(rt: HostRuntime) {
-    let notes = Notes::new(&rt);
-    let semaphore: FairSemaphore<u64, _, 2> = FairSemaphore::new(1, &notes);
-    let mut large = semaphore.acquire(2);
-    waits(&rt, &notes, &mut large, 1, &[]);
-    let mut small = semaphore.acquire(1);
-    waits(&rt, &notes, &mut small, 2, &[]);
-    drop(large);
-    woken!(&rt, &notes, &[2]);
-    let releaser = is_granted(&rt, &notes, &mut small, 2, 1, &[]);
-    assert_eq!(rt; semaphore.permits(), 0);
-    drop(releaser);
+// Of a semaphore of no permit.
+fn is_told_of_a_grant<S: PermitState<Waker = u64>, H: Hand<u64>, R: Wait + Abort>(
+    notes: &Notes<'_, R>,
+    semaphore: &SharedSemaphore<S, u64, H>,
+) {
+    let one = waiting(notes, semaphore, 1, 1);
+    let none = waiting(notes, semaphore, 0, 2);
+    releases(notes, semaphore, 1, &[1]);
+    same!(notes.rt(); granted(notes, one, 1, 1, &[2]).disarm(), 1);
+    same!(notes.rt(); granted(notes, none, 2, 0, &[]).disarm(), 0);
+    has(notes.rt(), semaphore, 0);
 }
 
 #[test]
 fn the_new_front_is_told_of_a_grant_that_leaves_no_permit(rt: HostRuntime) {
     let notes = Notes::new(&rt);
-    let semaphore: FairSemaphore<u64, _, 2> = FairSemaphore::new(0, &notes);
-    let mut one = semaphore.acquire(1);
-    waits(&rt, &notes, &mut one, 1, &[]);
-    let mut none = semaphore.acquire(0);
-    waits(&rt, &notes, &mut none, 2, &[]);
-    semaphore.release(1);
-    woken!(&rt, &notes, &[1]);
-    let one = is_granted(&rt, &notes, &mut one, 1, 1, &[2]);
-    let none = is_granted(&rt, &notes, &mut none, 2, 0, &[]);
-    assert_eq!(rt; one.disarm().wrapping_add(none.disarm()), 1);
-    assert_eq!(rt; semaphore.permits(), 0);
+    is_told_of_a_grant(&notes, &FairSemaphore::<u64, _, 2>::new(0, &notes));
+}
+
+// Of a semaphore of one permit, at which a request for two or more waits until five are there.
+fn takes_what_is_there<S: PermitState<Waker = u64>, H: Hand<u64>, R: Wait + Abort>(
+    notes: &Notes<'_, R>,
+    semaphore: &SharedSemaphore<S, u64, H>,
+) {
+    let mut all = semaphore.acquire_all(2);
+    waits(notes, &mut all, 1, &[]);
+    semaphore.set(5);
+    told(notes, &[1]);
+    has_its_turn(notes, semaphore, all, 1, 5);
 }
 
 #[test]
 fn a_request_for_all_takes_what_is_there(rt: HostRuntime) {
     let notes = Notes::new(&rt);
-    let semaphore: GreedySemaphore<u64, _> = GreedySemaphore::new(1, &notes);
-    let mut all = semaphore.acquire_all(2);
-    waits(&rt, &notes, &mut all, 1, &[]);
-    semaphore.set(5);
-    woken!(&rt, &notes, &[1]);
-    let releaser = is_granted(&rt, &notes, &mut all, 1, 5, &[]);
-    releaser.end();
-    let semaphore: FairSemaphore<u64, _, 1> = FairSemaphore::new(1, &notes);
-    let mut all = semaphore.acquire_all(2);
-    waits(&rt, &notes, &mut all, 1, &[]);
-    semaphore.set(5);
-    woken!(&rt, &notes, &[1]);
-    let releaser = is_granted(&rt, &notes, &mut all, 1, 5, &[]);
-    releaser.end();
-    assert_eq!(rt; semaphore.permits(), 5);
+    takes_what_is_there(&notes, &GreedySemaphore::<u64, _>::new(1, &notes));
+    takes_what_is_there(&notes, &FairSemaphore::<u64, _, 1>::new(1, &notes));
+}
+
+// Of a semaphore of no permit with one place.
+fn leaves_nothing<S: PermitState<Waker = u64>, H: Hand<u64>, R: Wait + Abort>(
+    notes: &Notes<'_, R>,
+    semaphore: &SharedSemaphore<S, u64, H>,
+) {
+    let first = waiting(notes, semaphore, 1, 1);
+    semaphore.acquire(1).end();
+    releases(notes, semaphore, 1, &[1]);
+    first.end();
+    has(notes.rt(), semaphore, 1);
+    gives_back(notes, takes(notes.rt(), semaphore, 1), &[]);
 }
 
 #[test]
 fn a_request_that_never_waited_leaves_nothing(rt: HostRuntime) {
     let notes = Notes::new(&rt);
-    let semaphore: FairSemaphore<u64, _, 1> = FairSemaphore::new(0, &notes);
-    let mut first = semaphore.acquire(1);
-    let second = semaphore.acquire(1);
-    waits(&rt, &notes, &mut first, 1, &[]);
-    second.end();
-    semaphore.release(1);
-    woken!(&rt, &notes, &[1]);
-    first.end();
-    assert_eq!(rt; semaphore.permits(), 1);
-    assert!(rt; semaphore.try_acquire(1).is_some());
+    leaves_nothing(&notes, &FairSemaphore::<u64, _, 1>::new(0, &notes));
 }
 
-// Waker 2, or none.
-fn only_if(is_told: bool) -> &'static [u64] {
-    if is_told { &[2] } else { &[] }
+// A request that waits with waker 2 is told of a permit, takes it and gives it back. None is there then.
+fn is_told_and_has_its_turn<S: PermitState<Waker = u64>, H: Hand<u64>, R: Wait + Abort>(
+    notes: &Notes<'_, R>,
+    semaphore: &SharedSemaphore<S, u64, H>,
+) {
+    let small = waiting(notes, semaphore, 1, 2);
+    releases(notes, semaphore, 1, &[2]);
+    has_its_turn(notes, semaphore, small, 2, 1);
+    semaphore.set(0);
+}
+
+// The front is dropped before a permit is there.
+fn is_told_of_a_drop<S: PermitState<Waker = u64>, H: Hand<u64>, R: Wait + Abort>(
+    notes: &Notes<'_, R>,
+    semaphore: &SharedSemaphore<S, u64, H>,
+) {
+    let large = waiting(notes, semaphore, 2, 1);
+    let small = waiting(notes, semaphore, 1, 2);
+    ends(notes, large, &[2]);
+    releases(notes, semaphore, 1, &[2]);
+    has_its_turn(notes, semaphore, small, 2, 1);
+    semaphore.set(0);
+}
+
+// The front is dropped after it was told of a permit.
+fn is_told_of_a_drop_after_a_release<S: PermitState<Waker = u64>, H: Hand<u64>, R: Wait + Abort>(
+    notes: &Notes<'_, R>,
+    semaphore: &SharedSemaphore<S, u64, H>,
+) {
+    let large = waiting(notes, semaphore, 2, 1);
+    let small = waiting(notes, semaphore, 1, 2);
+    releases(notes, semaphore, 1, &[1]);
+    ends(notes, large, &[2]);
+    has_its_turn(notes, semaphore, small, 2, 1);
+    semaphore.set(0);
+}
+
+// Of a semaphore of no permit.
+fn lets_the_next_one_have_its_turn<S: PermitState<Waker = u64>, H: Hand<u64>, R: Wait + Abort>(
+    notes: &Notes<'_, R>,
+    semaphore: &SharedSemaphore<S, u64, H>,
+) {
+    ends(notes, semaphore.acquire(2), &[]);
+    is_told_and_has_its_turn(notes, semaphore);
+    ends(notes, waiting(notes, semaphore, 2, 1), &[]);
+    is_told_and_has_its_turn(notes, semaphore);
+    is_told_of_a_drop(notes, semaphore);
+    is_told_of_a_drop_after_a_release(notes, semaphore);
 }
 
 #[test]
 fn a_request_dropped_at_any_point_lets_the_next_one_have_its_turn(rt: HostRuntime) {
-    for point in 0..4 {
-        let notes = Notes::new(&rt);
-        let semaphore: FairSemaphore<u64, _, 2> = FairSemaphore::new(0, &notes);
-        let mut large = Some(semaphore.acquire(2));
-        let mut small = semaphore.acquire(1);
-        drop_at(&mut large, point == 0);
-        if let Some(large) = &mut large {
-            waits(&rt, &notes, large, 1, &[]);
-        }
-        drop_at(&mut large, point == 1);
-        woken!(&rt, &notes, &[]);
-        waits(&rt, &notes, &mut small, 2, &[]);
-        drop_at(&mut large, point == 2);
-        woken!(&rt, &notes, only_if(point == 2));
-        semaphore.release(1);
-        woken!(&rt, &notes, &[if point == 3 { 1 } else { 2 }]);
-        drop_at(&mut large, point == 3);
-        woken!(&rt, &notes, only_if(point == 3));
-        let releaser = is_granted(&rt, &notes, &mut small, 2, 1, &[]);
-        releaser.end();
-        assert_eq!(rt; semaphore.permits(), 1);
-    }
-}
-
-#[test]
-fn permits_are_released_up_to_the_greatest_number(rt: HostRuntime) {
     let notes = Notes::new(&rt);
-    let greedy: GreedySemaphore<u64, _> = GreedySemaphore::new(3, &notes);
-    has_two_of_all(&rt, &greedy);
-    assert_eq!(rt; greedy.permits(), 0);
-    let fair: FairSemaphore<u64, _, 2> = FairSemaphore::new(3, &notes);
-    has_two_of_all(&rt, &fair);
-    assert_eq!(rt; fair.permits(), 0);
+    lets_the_next_one_have_its_turn(&notes, &FairSemaphore::<u64, _, 2>::new(0, &notes));
 }
 
 // Of a semaphore of 3 permits that nobody waits for.
 fn has_two_of_all<S: Semaphore>(rt: &impl Abort, semaphore: S) {
     semaphore.release(usize::MAX);
     let all = semaphore.try_acquire_all(usize::MAX);
-    assert!(rt; all.is_some());
+    holds!(rt; all.is_some());
     drop(all);
     semaphore.set(2);
-    assert!(rt; semaphore.try_acquire_all(3).is_none());
+    holds!(rt; semaphore.try_acquire_all(3).is_none());
     match semaphore.try_acquire_all(1) {
-        Some(releaser) => assert_eq!(rt; releaser.disarm(), 2),
+        Some(releaser) => same!(rt; releaser.disarm(), 2),
         None => rt.abort(),
     }
-    assert!(rt; semaphore.try_acquire(1).is_none());
+    refuses(rt, semaphore, 1);
 }
 
-fn takes_and_gives_back<S: PermitState<Waker = u64>, R: Wait + Abort>(rt: &R) {
-    let notes = Notes::new(rt);
-    let semaphore: SharedSemaphore<S, u64, _> = SharedSemaphore::new(3, &notes);
-    let releaser = takes_one(rt, &semaphore);
-    assert!(rt; releaser.permits() == 1 && semaphore.permits() == 2);
-    drop(releaser);
-    assert_eq!(rt; semaphore.permits(), 3);
-    woken!(rt, &notes, &[]);
+// Of a semaphore of 3 permits.
+fn has_two_of_all_and_none<S: PermitState<Waker = u64>, H: Hand<u64>, R: Wait + Abort>(
+    notes: &Notes<'_, R>,
+    semaphore: &SharedSemaphore<S, u64, H>,
+) {
+    has_two_of_all(notes.rt(), semaphore);
+    has(notes.rt(), semaphore, 0);
+}
+
+#[test]
+fn permits_are_released_up_to_the_greatest_number(rt: HostRuntime) {
+    let notes = Notes::new(&rt);
+    has_two_of_all_and_none(&notes, &GreedySemaphore::<u64, _>::new(3, &notes));
+    has_two_of_all_and_none(&notes, &FairSemaphore::<u64, _, 2>::new(3, &notes));
+}
+
+fn takes_and_gives_back<S: PermitState<Waker = u64>, H: Hand<u64>, R: Wait + Abort>(
+    notes: &Notes<'_, R>,
+    semaphore: &SharedSemaphore<S, u64, H>,
+) {
+    let releaser = takes(notes.rt(), semaphore, 1);
+    has(notes.rt(), semaphore, 2);
+    gives_back(notes, releaser, &[]);
+    has(notes.rt(), semaphore, 3);
 }
 
 #[test]
 fn try_acquire(rt: HostRuntime) {
-    takes_and_gives_back::<GreedyState<u64>, _>(&rt);
-    takes_and_gives_back::<FairState<u64, 2>, _>(&rt);
+    let notes = Notes::new(&rt);
+    takes_and_gives_back(&notes, &GreedySemaphore::<u64, _>::new(3, &notes));
+    takes_and_gives_back(&notes, &FairSemaphore::<u64, _, 2>::new(3, &notes));
 }
 
-fn keeps_from_coming_back<S: PermitState<Waker = u64>, R: Wait + Abort>(rt: &R) {
-    let notes = Notes::new(rt);
-    let semaphore: SharedSemaphore<S, u64, _> = SharedSemaphore::new(3, &notes);
-    assert_eq!(rt; takes_one(rt, &semaphore).disarm(), 1);
-    assert_eq!(rt; semaphore.permits(), 2);
-    woken!(rt, &notes, &[]);
+fn keeps_from_coming_back<S: PermitState<Waker = u64>, H: Hand<u64>, R: Wait + Abort>(
+    notes: &Notes<'_, R>,
+    semaphore: &SharedSemaphore<S, u64, H>,
+) {
+    same!(notes.rt(); takes(notes.rt(), semaphore, 1).disarm(), 1);
+    has(notes.rt(), semaphore, 2);
+    told(notes, &[]);
 }
 
 #[test]
 fn disarm(rt: HostRuntime) {
-    keeps_from_coming_back::<GreedyState<u64>, _>(&rt);
-    keeps_from_coming_back::<FairState<u64, 2>, _>(&rt);
+    let notes = Notes::new(&rt);
+    keeps_from_coming_back(&notes, &GreedySemaphore::<u64, _>::new(3, &notes));
+    keeps_from_coming_back(&notes, &FairSemaphore::<u64, _, 2>::new(3, &notes));
 }
 
-fn is_granted_at_once<S: PermitState<Waker = u64>, R: Wait + Abort>(rt: &R) {
-    let notes = Notes::new(rt);
-    let semaphore: SharedSemaphore<S, u64, _> = SharedSemaphore::new(3, &notes);
-    let one = is_granted(rt, &notes, &mut semaphore.acquire(1), 1, 1, &[]);
-    assert_eq!(rt; semaphore.permits(), 2);
-    drop(one);
-    assert_eq!(rt; semaphore.permits(), 3);
-    let all = is_granted(rt, &notes, &mut semaphore.acquire_all(1), 1, 3, &[]);
-    assert_eq!(rt; semaphore.permits(), 0);
-    all.end();
-    woken!(rt, &notes, &[]);
+fn is_granted_at_once<S: PermitState<Waker = u64>, H: Hand<u64>, R: Wait + Abort>(
+    notes: &Notes<'_, R>,
+    semaphore: &SharedSemaphore<S, u64, H>,
+) {
+    let one = granted(notes, semaphore.acquire(1), 1, 1, &[]);
+    has(notes.rt(), semaphore, 2);
+    gives_back(notes, one, &[]);
+    has(notes.rt(), semaphore, 3);
+    has_its_turn(notes, semaphore, semaphore.acquire_all(1), 1, 3);
 }
 
 #[test]
 fn acquire(rt: HostRuntime) {
-    is_granted_at_once::<GreedyState<u64>, _>(&rt);
-    is_granted_at_once::<FairState<u64, 2>, _>(&rt);
+    let notes = Notes::new(&rt);
+    is_granted_at_once(&notes, &GreedySemaphore::<u64, _>::new(3, &notes));
+    is_granted_at_once(&notes, &FairSemaphore::<u64, _, 2>::new(3, &notes));
 }
 
-fn counts_what_is_released<S: PermitState<Waker = u64>, R: Wait + Abort>(rt: &R) {
-    let notes = Notes::new(rt);
-    let semaphore: SharedSemaphore<S, u64, _> = SharedSemaphore::new(3, &notes);
-    assert_eq!(rt; semaphore.permits(), 3);
-    semaphore.release(2);
-    assert_eq!(rt; semaphore.permits(), 5);
+fn counts_what_is_released<S: PermitState<Waker = u64>, H: Hand<u64>, R: Wait + Abort>(
+    notes: &Notes<'_, R>,
+    semaphore: &SharedSemaphore<S, u64, H>,
+) {
+    has(notes.rt(), semaphore, 3);
+    releases(notes, semaphore, 2, &[]);
+    has(notes.rt(), semaphore, 5);
     semaphore.set(2);
-    assert_eq!(rt; semaphore.permits(), 2);
-    woken!(rt, &notes, &[]);
+    has(notes.rt(), semaphore, 2);
+    told(notes, &[]);
 }
 
 #[test]
 fn release(rt: HostRuntime) {
-    counts_what_is_released::<GreedyState<u64>, _>(&rt);
-    counts_what_is_released::<FairState<u64, 2>, _>(&rt);
+    let notes = Notes::new(&rt);
+    counts_what_is_released(&notes, &GreedySemaphore::<u64, _>::new(3, &notes));
+    counts_what_is_released(&notes, &FairSemaphore::<u64, _, 2>::new(3, &notes));
 }
 
-fn is_contested<S: PermitState<Waker = u64>, R: Wait + Abort>(rt: &R) {
-    let notes = Notes::new(rt);
-    let semaphore: SharedSemaphore<S, u64, _> = SharedSemaphore::new(3, &notes);
-    let releaser = takes_one(rt, &semaphore);
-    assert!(rt; semaphore.try_acquire(3).is_none());
-    assert_eq!(rt; semaphore.permits(), 2);
-    drop(releaser);
-    assert!(rt; semaphore.try_acquire(3).is_some());
-    woken!(rt, &notes, &[]);
+fn is_contested<S: PermitState<Waker = u64>, H: Hand<u64>, R: Wait + Abort>(
+    notes: &Notes<'_, R>,
+    semaphore: &SharedSemaphore<S, u64, H>,
+) {
+    let releaser = takes(notes.rt(), semaphore, 1);
+    refuses(notes.rt(), semaphore, 3);
+    has(notes.rt(), semaphore, 2);
+    gives_back(notes, releaser, &[]);
+    gives_back(notes, takes(notes.rt(), semaphore, 3), &[]);
 }
 
 #[test]
 fn contested(rt: HostRuntime) {
-    is_contested::<GreedyState<u64>, _>(&rt);
-    is_contested::<FairState<u64, 2>, _>(&rt);
+    let notes = Notes::new(&rt);
+    is_contested(&notes, &GreedySemaphore::<u64, _>::new(3, &notes));
+    is_contested(&notes, &FairSemaphore::<u64, _, 2>::new(3, &notes));
+}
+
+// Of a semaphore of 3 permits with 2 places.
+fn wakes_in_order<S: PermitState<Waker = u64>, H: Hand<u64>, R: Wait + Abort>(
+    notes: &Notes<'_, R>,
+    semaphore: &SharedSemaphore<S, u64, H>,
+) {
+    let two = granted(notes, semaphore.acquire(2), 3, 2, &[]);
+    let large = waiting(notes, semaphore, 2, 1);
+    let small = waiting(notes, semaphore, 1, 2);
+    gives_back(notes, two, &[1]);
+    let large = granted(notes, large, 1, 2, &[2]);
+    let small = granted(notes, small, 2, 1, &[]);
+    has(notes.rt(), semaphore, 0);
+    gives_back(notes, large, &[]);
+    gives_back(notes, small, &[]);
+    has(notes.rt(), semaphore, 3);
 }
 
 #[test]
 fn wakers(rt: HostRuntime) {
     let notes = Notes::new(&rt);
-    let semaphore: FairSemaphore<u64, _, 2> = FairSemaphore::new(3, &notes);
-    let two = is_granted(&rt, &notes, &mut semaphore.acquire(2), 3, 2, &[]);
-    let (mut large, mut small) = (semaphore.acquire(2), semaphore.acquire(1));
-    waits(&rt, &notes, &mut large, 1, &[]);
-    waits(&rt, &notes, &mut small, 2, &[]);
-    two.end();
-    woken!(&rt, &notes, &[1]);
-    let large = is_granted(&rt, &notes, &mut large, 1, 2, &[2]);
-    let small = is_granted(&rt, &notes, &mut small, 2, 1, &[]);
-    assert_eq!(rt; semaphore.permits(), 0);
-    large.end();
-    small.end();
-    assert_eq!(rt; semaphore.permits(), 3);
-    woken!(&rt, &notes, &[]);
+    wakes_in_order(&notes, &FairSemaphore::<u64, _, 2>::new(3, &notes));
+}
+
+// Of a semaphore of one permit without a place.
+fn is_refused_again<S: PermitState<Waker = u64>, H: Hand<u64>, R: Wait + Abort>(
+    notes: &Notes<'_, R>,
+    semaphore: &SharedSemaphore<S, u64, H>,
+) {
+    is_refused(notes, semaphore.acquire(2), 1);
+    is_refused(notes, semaphore.acquire(2), 1);
+    has_its_turn(notes, semaphore, semaphore.acquire(1), 1, 1);
 }
 
 #[test]
 fn nobody_waits_where_there_are_no_places(rt: HostRuntime) {
     let notes = Notes::new(&rt);
-    let semaphore: FairSemaphore<u64, _, 0> = FairSemaphore::new(1, &notes);
-    for _ in 0..2 {
-        let mut large = semaphore.acquire(2);
-        assert!(rt; !large.is_finished());
-        let refused = large.poll(&Context::from_waker(1));
-        assert!(rt; matches!(refused, Poll::Ready(Err(WaitQueueFull))));
-        assert!(rt; large.is_finished());
-    }
-    let releaser = is_granted(&rt, &notes, &mut semaphore.acquire(1), 1, 1, &[]);
-    releaser.end();
-    woken!(&rt, &notes, &[]);
+    is_refused_again(&notes, &FairSemaphore::<u64, _, 0>::new(1, &notes));
 }

@@ -1,5 +1,6 @@
 ghost use Rattle.std.specs.Prelude.{◌≡◌};
 
+use esync_notes::{holds, same};
 use esync_priority::prio::{Comparisons, Kind, Max, Min, PrioQueue};
 use std::cell::Cell;
 use std::process::Abort;
@@ -41,88 +42,100 @@ fn pop<K: Kind<u32>>(queue: &mut PrioQueue<u32, K, 7>) -> Option<u32> {
     queue.pop(&mut Comparisons::new())
 }
 
+// There is room for these.
+fn takes_in<K: Kind<u32>>(rt: &impl Abort, queue: &mut PrioQueue<u32, K, 7>, items: &[u32]) {
+    for item in items {
+        same!(rt; push(queue, *item), Ok(()));
+    }
+}
+
+// These leave, and nothing is left then.
+fn is_emptied<K: Kind<u32>>(rt: &impl Abort, queue: &mut PrioQueue<u32, K, 7>, items: &[u32]) {
+    for item in items {
+        same!(rt; pop(queue), Some(*item));
+    }
+    same!(rt; pop(queue), None);
+}
+
 #[test]
 fn the_greatest_of_seven_leaves_first(rt: HostRuntime) {
     let mut queue: PrioQueue<u32, Max, 7> = PrioQueue::new();
-    for item in [5, 1, 5, 3, 9, 2, 4] {
-        assert_eq!(rt; push(&mut queue, item), Ok(()));
-    }
-    assert_eq!(rt; push(&mut queue, 8), Err(8));
-    for item in [
-        Some(9),
-        Some(5),
-        Some(5),
-        Some(4),
-        Some(3),
-        Some(2),
-        Some(1),
-        None,
-    ] {
-        assert_eq!(rt; pop(&mut queue), item);
-    }
+    takes_in(&rt, &mut queue, &[5, 1, 5, 3, 9, 2, 4]);
+    same!(rt; push(&mut queue, 8), Err(8));
+    is_emptied(&rt, &mut queue, &[9, 5, 5, 4, 3, 2, 1]);
 }
 
 #[test]
 fn the_least_of_seven_leaves_first(rt: HostRuntime) {
     let mut queue: PrioQueue<u32, Min, 7> = PrioQueue::new();
-    for item in [5, 1, 5, 3, 9, 2, 4] {
-        assert_eq!(rt; push(&mut queue, item), Ok(()));
-    }
-    for item in [
-        Some(1),
-        Some(2),
-        Some(3),
-        Some(4),
-        Some(5),
-        Some(5),
-        Some(9),
-        None,
-    ] {
-        assert_eq!(rt; pop(&mut queue), item);
-    }
+    takes_in(&rt, &mut queue, &[5, 1, 5, 3, 9, 2, 4]);
+    is_emptied(&rt, &mut queue, &[1, 2, 3, 4, 5, 5, 9]);
 }
 
 #[test]
 fn a_look_takes_nothing_out(rt: HostRuntime) {
     let mut queue: PrioQueue<u32, Max, 7> = PrioQueue::new();
-    assert!(rt; queue.peek().is_none());
-    assert!(rt; queue.is_empty());
-    for item in [3, 9, 5] {
-        assert_eq!(rt; push(&mut queue, item), Ok(()));
-    }
-    assert!(rt; queue.peek() == Some(&9));
-    assert_eq!(rt; queue.len(), 3);
-    assert_eq!(rt; pop(&mut queue), Some(9));
-    assert!(rt; queue.peek() == Some(&5));
-    assert!(rt; !queue.is_full());
+    holds!(rt; queue.peek().is_none());
+    holds!(rt; queue.is_empty());
+    takes_in(&rt, &mut queue, &[3, 9, 5]);
+    holds!(rt; queue.peek() == Some(&9));
+    same!(rt; queue.len(), 3);
+    same!(rt; pop(&mut queue), Some(9));
+    holds!(rt; queue.peek() == Some(&5));
+    holds!(rt; !queue.is_full());
     queue.clear();
-    assert!(rt; queue.is_empty());
+    holds!(rt; queue.is_empty());
 }
 
-fn item_of<'a>(value: u32, asked: &'a Cell<u32>) -> Counted<'a> {
+type Queue<'a> = PrioQueue<Counted<'a>, Greatest, 7>;
+
+fn push_counted<'a>(
+    queue: &mut Queue<'a>,
+    value: u32,
+    asked: &'a Cell<u32>,
+) -> Result<(), Counted<'a>> {
     asked.set(0);
-    Counted { value, asked }
+    queue.push(Counted { value, asked }, &mut Comparisons::new())
+}
+
+// There is room for these values, each of which is put in its place within so many comparisons.
+fn takes_in_within<'a>(
+    rt: &impl Abort,
+    queue: &mut Queue<'a>,
+    asked: &'a Cell<u32>,
+    values: &[(u32, u32)],
+) {
+    for (value, most) in values {
+        holds!(rt; push_counted(queue, *value, asked).is_ok());
+        holds!(rt; asked.get() <= *most);
+    }
+}
+
+// These values leave, each within so many comparisons.
+fn lets_out_within(
+    rt: &impl Abort,
+    queue: &mut Queue<'_>,
+    asked: &Cell<u32>,
+    values: &[(u32, u32)],
+) {
+    for (value, most) in values {
+        asked.set(0);
+        match queue.pop(&mut Comparisons::new()) {
+            Some(item) => same!(rt; item.value, *value),
+            None => rt.abort(),
+        }
+        holds!(rt; asked.get() <= *most);
+    }
 }
 
 #[test]
 fn comparisons_stay_within_the_digits(rt: HostRuntime) {
-    let cell = Cell::new(0);
-    let asked = &cell;
-    let mut queue: PrioQueue<Counted, Greatest, 7> = PrioQueue::new();
-    for (value, most) in [(5, 0), (1, 1), (5, 1), (3, 2), (9, 2), (2, 2), (4, 2)] {
-        let item = item_of(value, asked);
-        let pushed = queue.push(item, &mut Comparisons::new());
-        assert!(rt; pushed.is_ok());
-        assert!(rt; asked.get() <= most);
-    }
-    let item = item_of(8, asked);
-    let refused = queue.push(item, &mut Comparisons::new());
-    assert!(rt; refused.is_err());
-    assert_eq!(rt; asked.get(), 0);
-    for (value, most) in [(9, 4), (5, 4), (5, 4), (4, 2), (3, 2), (2, 0), (1, 0)] {
-        asked.set(0);
-        let popped = queue.pop(&mut Comparisons::new());
-        assert!(rt; popped.is_some_and(|item| item.value == value));
-        assert!(rt; asked.get() <= most);
-    }
+    let asked = Cell::new(0);
+    let mut queue: Queue<'_> = PrioQueue::new();
+    let values = [(5, 0), (1, 1), (5, 1), (3, 2), (9, 2), (2, 2), (4, 2)];
+    takes_in_within(&rt, &mut queue, &asked, &values);
+    holds!(rt; push_counted(&mut queue, 8, &asked).is_err());
+    same!(rt; asked.get(), 0);
+    let values = [(9, 4), (5, 4), (5, 4), (4, 2), (3, 2), (2, 0), (1, 0)];
+    lets_out_within(&rt, &mut queue, &asked, &values);
 }

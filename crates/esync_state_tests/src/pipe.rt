@@ -1,5 +1,6 @@
 use crate::wakers::hand_out;
 use esync_base::waitqueue::{Context, Poll, Wakes};
+use esync_notes::{holds, same};
 use esync_pipe::pipe::{PipeState, TryReadError, TryWriteError, WriteAllRequest};
 use std::process::Abort;
 
@@ -9,6 +10,15 @@ type Three = PipeState<u64, 3>;
 
 const NOBODY: [Option<u64>; 2] = [None, None];
 
+// It holds this number of bytes.
+fn has<const N: usize>(rt: &impl Abort, pipe: &PipeState<u64, N>, bytes: usize) {
+    same!(rt; pipe.len(), bytes);
+    same!(rt; pipe.is_empty(), bytes == 0);
+    same!(rt; pipe.is_full(), bytes == N);
+    same!(rt; pipe.free_capacity().wrapping_add(bytes), N);
+    same!(rt; pipe.capacity(), N);
+}
+
 fn writes<const N: usize>(
     rt: &impl Abort,
     pipe: &mut PipeState<u64, N>,
@@ -17,7 +27,7 @@ fn writes<const N: usize>(
     woken: [Option<u64>; 2],
 ) {
     let mut wakes = Wakes::new();
-    assert!(rt; pipe.try_write(bytes, &mut wakes) == answer);
+    holds!(rt; pipe.try_write(bytes, &mut wakes) == answer);
     hand_out(rt, &wakes, woken);
 }
 
@@ -31,21 +41,21 @@ fn reads<const N: usize>(
 ) {
     let mut wakes = Wakes::new();
     let mut to = [0; 16];
-    assert!(rt; places <= 16 && bytes.len() <= 16);
-    assert!(rt; pipe.try_read(&mut to[..places], &mut wakes) == Ok(bytes.len()));
-    assert!(rt; &to[..bytes.len()] == bytes);
+    holds!(rt; places <= 16 && bytes.len() <= 16);
+    holds!(rt; pipe.try_read(&mut to[..places], &mut wakes) == Ok(bytes.len()));
+    holds!(rt; &to[..bytes.len()] == bytes);
     hand_out(rt, &wakes, woken);
 }
 
 fn is_empty<const N: usize>(rt: &impl Abort, pipe: &mut PipeState<u64, N>) {
     let mut wakes: Wakes<u64, 2> = Wakes::new();
-    assert!(rt; pipe.try_read(&mut [0; 16], &mut wakes) == Err(TryReadError::Empty));
-    assert!(rt; pipe.try_fill_buf() == Err(TryReadError::Empty));
+    holds!(rt; pipe.try_read(&mut [0; 16], &mut wakes) == Err(TryReadError::Empty));
+    holds!(rt; pipe.try_fill_buf() == Err(TryReadError::Empty));
     hand_out(rt, &wakes, NOBODY);
 }
 
 fn shows<const N: usize>(rt: &impl Abort, pipe: &PipeState<u64, N>, bytes: &[u8]) {
-    assert!(rt; pipe.try_fill_buf() == Ok(bytes));
+    holds!(rt; pipe.try_fill_buf() == Ok(bytes));
 }
 
 fn consumes<const N: usize>(
@@ -58,7 +68,7 @@ fn consumes<const N: usize>(
         Ok(bytes) => bytes.len(),
         Err(TryReadError::Empty) => 0,
     };
-    assert!(rt; amt <= shown);
+    holds!(rt; amt <= shown);
     let mut wakes = Wakes::new();
     pipe.consume(amt, &mut wakes);
     hand_out(rt, &wakes, woken);
@@ -74,7 +84,7 @@ fn waits_for_room<const N: usize>(
     let mut wakes = Wakes::new();
     let cx = Context::from_waker(waker);
     let written = pipe.try_write_with_context(Some(&cx), &[8], &mut wakes);
-    assert!(rt; written == Err(TryWriteError::Full));
+    holds!(rt; written == Err(TryWriteError::Full));
     hand_out(rt, &wakes, woken);
 }
 
@@ -88,7 +98,7 @@ fn waits_for_bytes<const N: usize>(
     let mut wakes = Wakes::new();
     let cx = Context::from_waker(waker);
     let read = pipe.try_read_with_context(Some(&cx), &mut [0; 4], &mut wakes);
-    assert!(rt; read == Err(TryReadError::Empty));
+    holds!(rt; read == Err(TryReadError::Empty));
     hand_out(rt, &wakes, woken);
 }
 
@@ -110,7 +120,7 @@ fn a_fill_ends_at_the_wrap_and_a_write_goes_on(rt: HostRuntime) {
     writes(&rt, &mut pipe, &[47], Ok(1), NOBODY);
     shows(&rt, &pipe, &[45, 46, 47]);
     consumes(&rt, &mut pipe, 3, NOBODY);
-    assert!(rt; pipe.len() == 0 && pipe.is_empty());
+    has(&rt, &pipe, 0);
 }
 
 #[test]
@@ -150,19 +160,21 @@ fn an_empty_slice_wakes_too(rt: HostRuntime) {
     shows(&rt, &pipe, &[9]);
 }
 
+// A fill with waker 5, which wakes nobody.
+fn fills(rt: &impl Abort, pipe: &mut One, answer: Result<&[u8], TryReadError>) {
+    let mut wakes: Wakes<u64, 2> = Wakes::new();
+    let cx = Context::from_waker(5);
+    holds!(rt; pipe.try_fill_buf_with_context(Some(&cx), &mut wakes) == answer);
+    hand_out(rt, &wakes, NOBODY);
+}
+
 #[test]
 fn a_fill_waits_for_bytes_and_wakes_nobody(rt: HostRuntime) {
     let mut pipe: One = PipeState::new();
-    let cx = Context::from_waker(5);
-    let mut wakes: Wakes<u64, 2> = Wakes::new();
-    let filled = pipe.try_fill_buf_with_context(Some(&cx), &mut wakes);
-    assert!(rt; filled == Err(TryReadError::Empty));
-    hand_out(&rt, &wakes, NOBODY);
+    fills(&rt, &mut pipe, Err(TryReadError::Empty));
     writes(&rt, &mut pipe, &[7], Ok(1), [Some(5), None]);
     waits_for_room(&rt, &mut pipe, 6, NOBODY);
-    let filled = pipe.try_fill_buf_with_context(Some(&cx), &mut wakes);
-    assert!(rt; filled == Ok([7].as_slice()));
-    hand_out(&rt, &wakes, NOBODY);
+    fills(&rt, &mut pipe, Ok(&[7]));
 }
 
 #[test]
@@ -173,7 +185,7 @@ fn clear_wakes_who_waits_for_room(rt: HostRuntime) {
     let mut wakes: Wakes<u64, 2> = Wakes::new();
     pipe.clear(&mut wakes);
     hand_out(&rt, &wakes, [Some(6), None]);
-    assert!(rt; pipe.len() == 0 && pipe.free_capacity() == 3 && pipe.capacity() == 3);
+    has(&rt, &pipe, 0);
 }
 
 // Polls a write of all with waker 1, of which these bytes are left then.
@@ -185,10 +197,10 @@ fn polls(
     woken: [Option<u64>; 2],
 ) {
     let mut wakes = Wakes::new();
-    assert!(rt; !request.is_finished());
+    holds!(rt; !request.is_finished());
     let answer = request.poll_state(pipe, &Context::from_waker(1), &mut wakes);
-    assert!(rt; (answer == Poll::Pending) != left.is_empty());
-    assert!(rt; request.rest() == left && request.is_finished() == left.is_empty());
+    holds!(rt; (answer == Poll::Pending) != left.is_empty());
+    holds!(rt; request.rest() == left && request.is_finished() == left.is_empty());
     hand_out(rt, &wakes, woken);
 }
 
@@ -209,7 +221,7 @@ fn a_write_of_all_waits_for_room(rt: HostRuntime) {
 fn writing_once(rt: HostRuntime) {
     let mut pipe: Three = PipeState::new();
     writes(&rt, &mut pipe, &[1], Ok(1), NOBODY);
-    assert_eq!(rt; pipe.free_capacity(), 2);
+    has(&rt, &pipe, 1);
 }
 
 #[test]
@@ -219,7 +231,7 @@ fn writing_when_full(rt: HostRuntime) {
     writes(&rt, &mut pipe, &[43], Ok(1), NOBODY);
     writes(&rt, &mut pipe, &[44], Ok(1), NOBODY);
     writes(&rt, &mut pipe, &[45], Err(TryWriteError::Full), NOBODY);
-    assert!(rt; pipe.is_full() && pipe.free_capacity() == 0);
+    has(&rt, &pipe, 3);
 }
 
 #[test]
@@ -227,12 +239,12 @@ fn receiving_once_with_one_send(rt: HostRuntime) {
     let mut pipe: Three = PipeState::new();
     writes(&rt, &mut pipe, &[42], Ok(1), NOBODY);
     reads(&rt, &mut pipe, 16, &[42], NOBODY);
-    assert_eq!(rt; pipe.free_capacity(), 3);
+    has(&rt, &pipe, 0);
 }
 
 #[test]
 fn receiving_when_empty(rt: HostRuntime) {
     let mut pipe: Three = PipeState::new();
     is_empty(&rt, &mut pipe);
-    assert_eq!(rt; pipe.free_capacity(), 3);
+    has(&rt, &pipe, 0);
 }

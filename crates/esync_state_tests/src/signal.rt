@@ -1,6 +1,7 @@
 use crate::wakers::hands_out;
 use esync_base::waitqueue::{Context, Poll, Wakes};
 use esync_cells::signal::SignalState;
+use esync_notes::{holds, same};
 use std::process::Abort;
 
 fn waits(
@@ -11,7 +12,7 @@ fn waits(
     handed_out: Option<u64>,
 ) {
     let mut wakes = Wakes::new();
-    assert!(rt; signal.poll_wait(&Context::from_waker(waker), &mut wakes) == answer);
+    holds!(rt; signal.poll_wait(&Context::from_waker(waker), &mut wakes) == answer);
     hands_out(rt, &wakes, handed_out);
 }
 
@@ -27,7 +28,7 @@ fn a_waiter_stays_over_a_reset(rt: HostRuntime) {
     waits(&rt, &mut signal, 1, Poll::Pending, None);
     waits(&rt, &mut signal, 2, Poll::Pending, Some(1));
     signal.reset();
-    assert!(rt; !signal.signaled());
+    holds!(rt; !signal.signaled());
     puts(&rt, &mut signal, 5, Some(2));
     waits(&rt, &mut signal, 2, Poll::Ready(5), None);
     waits(&rt, &mut signal, 1, Poll::Pending, None);
@@ -36,15 +37,15 @@ fn a_waiter_stays_over_a_reset(rt: HostRuntime) {
 #[test]
 fn a_new_value_overwrites_one_that_was_not_taken(rt: HostRuntime) {
     let mut signal: SignalState<u32, u64> = Default::default();
-    assert!(rt; !signal.signaled());
-    assert_eq!(rt; signal.try_take(), None);
+    holds!(rt; !signal.signaled());
+    same!(rt; signal.try_take(), None);
     puts(&rt, &mut signal, 5, None);
     puts(&rt, &mut signal, 6, None);
-    assert!(rt; signal.signaled());
-    assert_eq!(rt; signal.try_take(), Some(6));
+    holds!(rt; signal.signaled());
+    same!(rt; signal.try_take(), Some(6));
     waits(&rt, &mut signal, 1, Poll::Pending, None);
-    assert_eq!(rt; signal.try_take(), None);
+    same!(rt; signal.try_take(), None);
     puts(&rt, &mut signal, 7, Some(1));
     signal.reset();
-    assert_eq!(rt; signal.try_take(), None);
+    same!(rt; signal.try_take(), None);
 }

@@ -2,29 +2,34 @@
 use esync_base::waitqueue::Wakes;
 use esync_machine::primitive::Answer;
 use esync_machine::run::Reply;
+use esync_notes::{holds, same};
+use std::alloc::AllocError;
 use std::process::Abort;
 
 /// The wakers that were handed out are this one alone, or none.
 pub fn hands_out(rt: &impl Abort, wakes: &Wakes<u64, 1>, waker: Option<u64>) {
-    assert_eq!(rt; wakes.as_slice(), [waker].as_slice());
+    same!(rt; wakes.as_slice(), [waker].as_slice());
 }
 
 /// The wakers that were handed out, of two at most, are these.
 pub fn hand_out(rt: &impl Abort, wakes: &Wakes<u64, 2>, wakers: [Option<u64>; 2]) {
-    assert_eq!(rt; wakes.as_slice(), wakers.as_slice());
+    same!(rt; wakes.as_slice(), wakers.as_slice());
 }
 
-type Replies<'a, A> = &'a [Reply<Answer<A>, u64, 1>];
+type Replies<A, const K: usize> = Result<Vec<Reply<Answer<A>, u64, K>>, AllocError>;
 
 /// Each reply has this answer, and hands out this waker alone or none.
-pub fn are<A: PartialEq>(
+pub fn are<A: PartialEq + Drop, const K: usize>(
     rt: &impl Abort,
-    replies: Replies<'_, A>,
+    replies: Replies<A, K>,
     want: &[(Answer<A>, Option<u64>)],
-) {
-    assert_eq!(rt; replies.len(), want.len());
+) -> Result<(), AllocError> {
+    let replies = replies?;
+    same!(rt; replies.len(), want.len());
     for (reply, (answer, waker)) in replies.iter().zip(want) {
-        assert!(rt; reply.answer == *answer);
-        hands_out(rt, &reply.wakes, *waker);
+        holds!(rt; reply.answer == *answer);
+        same!(rt; reply.wakes.get(0), *waker);
+        same!(rt; reply.wakes.get(1), None);
     }
+    Ok(())
 }

@@ -1,6 +1,7 @@
 use crate::wakers::hands_out;
 use esync_base::waitqueue::{Context, Poll, Wakes};
 use esync_cells::watch::{Change, Exhausted, Judge, WatchState};
+use esync_notes::{holds, same};
 use std::alloc::AllocError;
 use std::cell::Cell;
 use std::process::Abort;
@@ -80,7 +81,7 @@ type One = WatchState<u32, u64, 1>;
 
 fn sends(rt: &impl Abort, watch: &mut One, value: u32, answer: Result<(), Exhausted<u32>>) {
     let mut wakes = Wakes::new();
-    assert!(rt; watch.send(value, &mut wakes) == answer);
+    holds!(rt; watch.send(value, &mut wakes) == answer);
     hands_out(rt, &wakes, None);
 }
 
@@ -92,7 +93,7 @@ fn changes<C: Change<u32>>(
     handed_out: Option<u64>,
 ) {
     let mut wakes = Wakes::new();
-    assert!(rt; watch.send_modify(change, &mut wakes) == answer);
+    holds!(rt; watch.send_modify(change, &mut wakes) == answer);
     hands_out(rt, &wakes, handed_out);
 }
 
@@ -104,8 +105,12 @@ fn changes_if<C: Change<u32>>(
     handed_out: Option<u64>,
 ) {
     let mut wakes = Wakes::new();
-    assert!(rt; watch.send_if_modified(change, &mut wakes) == answer);
+    holds!(rt; watch.send_if_modified(change, &mut wakes) == answer);
     hands_out(rt, &wakes, handed_out);
+}
+
+fn changed(rt: &impl Abort, watch: &One, seen: &mut u64, answer: Option<u32>) {
+    holds!(rt; watch.try_changed(seen) == Ok(answer));
 }
 
 #[test]
@@ -113,40 +118,39 @@ fn a_receiver_hears_of_the_latest_value_once(rt: HostRuntime) {
     let mut watch: One = WatchState::new();
     let mut seen = 0;
     sends(&rt, &mut watch, 25, Ok(()));
-    assert!(rt; watch.try_changed_and(&Below(5), &mut seen) == Ok(None));
-    assert!(rt; watch.try_changed(&mut seen) == Ok(Some(25)));
+    holds!(rt; watch.try_changed_and(&Below(5), &mut seen) == Ok(None));
+    changed(&rt, &watch, &mut seen, Some(25));
     sends(&rt, &mut watch, 1, Ok(()));
     watch.clear();
-    assert!(rt; !watch.contains_value());
-    assert!(rt; watch.try_changed(&mut seen) == Ok(None));
+    holds!(rt; !watch.contains_value());
+    changed(&rt, &watch, &mut seen, None);
     sends(&rt, &mut watch, 2, Ok(()));
-    assert!(rt; watch.try_changed(&mut seen) == Ok(Some(2)));
-    assert!(rt; watch.try_changed(&mut seen) == Ok(None));
-    assert!(rt; watch.try_get_and(&Below(5), &mut seen) == Ok(Some(2)));
-    assert_eq!(rt; watch.get_msg_id(), 3);
+    changed(&rt, &watch, &mut seen, Some(2));
+    changed(&rt, &watch, &mut seen, None);
+    holds!(rt; watch.try_get_and(&Below(5), &mut seen) == Ok(Some(2)));
+    same!(rt; watch.get_msg_id(), 3);
 }
 
 #[test]
 fn nobody_has_news_of_the_first_value(rt: HostRuntime) {
     let watch: One = WatchState::new_with(7);
     let mut seen = 0;
-    assert!(rt; watch.try_changed(&mut seen) == Ok(None));
-    assert!(rt; watch.try_get(&mut seen) == Ok(Some(7)));
-    assert!(rt; watch.contains_value());
+    changed(&rt, &watch, &mut seen, None);
+    holds!(rt; watch.try_get(&mut seen) == Ok(Some(7)));
+    holds!(rt; watch.contains_value());
 }
 
 #[test]
 fn receivers_are_counted(rt: HostRuntime) {
     let mut watch: WatchState<u32, u64, 2> = WatchState::new();
-    assert!(rt; watch.add_receiver());
-    assert!(rt; watch.add_receiver());
-    assert!(rt; !watch.add_receiver());
-    assert_eq!(rt; watch.receivers(), 2);
-    if watch.receivers() > 0 {
-        watch.drop_receiver();
-    }
-    assert!(rt; watch.add_receiver());
-    assert_eq!(rt; watch.receivers(), 2);
+    holds!(rt; watch.add_receiver());
+    holds!(rt; watch.add_receiver());
+    holds!(rt; !watch.add_receiver());
+    same!(rt; watch.receivers(), 2);
+    holds!(rt; watch.receivers() > 0);
+    watch.drop_receiver();
+    holds!(rt; watch.add_receiver());
+    same!(rt; watch.receivers(), 2);
 }
 
 #[test]
@@ -158,10 +162,19 @@ fn end_of_the_versions(rt: HostRuntime) {
     sends(&rt, &mut watch, 2, Err(Exhausted(2)));
     changes(&rt, &mut watch, &Asked(&asked), Err(Exhausted(())), None);
     changes_if(&rt, &mut watch, &Asked(&asked), Err(Exhausted(())), None);
-    assert!(rt; !asked.get());
-    assert!(rt; watch.try_changed(&mut seen) == Ok(Some(1)));
+    holds!(rt; !asked.get());
+    changed(&rt, &watch, &mut seen, Some(1));
     watch.clear();
-    assert!(rt; watch.try_get(&mut seen) == Ok(None));
+    holds!(rt; watch.try_get(&mut seen) == Ok(None));
+}
+
+// Nothing is to be had of a value whose clone is refused, and nobody has seen it.
+fn is_not_seen(rt: &impl Abort, watch: &mut WatchState<Scarce<'_>, u64, 1>, seen: &mut u64) {
+    let mut wakes: Wakes<u64, 1> = Wakes::new();
+    let cx = Context::from_waker(1);
+    holds!(rt; watch.try_get(seen).is_err());
+    holds!(rt; watch.poll_changed(seen, &cx, &mut wakes).is_err());
+    same!(rt; *seen, 0);
 }
 
 #[test]
@@ -174,19 +187,12 @@ fn a_refused_clone_is_not_seen(rt: HostRuntime) {
     let mut watch: WatchState<Scarce<'_>, u64, 1> = WatchState::new();
     let mut seen = 0;
     let mut wakes: Wakes<u64, 1> = Wakes::new();
-    assert!(rt; watch.send(value, &mut wakes).is_ok());
-    assert!(rt; watch.try_get(&mut seen).is_err());
-    let mut wakes: Wakes<u64, 1> = Wakes::new();
-    assert!(rt;
-        watch
-            .poll_changed(&mut seen, &Context::from_waker(1), &mut wakes)
-            .is_err()
-    );
-    assert_eq!(rt; seen, 0);
+    holds!(rt; watch.send(value, &mut wakes).is_ok());
+    is_not_seen(&rt, &mut watch, &mut seen);
     is_refused.set(false);
     match watch.try_changed(&mut seen) {
-        Ok(Some(copy)) => assert_eq!(rt; copy.value, 3),
-        _ => assert!(rt; false),
+        Ok(Some(copy)) => same!(rt; copy.value, 3),
+        _ => holds!(rt; false),
     }
 }
 
@@ -194,25 +200,26 @@ fn a_refused_clone_is_not_seen(rt: HostRuntime) {
 fn polls_wait_for_news(rt: HostRuntime) {
     let mut watch: One = WatchState::new();
     let mut seen = 0;
-    let (one, two) = (Context::from_waker(1), Context::from_waker(2));
+    let one = Context::from_waker(1);
+    let two = Context::from_waker(2);
     let mut wakes: Wakes<u64, 1> = Wakes::new();
-    assert!(rt;
+    holds!(rt;
         watch.poll_changed_and(&Below(5), &mut seen, &one, &mut wakes) == Ok(Poll::Pending)
     );
     hands_out(&rt, &wakes, None);
-    let mut wakes: Wakes<u64, 1> = Wakes::new();
-    assert!(rt; watch.poll_get(&mut seen, &two, &mut wakes) == Ok(Poll::Pending));
+    wakes.clear();
+    holds!(rt; watch.poll_get(&mut seen, &two, &mut wakes) == Ok(Poll::Pending));
     hands_out(&rt, &wakes, Some(1));
     changes_if(&rt, &mut watch, &Put(9), Ok(()), Some(2));
-    let mut wakes: Wakes<u64, 1> = Wakes::new();
-    assert!(rt; watch.poll_changed(&mut seen, &two, &mut wakes) == Ok(Poll::Ready(9)));
+    wakes.clear();
+    holds!(rt; watch.poll_changed(&mut seen, &two, &mut wakes) == Ok(Poll::Ready(9)));
     hands_out(&rt, &wakes, None);
-    let mut wakes: Wakes<u64, 1> = Wakes::new();
-    assert!(rt; watch.poll_get_and(&Below(5), &mut seen, &one, &mut wakes) == Ok(Poll::Pending));
+    wakes.clear();
+    holds!(rt; watch.poll_get_and(&Below(5), &mut seen, &one, &mut wakes) == Ok(Poll::Pending));
     hands_out(&rt, &wakes, None);
     let asked = Cell::new(false);
     changes_if(&rt, &mut watch, &Asked(&asked), Ok(()), None);
-    assert!(rt; asked.get());
+    holds!(rt; asked.get());
     changes(&rt, &mut watch, &Asked(&asked), Ok(()), Some(1));
-    assert_eq!(rt; watch.get_msg_id(), 2);
+    same!(rt; watch.get_msg_id(), 2);
 }

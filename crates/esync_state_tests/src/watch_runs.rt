@@ -6,9 +6,9 @@ use esync_cells::watch::machine::{
 };
 use esync_machine::primitive::{Answer, Command};
 use esync_machine::requests::Requests;
+use esync_notes::holds;
 use std::alloc::{AllocError, Global};
 use std::cell::Cell;
-use std::test::Fail;
 
 type Watch<'a> = WatchRun<u32, u64, Asked<'a>, Below, 1, 16, 16, 1>;
 
@@ -29,14 +29,14 @@ fn commands<'a>(alloc: Global, asked: &'a Cell<bool>) -> Result<Commands<'a>, Al
 }
 
 #[test]
-fn a_run_to_the_last_version(rt: HostRuntime) -> Result<(), Fail> {
+fn a_run_to_the_last_version(rt: HostRuntime) -> Result<(), AllocError> {
     let asked = Cell::new(false);
     let mut machine: Watch<'_> = Requests::new(Watched::new_at(u64::MAX - 1));
     let commands = commands(rt.alloc(), &asked)?;
-    let replies = run_watch(rt.alloc(), &mut machine, commands)?;
+    let replies = run_watch(rt.alloc(), &mut machine, commands);
     are(
         &rt,
-        replies.as_slice(),
+        replies,
         &[
             (Answer::Gives(Heard::Counted(true)), None),
             (Answer::Gives(Heard::Sent(Ok(()))), None),
@@ -47,7 +47,7 @@ fn a_run_to_the_last_version(rt: HostRuntime) -> Result<(), Fail> {
             (Answer::Done, None),
             (Answer::Gives(Heard::Found(None)), None),
         ],
-    );
-    assert!(rt; !asked.get());
+    )?;
+    holds!(rt; !asked.get());
     Ok(())
 }

@@ -7,7 +7,7 @@ use embassy_sync::channel::{
 use embassy_sync::priority_channel::{self, Max, Min, PriorityChannel};
 use embassy_sync::store::Store;
 use embassy_sync::waitqueue::{Context, Hand, Poll, Wakes};
-use esync_notes::{Notes, woken};
+use esync_notes::{Notes, holds, same, woken};
 use std::process::Abort;
 use std::sync::Wait;
 use std::test::Fail;
@@ -18,9 +18,9 @@ fn cx(waker: u64) -> Context<u64> {
 
 fn sends_once<S: Store<Message = u32>>(rt: &impl Abort, mut state: Mailbox<S, u64>) {
     let mut wakes: Wakes<u64, 1> = Wakes::new();
-    assert!(rt; state.try_send(1, &mut wakes) == Ok(()));
-    assert_eq!(rt; state.free_capacity(), 2);
-    assert!(rt; wakes.is_empty());
+    holds!(rt; state.try_send(1, &mut wakes) == Ok(()));
+    same!(rt; state.free_capacity(), 2);
+    holds!(rt; wakes.is_empty());
 }
 
 #[test]
@@ -34,10 +34,10 @@ fn sending_once(rt: HostRuntime) {
 
 fn receives_once<S: Store<Message = u32>>(rt: &impl Abort, mut state: Mailbox<S, u64>) {
     let (mut sent, mut received): (Wakes<u64, 1>, Wakes<u64, 1>) = (Wakes::new(), Wakes::new());
-    assert!(rt; state.try_send(1, &mut sent) == Ok(()));
-    assert!(rt; state.try_receive(&mut received) == Ok(1));
-    assert_eq!(rt; state.free_capacity(), 3);
-    assert!(rt; sent.is_empty() && received.is_empty());
+    holds!(rt; state.try_send(1, &mut sent) == Ok(()));
+    holds!(rt; state.try_receive(&mut received) == Ok(1));
+    same!(rt; state.free_capacity(), 3);
+    holds!(rt; sent.is_empty() && received.is_empty());
 }
 
 #[test]
@@ -55,12 +55,12 @@ fn receives_what_is_tried<S: Store<Message = u32>, H: Hand<u64>, R: Wait>(
     channel: &SharedMailbox<S, u64, H>,
 ) {
     let mut receive = channel.receive();
-    assert!(rt; receive.poll(&cx(1)) == Poll::Pending);
+    holds!(rt; receive.poll(&cx(1)) == Poll::Pending);
     woken!(rt, notes, &[]);
-    assert!(rt; channel.try_send(1) == Ok(()));
+    holds!(rt; channel.try_send(1) == Ok(()));
     woken!(rt, notes, &[1]);
-    assert!(rt; receive.poll(&cx(1)) == Poll::Ready(1));
-    assert!(rt; receive.poll(&cx(1)) == Poll::Pending);
+    holds!(rt; receive.poll(&cx(1)) == Poll::Ready(1));
+    holds!(rt; receive.poll(&cx(1)) == Poll::Pending);
     woken!(rt, notes, &[]);
 }
 
@@ -84,9 +84,9 @@ fn polls_send<C: DynamicChannel<Waker = u64>, R: Wait>(
     answer: Poll<()>,
     handed_out: &[u64],
 ) {
-    assert!(rt; !send.is_finished());
-    assert!(rt; send.poll(&cx(waker)) == answer);
-    assert!(rt; send.is_finished() == (answer == Poll::Ready(())));
+    holds!(rt; !send.is_finished());
+    holds!(rt; send.poll(&cx(waker)) == answer);
+    holds!(rt; send.is_finished() == (answer == Poll::Ready(())));
     woken!(rt, notes, handed_out);
 }
 
@@ -96,7 +96,7 @@ fn sends_where_there_is_room<S: Store<Message = u32>, H: Hand<u64>, R: Wait>(
     channel: &SharedMailbox<S, u64, H>,
 ) {
     polls_send(rt, notes, &mut channel.send(1), 1, Poll::Ready(()), &[]);
-    assert!(rt; channel.receive().poll(&cx(1)) == Poll::Ready(1));
+    holds!(rt; channel.receive().poll(&cx(1)) == Poll::Ready(1));
     woken!(rt, notes, &[]);
 }
 
@@ -116,20 +116,20 @@ fn sends_wait_for_room<S: Store<Message = u32>, H: Hand<u64>, R: Wait>(
     notes: &Notes<'_, R>,
     channel: &SharedMailbox<S, u64, H>,
 ) {
-    assert!(rt; channel.try_send(1) == Ok(()));
+    holds!(rt; channel.try_send(1) == Ok(()));
     let (mut two, mut three) = (channel.send(2), channel.send(3));
     polls_send(rt, notes, &mut two, 2, Poll::Pending, &[]);
     polls_send(rt, notes, &mut three, 3, Poll::Pending, &[2]);
     let mut receive = channel.receive();
-    assert!(rt; receive.poll(&cx(1)) == Poll::Ready(1));
+    holds!(rt; receive.poll(&cx(1)) == Poll::Ready(1));
     woken!(rt, notes, &[3]);
     polls_send(rt, notes, &mut two, 2, Poll::Ready(()), &[]);
     polls_send(rt, notes, &mut three, 3, Poll::Pending, &[]);
-    assert!(rt; receive.poll(&cx(1)) == Poll::Ready(2));
+    holds!(rt; receive.poll(&cx(1)) == Poll::Ready(2));
     woken!(rt, notes, &[3]);
-    assert!(rt; receive.poll(&cx(1)) == Poll::Pending);
+    holds!(rt; receive.poll(&cx(1)) == Poll::Pending);
     polls_send(rt, notes, &mut three, 3, Poll::Ready(()), &[1]);
-    assert!(rt; receive.poll(&cx(1)) == Poll::Ready(3));
+    holds!(rt; receive.poll(&cx(1)) == Poll::Ready(3));
     woken!(rt, notes, &[]);
 }
 
@@ -150,13 +150,13 @@ fn clones<S: Store<Message = u32>, H: Hand<u64>>(
 ) -> Result<(), Fail> {
     let (receiver, sender) = (channel.receiver(), channel.sender());
     let (other_receiver, other_sender) = (receiver.clone()?, sender.clone()?);
-    assert!(rt; other_sender.try_send(1) == Ok(()));
-    assert!(rt; sender.len() == 1 && receiver.len() == 1);
-    assert!(rt; other_receiver.try_receive() == Ok(1));
+    holds!(rt; other_sender.try_send(1) == Ok(()));
+    holds!(rt; sender.len() == 1 && receiver.len() == 1);
+    holds!(rt; other_receiver.try_receive() == Ok(1));
     let dynamic_sender = DynamicSender::from(sender);
     let dynamic_receiver = DynamicReceiver::from(receiver);
-    assert!(rt; dynamic_sender.clone()?.try_send(2) == Ok(()));
-    assert!(rt; dynamic_receiver.clone()?.try_receive() == Ok(2));
+    holds!(rt; dynamic_sender.clone()?.try_send(2) == Ok(()));
+    holds!(rt; dynamic_receiver.clone()?.try_receive() == Ok(2));
     Ok(())
 }
 
@@ -175,11 +175,11 @@ fn tells<S: Store, H: Hand<u64>>(
 ) {
     let (sender, receiver) = (channel.sender(), channel.receiver());
     let (len, free) = if is_full { (1, 0) } else { (0, 1) };
-    assert!(rt; sender.capacity() == 1 && receiver.capacity() == 1);
-    assert!(rt; sender.len() == len && receiver.len() == len);
-    assert!(rt; sender.free_capacity() == free && receiver.free_capacity() == free);
-    assert!(rt; sender.is_full() == is_full && receiver.is_full() == is_full);
-    assert!(rt; sender.is_empty() != is_full && receiver.is_empty() != is_full);
+    holds!(rt; sender.capacity() == 1 && receiver.capacity() == 1);
+    holds!(rt; sender.len() == len && receiver.len() == len);
+    holds!(rt; sender.free_capacity() == free && receiver.free_capacity() == free);
+    holds!(rt; sender.is_full() == is_full && receiver.is_full() == is_full);
+    holds!(rt; sender.is_empty() != is_full && receiver.is_empty() != is_full);
 }
 
 fn acts_by_handles<S: Store<Message = u32>, H: Hand<u64>, R: Wait>(
@@ -190,28 +190,28 @@ fn acts_by_handles<S: Store<Message = u32>, H: Hand<u64>, R: Wait>(
     let (sender, receiver) = (channel.sender(), channel.receiver());
     tells(rt, channel, false);
     let mut receive = receiver.receive();
-    assert!(rt; receive.poll(&cx(1)) == Poll::Pending);
-    assert!(rt; receiver.poll_receive(&cx(2)) == Poll::Pending);
+    holds!(rt; receive.poll(&cx(1)) == Poll::Pending);
+    holds!(rt; receiver.poll_receive(&cx(2)) == Poll::Pending);
     woken!(rt, notes, &[1]);
     polls_send(rt, notes, &mut sender.send(5), 3, Poll::Ready(()), &[2]);
     tells(rt, channel, true);
     let mut late = sender.send(6);
     polls_send(rt, notes, &mut late, 3, Poll::Pending, &[]);
-    assert!(rt; sender.try_send(7) == Err(TrySendError::Full(7)));
+    holds!(rt; sender.try_send(7) == Err(TrySendError::Full(7)));
     woken!(rt, notes, &[]);
-    assert!(rt; sender.poll_ready_to_send(&cx(4)) == Poll::Pending);
+    holds!(rt; sender.poll_ready_to_send(&cx(4)) == Poll::Pending);
     woken!(rt, notes, &[3]);
-    assert!(rt; receive.poll(&cx(1)) == Poll::Ready(5));
+    holds!(rt; receive.poll(&cx(1)) == Poll::Ready(5));
     woken!(rt, notes, &[4]);
-    assert!(rt; receiver.try_receive() == Err(TryReceiveError::Empty));
-    assert!(rt; receiver.poll_ready_to_receive(&cx(2)) == Poll::Pending);
+    holds!(rt; receiver.try_receive() == Err(TryReceiveError::Empty));
+    holds!(rt; receiver.poll_ready_to_receive(&cx(2)) == Poll::Pending);
     polls_send(rt, notes, &mut late, 3, Poll::Ready(()), &[2]);
-    assert!(rt; sender.poll_ready_to_send(&cx(4)) == Poll::Pending);
+    holds!(rt; sender.poll_ready_to_send(&cx(4)) == Poll::Pending);
     sender.clear();
     woken!(rt, notes, &[4]);
     tells(rt, channel, false);
-    assert!(rt; sender.poll_ready_to_send(&cx(4)) == Poll::Ready(()));
-    assert!(rt; sender.try_send(8) == Ok(()));
+    holds!(rt; sender.poll_ready_to_send(&cx(4)) == Poll::Ready(()));
+    holds!(rt; sender.try_send(8) == Ok(()));
     woken!(rt, notes, &[]);
     receiver.clear();
     woken!(rt, notes, &[4]);
@@ -237,28 +237,28 @@ fn acts_by_dynamic_handles<S: Store<Message = u32>, H: Hand<u64>, R: Wait>(
     let sender = DynamicSender::from(channel.sender());
     let receiver = DynamicReceiver::from(channel.receiver());
     let mut receive = receiver.receive();
-    assert!(rt; receive.poll(&cx(1)) == Poll::Pending);
-    assert!(rt; receiver.poll_receive(&cx(2)) == Poll::Pending);
+    holds!(rt; receive.poll(&cx(1)) == Poll::Pending);
+    holds!(rt; receiver.poll_receive(&cx(2)) == Poll::Pending);
     woken!(rt, notes, &[1]);
     let mut send = sender.send(5);
-    assert!(rt; !send.is_finished());
-    assert!(rt; send.poll(&cx(3)) == Poll::Ready(()) && send.is_finished());
+    holds!(rt; !send.is_finished());
+    holds!(rt; send.poll(&cx(3)) == Poll::Ready(()) && send.is_finished());
     woken!(rt, notes, &[2]);
-    assert!(rt; sender.try_send(6) == Err(TrySendError::Full(6)));
-    assert!(rt; sender.poll_ready_to_send(&cx(4)) == Poll::Pending);
-    assert!(rt; receive.poll(&cx(1)) == Poll::Ready(5));
+    holds!(rt; sender.try_send(6) == Err(TrySendError::Full(6)));
+    holds!(rt; sender.poll_ready_to_send(&cx(4)) == Poll::Pending);
+    holds!(rt; receive.poll(&cx(1)) == Poll::Ready(5));
     woken!(rt, notes, &[4]);
-    assert!(rt; receiver.try_receive() == Err(TryReceiveError::Empty));
-    assert!(rt; receiver.poll_ready_to_receive(&cx(2)) == Poll::Pending);
-    assert!(rt; sender.try_send(7) == Ok(()));
+    holds!(rt; receiver.try_receive() == Err(TryReceiveError::Empty));
+    holds!(rt; receiver.poll_ready_to_receive(&cx(2)) == Poll::Pending);
+    holds!(rt; sender.try_send(7) == Ok(()));
     woken!(rt, notes, &[2]);
-    assert!(rt; receiver.poll_receive(&cx(2)) == Poll::Ready(7));
+    holds!(rt; receiver.poll_receive(&cx(2)) == Poll::Ready(7));
     let mut send = DynamicSendFuture::from(channel.send(8));
-    assert!(rt; !send.is_finished());
-    assert!(rt; send.poll(&cx(3)) == Poll::Ready(()));
+    holds!(rt; !send.is_finished());
+    holds!(rt; send.poll(&cx(3)) == Poll::Ready(()));
     let mut receive = DynamicReceiveFuture::from(channel.receive());
-    assert!(rt; receive.poll(&cx(1)) == Poll::Ready(8));
-    assert!(rt; receive.poll(&cx(1)) == Poll::Pending);
+    holds!(rt; receive.poll(&cx(1)) == Poll::Ready(8));
+    holds!(rt; receive.poll(&cx(1)) == Poll::Pending);
     woken!(rt, notes, &[]);
 }
 
@@ -280,18 +280,18 @@ fn registers_a_given_context<S: Store<Message = u32>, H: Hand<u64>, R: Wait>(
     first: &Context<u64>,
     second: &Context<u64>,
 ) {
-    assert!(rt; channel.try_receive_with_context(None) == Err(TryReceiveError::Empty));
-    assert!(rt; channel.try_receive_with_context(Some(first)) == Err(TryReceiveError::Empty));
+    holds!(rt; channel.try_receive_with_context(None) == Err(TryReceiveError::Empty));
+    holds!(rt; channel.try_receive_with_context(Some(first)) == Err(TryReceiveError::Empty));
     woken!(rt, notes, &[]);
-    assert!(rt; channel.try_send_with_context(5, None) == Ok(()));
+    holds!(rt; channel.try_send_with_context(5, None) == Ok(()));
     woken!(rt, notes, &[1]);
-    assert!(rt; channel.try_send_with_context(6, None) == Err(TrySendError::Full(6)));
-    assert!(rt; channel.try_send_with_context(7, Some(second)) == Err(TrySendError::Full(7)));
-    assert!(rt; channel.poll_ready_to_receive(&cx(3)) == Poll::Ready(()));
+    holds!(rt; channel.try_send_with_context(6, None) == Err(TrySendError::Full(6)));
+    holds!(rt; channel.try_send_with_context(7, Some(second)) == Err(TrySendError::Full(7)));
+    holds!(rt; channel.poll_ready_to_receive(&cx(3)) == Poll::Ready(()));
     woken!(rt, notes, &[]);
-    assert!(rt; channel.try_receive_with_context(Some(first)) == Ok(5));
+    holds!(rt; channel.try_receive_with_context(Some(first)) == Ok(5));
     woken!(rt, notes, &[2]);
-    assert!(rt; channel.try_send_with_context(8, Some(second)) == Ok(()));
+    holds!(rt; channel.try_send_with_context(8, Some(second)) == Ok(()));
     woken!(rt, notes, &[3]);
 }
 

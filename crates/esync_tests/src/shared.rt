@@ -5,7 +5,7 @@ use embassy_sync::channel::{
 use embassy_sync::priority_channel::{Max, Min, PriorityChannel};
 use embassy_sync::signal::Signal;
 use embassy_sync::waitqueue::{Context, Poll, Wakes};
-use esync_notes::{Notes, drop_at, woken};
+use esync_notes::{Notes, drop_at, holds, same, woken};
 use std::sync::Wait;
 use std::thread;
 
@@ -16,14 +16,14 @@ fn displaced_receiver_is_woken_by_the_hand(rt: HostRuntime) {
     let mut first = channel.receive();
     let mut second = channel.receive();
     let (one, two) = (Context::from_waker(1), Context::from_waker(2));
-    assert!(rt; first.poll(&one) == Poll::Pending);
+    holds!(rt; first.poll(&one) == Poll::Pending);
     woken!(&rt, &notes, &[]);
-    assert!(rt; second.poll(&two) == Poll::Pending);
+    holds!(rt; second.poll(&two) == Poll::Pending);
     woken!(&rt, &notes, &[1]);
-    assert!(rt; channel.try_send(7) == Ok(()));
+    holds!(rt; channel.try_send(7) == Ok(()));
     woken!(&rt, &notes, &[2]);
     drop(second);
-    assert!(rt; first.poll(&one) == Poll::Ready(7));
+    holds!(rt; first.poll(&one) == Poll::Ready(7));
     woken!(&rt, &notes, &[]);
 }
 
@@ -32,23 +32,23 @@ fn clear_wakes_the_sender_by_the_hand(rt: HostRuntime) {
     let notes = Notes::new(&rt);
     let channel: Channel<u32, u64, _, 3> = Channel::new(&notes);
     for _ in 0..3 {
-        assert!(rt; channel.try_send(1) == Ok(()));
+        holds!(rt; channel.try_send(1) == Ok(()));
     }
-    assert!(rt; channel.try_send(2) == Err(TrySendError::Full(2)));
-    assert!(rt; channel.free_capacity() == 0 && channel.is_full() && !channel.is_empty());
+    holds!(rt; channel.try_send(2) == Err(TrySendError::Full(2)));
+    holds!(rt; channel.free_capacity() == 0 && channel.is_full() && !channel.is_empty());
     let mut send = channel.send(2);
     let cx = Context::from_waker(1);
-    assert!(rt; !send.is_finished());
-    assert!(rt; send.poll(&cx) == Poll::Pending);
+    holds!(rt; !send.is_finished());
+    holds!(rt; send.poll(&cx) == Poll::Pending);
     woken!(&rt, &notes, &[]);
     channel.clear();
     woken!(&rt, &notes, &[1]);
-    assert!(rt; !send.is_finished());
-    assert!(rt; send.poll(&cx) == Poll::Ready(()));
+    holds!(rt; !send.is_finished());
+    holds!(rt; send.poll(&cx) == Poll::Ready(()));
     woken!(&rt, &notes, &[]);
-    assert!(rt; send.is_finished());
-    assert_eq!(rt; channel.len(), 1);
-    assert_eq!(rt; channel.capacity(), 3);
+    holds!(rt; send.is_finished());
+    same!(rt; channel.len(), 1);
+    same!(rt; channel.capacity(), 3);
 }
 
 #[test]
@@ -56,21 +56,21 @@ fn ready_polls_register_by_handles(rt: HostRuntime) {
     let notes = Notes::new(&rt);
     let channel: Channel<u32, u64, _, 2> = Channel::new(&notes);
     let (sender, receiver) = (channel.sender(), channel.receiver());
-    assert!(rt; receiver.poll_ready_to_receive(&Context::from_waker(1)) == Poll::Pending);
+    holds!(rt; receiver.poll_ready_to_receive(&Context::from_waker(1)) == Poll::Pending);
     woken!(&rt, &notes, &[]);
-    assert!(rt; sender.try_send(1) == Ok(()));
+    holds!(rt; sender.try_send(1) == Ok(()));
     woken!(&rt, &notes, &[1]);
-    assert!(rt; receiver.poll_ready_to_receive(&Context::from_waker(1)) == Poll::Ready(()));
+    holds!(rt; receiver.poll_ready_to_receive(&Context::from_waker(1)) == Poll::Ready(()));
     let mut ready = receiver.ready_to_receive();
-    assert!(rt; ready.poll(&Context::from_waker(2)) == Poll::Ready(()));
+    holds!(rt; ready.poll(&Context::from_waker(2)) == Poll::Ready(()));
     woken!(&rt, &notes, &[1]);
-    assert!(rt; ready.poll(&Context::from_waker(2)) == Poll::Ready(()));
+    holds!(rt; ready.poll(&Context::from_waker(2)) == Poll::Ready(()));
     woken!(&rt, &notes, &[]);
-    assert!(rt; sender.try_send(2) == Ok(()));
+    holds!(rt; sender.try_send(2) == Ok(()));
     woken!(&rt, &notes, &[2]);
-    assert!(rt; sender.poll_ready_to_send(&Context::from_waker(3)) == Poll::Pending);
+    holds!(rt; sender.poll_ready_to_send(&Context::from_waker(3)) == Poll::Pending);
     woken!(&rt, &notes, &[]);
-    assert!(rt; receiver.try_receive() == Ok(1));
+    holds!(rt; receiver.try_receive() == Ok(1));
     woken!(&rt, &notes, &[3]);
 }
 
@@ -78,14 +78,14 @@ fn ready_polls_register_by_handles(rt: HostRuntime) {
 fn the_greatest_leaves_first(rt: HostRuntime) {
     let notes = Notes::new(&rt);
     let channel: PriorityChannel<u32, u64, Max, _, 3> = PriorityChannel::new(&notes);
-    assert!(rt; channel.poll_ready_to_send(&Context::from_waker(1)) == Poll::Ready(()));
+    holds!(rt; channel.poll_ready_to_send(&Context::from_waker(1)) == Poll::Ready(()));
     for message in [1, 2, 3] {
-        assert!(rt; channel.try_send(message) == Ok(()));
+        holds!(rt; channel.try_send(message) == Ok(()));
         woken!(&rt, &notes, &[]);
     }
     let told: [(u32, &[u64]); 3] = [(3, &[1]), (2, &[]), (1, &[])];
     for (message, wakers) in told {
-        assert!(rt; channel.try_receive() == Ok(message));
+        holds!(rt; channel.try_receive() == Ok(message));
         woken!(&rt, &notes, wakers);
     }
 }
@@ -97,18 +97,18 @@ fn a_signal_keeps_its_waiter_over_a_reset(rt: HostRuntime) {
     let mut first = signal.wait();
     let mut second = signal.wait();
     let (one, two) = (Context::from_waker(1), Context::from_waker(2));
-    assert!(rt; first.poll(&one) == Poll::Pending);
-    assert!(rt; second.poll(&two) == Poll::Pending);
+    holds!(rt; first.poll(&one) == Poll::Pending);
+    holds!(rt; second.poll(&two) == Poll::Pending);
     woken!(&rt, &notes, &[1]);
     signal.reset();
     woken!(&rt, &notes, &[]);
     signal.signal(5);
     woken!(&rt, &notes, &[2]);
-    assert!(rt; signal.signaled());
-    assert!(rt; second.poll(&two) == Poll::Ready(5));
+    holds!(rt; signal.signaled());
+    holds!(rt; second.poll(&two) == Poll::Ready(5));
     woken!(&rt, &notes, &[]);
-    assert!(rt; first.poll(&one) == Poll::Pending);
-    assert_eq!(rt; signal.try_take(), None);
+    holds!(rt; first.poll(&one) == Poll::Pending);
+    same!(rt; signal.try_take(), None);
 }
 
 #[test]
@@ -117,8 +117,8 @@ fn dynamic_dispatch(rt: HostRuntime) {
     let channel: PriorityChannel<u32, u64, Min, _, 3> = PriorityChannel::new(&notes);
     let sender = DynamicSender::from(channel.sender());
     let receiver = DynamicReceiver::from(channel.receiver());
-    assert!(rt; sender.try_send(1) == Ok(()));
-    assert!(rt; receiver.try_receive() == Ok(1));
+    holds!(rt; sender.try_send(1) == Ok(()));
+    holds!(rt; receiver.try_receive() == Ok(1));
 }
 
 #[test]
@@ -127,9 +127,9 @@ fn dynamic_dispatch_into(rt: HostRuntime) {
     let channel: Channel<u32, u64, _, 3> = Channel::new(&notes);
     let sender = DynamicSender::from(channel.sender());
     let receiver = DynamicReceiver::from(channel.receiver());
-    assert!(rt; sender.try_send(1) == Ok(()));
-    assert!(rt; receiver.try_receive() == Ok(1));
-    assert!(rt; receiver.try_receive() == Err(TryReceiveError::Empty));
+    holds!(rt; sender.try_send(1) == Ok(()));
+    holds!(rt; receiver.try_receive() == Ok(1));
+    holds!(rt; receiver.try_receive() == Err(TryReceiveError::Empty));
 }
 
 #[test]
@@ -138,16 +138,16 @@ fn dynamic_dispatch_constructor(rt: HostRuntime) {
     let channel: Channel<u32, u64, _, 1> = Channel::new(&notes);
     let (sender, receiver) = (channel.dyn_sender(), channel.dyn_receiver());
     let cx = Context::from_waker(4);
-    assert!(rt; sender.try_send(1) == Ok(()));
+    holds!(rt; sender.try_send(1) == Ok(()));
     let mut send = sender.send(2);
-    assert!(rt; !send.is_finished());
-    assert!(rt; send.poll(&cx) == Poll::Pending);
-    assert!(rt; receiver.try_receive() == Ok(1));
+    holds!(rt; !send.is_finished());
+    holds!(rt; send.poll(&cx) == Poll::Pending);
+    holds!(rt; receiver.try_receive() == Ok(1));
     woken!(&rt, &notes, &[4]);
-    assert!(rt; !send.is_finished());
-    assert!(rt; send.poll(&cx) == Poll::Ready(()));
+    holds!(rt; !send.is_finished());
+    holds!(rt; send.poll(&cx) == Poll::Ready(()));
     let mut receive = receiver.receive();
-    assert!(rt; receive.poll(&cx) == Poll::Ready(2));
+    holds!(rt; receive.poll(&cx) == Poll::Ready(2));
 }
 
 #[test]
@@ -159,18 +159,18 @@ fn a_receiver_dropped_at_any_point_takes_no_message(rt: HostRuntime) {
         let mut first = channel.receive();
         let mut second = Some(channel.receive());
         drop_at(&mut second, point == 0);
-        assert!(rt; first.poll(&one) == Poll::Pending);
+        holds!(rt; first.poll(&one) == Poll::Pending);
         drop_at(&mut second, point == 1);
         if let Some(second) = &mut second {
-            assert!(rt; second.poll(&two) == Poll::Pending);
+            holds!(rt; second.poll(&two) == Poll::Pending);
             woken!(&rt, &notes, &[1]);
         }
         drop_at(&mut second, point == 2);
         woken!(&rt, &notes, &[]);
-        assert!(rt; channel.try_send(7) == Ok(()));
+        holds!(rt; channel.try_send(7) == Ok(()));
         woken!(&rt, &notes, &[told]);
         drop_at(&mut second, point == 3);
-        assert!(rt; first.poll(&one) == Poll::Ready(7));
+        holds!(rt; first.poll(&one) == Poll::Ready(7));
         woken!(&rt, &notes, &[]);
     }
 }
@@ -184,30 +184,30 @@ fn a_sender_dropped_at_any_point_sends_nothing(rt: HostRuntime) {
         let channel: Channel<u32, u64, _, 1> = Channel::new(&notes);
         let mut send = Some(channel.send(8));
         drop_at(&mut send, point == 0);
-        assert!(rt; channel.try_send(7) == Ok(()));
+        holds!(rt; channel.try_send(7) == Ok(()));
         drop_at(&mut send, point == 1);
         if let Some(send) = &mut send {
-            assert!(rt; !send.is_finished());
-            assert!(rt; send.poll(&cx) == Poll::Pending);
+            holds!(rt; !send.is_finished());
+            holds!(rt; send.poll(&cx) == Poll::Pending);
         }
         drop_at(&mut send, point == 2);
         woken!(&rt, &notes, &[]);
-        assert!(rt; channel.try_receive() == Ok(7));
+        holds!(rt; channel.try_receive() == Ok(7));
         woken!(&rt, &notes, told);
         drop_at(&mut send, point == 3);
-        assert!(rt; channel.is_empty());
+        holds!(rt; channel.is_empty());
     }
 }
 
 #[test]
 fn a_mutex_lends_its_value(rt: HostRuntime) {
     let mut mutex = CriticalSectionMutex::new(1u32);
-    assert_eq!(rt; mutex.lock(&rt, |value: &u32| *value), 1);
+    same!(rt; mutex.lock(&rt, |value: &u32| *value), 1);
     mutex.lock_mut(&rt, |value: &mut u32| {
         *value = 2;
     });
     *mutex.get_mut() = mutex.lock(&rt, |value: &u32| *value).wrapping_add(1);
-    assert_eq!(rt; mutex.into_inner(), 3);
+    same!(rt; mutex.into_inner(), 3);
 }
 
 type One = ChannelState<u32, u64, 1>;
@@ -230,9 +230,9 @@ fn receives(rt: &impl Wait, channel: &CriticalSectionMutex<One>) -> Option<u32> 
 fn two_threads_share_a_channel_state(rt: HostRuntime) {
     let channel: CriticalSectionMutex<One> = CriticalSectionMutex::new(ChannelState::new());
     let (sent, received) = thread::join(&rt, || sends(&rt, &channel), || receives(&rt, &channel));
-    assert!(rt; sent);
+    holds!(rt; sent);
     let left = channel.into_inner().len();
-    assert!(rt; (received == Some(7) && left == 0) || (received == None && left == 1));
+    holds!(rt; (received == Some(7) && left == 0) || (received == None && left == 1));
 }
 
 #[test]
@@ -242,17 +242,17 @@ fn a_wait_acts_anew_after_it_was_ready(rt: HostRuntime) {
     let cx = Context::from_waker(1);
     let mut wait = signal.wait();
     signal.signal(5);
-    assert!(rt; wait.poll(&cx) == Poll::Ready(5));
-    assert!(rt; wait.poll(&cx) == Poll::Pending);
+    holds!(rt; wait.poll(&cx) == Poll::Ready(5));
+    holds!(rt; wait.poll(&cx) == Poll::Pending);
     woken!(&rt, &notes, &[]);
     signal.signal(6);
     woken!(&rt, &notes, &[1]);
-    assert!(rt; wait.poll(&cx) == Poll::Ready(6));
+    holds!(rt; wait.poll(&cx) == Poll::Ready(6));
     signal.signal(7);
-    assert!(rt; signal.poll_wait(&cx) == Poll::Ready(7));
-    assert!(rt; !signal.signaled());
+    holds!(rt; signal.poll_wait(&cx) == Poll::Ready(7));
+    holds!(rt; !signal.signaled());
     signal.signal(8);
     signal.reset();
-    assert_eq!(rt; signal.try_take(), None);
+    same!(rt; signal.try_take(), None);
     woken!(&rt, &notes, &[]);
 }

@@ -2,7 +2,7 @@
 use crate::reads::receives;
 use esync_base::waitqueue::Context;
 use esync_cells::watch::Watch;
-use esync_notes::{Notes, woken};
+use esync_notes::{Notes, holds, same, woken};
 use std::alloc::AllocError;
 use std::cell::Cell;
 use std::process::Abort;
@@ -37,18 +37,18 @@ fn a_refused_clone_marks_nothing(rt: HostRuntime) {
         refusals: Cell::new(3),
         value: 3,
     };
-    assert!(rt; watch.sender().send(first).is_ok());
-    assert!(rt; receiver.try_get().is_err());
-    assert!(rt; receiver.try_changed().is_err());
-    assert!(rt; receiver.changed().poll(&Context::from_waker(1)).is_err());
+    holds!(rt; watch.sender().send(first).is_ok());
+    holds!(rt; receiver.try_get().is_err());
+    holds!(rt; receiver.try_changed().is_err());
+    holds!(rt; receiver.changed().poll(&Context::from_waker(1)).is_err());
     match receiver.try_changed() {
-        Ok(Some(copy)) => assert_eq!(rt; copy.value, 3),
+        Ok(Some(copy)) => same!(rt; copy.value, 3),
         _ => rt.abort(),
     }
     let second = Scarce {
         refusals: Cell::new(0),
         value: 4,
     };
-    assert!(rt; watch.sender().send(second).is_ok());
+    holds!(rt; watch.sender().send(second).is_ok());
     woken!(&rt, &notes, &[]);
 }

@@ -2,7 +2,7 @@
 use crate::reads::{Places, receives, sends};
 use esync_base::waitqueue::{Context, Poll};
 use esync_cells::watch::Watch;
-use esync_notes::Notes;
+use esync_notes::{Notes, holds, same};
 use std::sync::atomic::AtomicU64;
 use std::sync::atomic::Ordering::SeqCst;
 
@@ -17,14 +17,14 @@ fn a_get_asks_once_of_a_value(rt: HostRuntime) {
         *x > 7
     });
     let context = Context::from_waker(1);
-    assert!(rt; get.poll(&context) == Ok(Poll::Pending));
-    assert_eq!(rt; calls.load(SeqCst), 0);
+    holds!(rt; get.poll(&context) == Ok(Poll::Pending));
+    same!(rt; calls.load(SeqCst), 0);
     sends(&rt, &watch.sender(), 5);
-    assert!(rt; get.poll(&context) == Ok(Poll::Pending));
-    assert_eq!(rt; calls.load(SeqCst), 1);
+    holds!(rt; get.poll(&context) == Ok(Poll::Pending));
+    same!(rt; calls.load(SeqCst), 1);
     sends(&rt, &watch.sender(), 10);
-    assert!(rt; get.poll(&context) == Ok(Poll::Ready(10)));
-    assert_eq!(rt; calls.load(SeqCst), 2);
+    holds!(rt; get.poll(&context) == Ok(Poll::Ready(10)));
+    same!(rt; calls.load(SeqCst), 2);
 }
 
 #[test]
@@ -38,14 +38,14 @@ fn a_change_asks_once_of_news(rt: HostRuntime) {
         *x > 7
     });
     let context = Context::from_waker(1);
-    assert!(rt; changed.poll(&context) == Ok(Poll::Pending));
-    assert_eq!(rt; calls.load(SeqCst), 0);
+    holds!(rt; changed.poll(&context) == Ok(Poll::Pending));
+    same!(rt; calls.load(SeqCst), 0);
     sends(&rt, &watch.sender(), 5);
-    assert!(rt; changed.poll(&context) == Ok(Poll::Pending));
-    assert_eq!(rt; calls.load(SeqCst), 1);
+    holds!(rt; changed.poll(&context) == Ok(Poll::Pending));
+    same!(rt; calls.load(SeqCst), 1);
     sends(&rt, &watch.sender(), 10);
-    assert!(rt; changed.poll(&context) == Ok(Poll::Ready(10)));
-    assert_eq!(rt; calls.load(SeqCst), 2);
-    assert!(rt; changed.poll(&context) == Ok(Poll::Pending));
-    assert_eq!(rt; calls.load(SeqCst), 2);
+    holds!(rt; changed.poll(&context) == Ok(Poll::Ready(10)));
+    same!(rt; calls.load(SeqCst), 2);
+    holds!(rt; changed.poll(&context) == Ok(Poll::Pending));
+    same!(rt; calls.load(SeqCst), 2);
 }

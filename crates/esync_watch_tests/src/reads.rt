@@ -1,6 +1,6 @@
 use esync_base::waitqueue::{Context, Poll};
 use esync_cells::watch::{Rcv, Snd, Watch, WatchBehavior};
-use esync_notes::{Notes, woken};
+use esync_notes::{Notes, holds, same, woken};
 use std::process::Abort;
 
 /// A watch with places for so many receivers.
@@ -16,7 +16,7 @@ pub fn receives<'a, B: WatchBehavior>(rt: &impl Abort, receiver: Option<Rcv<'a, 
 
 /// The value is sent.
 pub fn sends<B: WatchBehavior<Value = u32>>(rt: &impl Abort, sender: &Snd<'_, B>, value: u32) {
-    assert!(rt; sender.send(value) == Ok(()));
+    holds!(rt; sender.send(value) == Ok(()));
 }
 
 #[test]
@@ -26,15 +26,15 @@ fn contains_value(rt: HostRuntime) {
     let receiver = receives(&rt, watch.receiver());
     let anonymous = watch.anon_receiver();
     let sender = watch.sender();
-    assert!(rt; !receiver.contains_value());
-    assert!(rt; !anonymous.contains_value());
-    assert!(rt; !sender.contains_value());
+    holds!(rt; !receiver.contains_value());
+    holds!(rt; !anonymous.contains_value());
+    holds!(rt; !sender.contains_value());
     sends(&rt, &sender, 10);
-    assert!(rt; receiver.contains_value());
-    assert!(rt; anonymous.contains_value());
-    assert!(rt; sender.contains_value());
+    holds!(rt; receiver.contains_value());
+    holds!(rt; anonymous.contains_value());
+    holds!(rt; sender.contains_value());
     sender.clear();
-    assert!(rt; !sender.contains_value());
+    holds!(rt; !sender.contains_value());
 }
 
 #[test]
@@ -42,9 +42,9 @@ fn a_first_value_is_no_news(rt: HostRuntime) {
     let notes = Notes::new(&rt);
     let watch: Places<_, 1> = Watch::new_with(7, &notes);
     let mut receiver = receives(&rt, watch.receiver());
-    assert!(rt; receiver.try_changed() == Ok(None));
-    assert!(rt; receiver.try_get() == Ok(Some(7)));
-    assert_eq!(rt; watch.get_msg_id(), 0);
+    holds!(rt; receiver.try_changed() == Ok(None));
+    holds!(rt; receiver.try_get() == Ok(Some(7)));
+    same!(rt; watch.get_msg_id(), 0);
 }
 
 #[test]
@@ -54,14 +54,14 @@ fn a_cleared_value_is_no_news(rt: HostRuntime) {
     let mut receiver = receives(&rt, watch.receiver());
     let sender = watch.sender();
     sends(&rt, &sender, 25);
-    assert!(rt; receiver.try_changed_and(|x| *x < 5) == Ok(None));
-    assert!(rt; receiver.try_changed() == Ok(Some(25)));
+    holds!(rt; receiver.try_changed_and(|x| *x < 5) == Ok(None));
+    holds!(rt; receiver.try_changed() == Ok(Some(25)));
     sends(&rt, &sender, 1);
     sender.clear();
-    assert!(rt; receiver.try_changed() == Ok(None));
+    holds!(rt; receiver.try_changed() == Ok(None));
     sends(&rt, &sender, 2);
-    assert!(rt; receiver.try_changed() == Ok(Some(2)));
-    assert_eq!(rt; watch.get_msg_id(), 3);
+    holds!(rt; receiver.try_changed() == Ok(Some(2)));
+    same!(rt; watch.get_msg_id(), 3);
     woken!(&rt, &notes, &[]);
 }
 
@@ -70,13 +70,13 @@ fn all_try_get(rt: HostRuntime) {
     let notes = Notes::new(&rt);
     let watch: Places<_, 1> = Watch::new(&notes);
     let mut receiver = receives(&rt, watch.receiver());
-    assert!(rt; watch.try_get() == Ok(None));
-    assert!(rt; receiver.try_get() == Ok(None));
-    assert!(rt; watch.sender().try_get() == Ok(None));
+    holds!(rt; watch.try_get() == Ok(None));
+    holds!(rt; receiver.try_get() == Ok(None));
+    holds!(rt; watch.sender().try_get() == Ok(None));
     sends(&rt, &watch.sender(), 10);
-    assert!(rt; watch.try_get() == Ok(Some(10)));
-    assert!(rt; receiver.try_get() == Ok(Some(10)));
-    assert!(rt; watch.sender().try_get() == Ok(Some(10)));
+    holds!(rt; watch.try_get() == Ok(Some(10)));
+    holds!(rt; receiver.try_get() == Ok(Some(10)));
+    holds!(rt; watch.sender().try_get() == Ok(Some(10)));
 }
 
 #[test]
@@ -84,12 +84,12 @@ fn all_try_get_and(rt: HostRuntime) {
     let notes = Notes::new(&rt);
     let watch: Places<_, 1> = Watch::new_with(10, &notes);
     let mut receiver = receives(&rt, watch.receiver());
-    assert!(rt; watch.try_get_and(|x| *x > 5) == Ok(Some(10)));
-    assert!(rt; receiver.try_get_and(|x| *x > 5) == Ok(Some(10)));
-    assert!(rt; watch.sender().try_get_and(|x| *x > 5) == Ok(Some(10)));
-    assert!(rt; watch.try_get_and(|x| *x < 5) == Ok(None));
-    assert!(rt; receiver.try_get_and(|x| *x < 5) == Ok(None));
-    assert!(rt; watch.sender().try_get_and(|x| *x < 5) == Ok(None));
+    holds!(rt; watch.try_get_and(|x| *x > 5) == Ok(Some(10)));
+    holds!(rt; receiver.try_get_and(|x| *x > 5) == Ok(Some(10)));
+    holds!(rt; watch.sender().try_get_and(|x| *x > 5) == Ok(Some(10)));
+    holds!(rt; watch.try_get_and(|x| *x < 5) == Ok(None));
+    holds!(rt; receiver.try_get_and(|x| *x < 5) == Ok(None));
+    holds!(rt; watch.sender().try_get_and(|x| *x < 5) == Ok(None));
 }
 
 #[test]
@@ -98,17 +98,17 @@ fn predicate_fn(rt: HostRuntime) {
     let watch: Places<_, 1> = Watch::new(&notes);
     let mut receiver = receives(&rt, watch.receiver());
     sends(&rt, &watch.sender(), 15);
-    assert!(rt; receiver.try_get_and(|x| *x > 5) == Ok(Some(15)));
-    assert!(rt; receiver.try_get_and(|x| *x < 5) == Ok(None));
-    assert!(rt; receiver.try_changed() == Ok(None));
+    holds!(rt; receiver.try_get_and(|x| *x > 5) == Ok(Some(15)));
+    holds!(rt; receiver.try_get_and(|x| *x < 5) == Ok(None));
+    holds!(rt; receiver.try_changed() == Ok(None));
     sends(&rt, &watch.sender(), 20);
-    assert!(rt; receiver.try_changed_and(|x| *x > 5) == Ok(Some(20)));
-    assert!(rt; receiver.try_changed_and(|x| *x > 5) == Ok(None));
+    holds!(rt; receiver.try_changed_and(|x| *x > 5) == Ok(Some(20)));
+    holds!(rt; receiver.try_changed_and(|x| *x > 5) == Ok(None));
     sends(&rt, &watch.sender(), 25);
-    assert!(rt; receiver.try_changed_and(|x| *x < 5) == Ok(None));
-    assert!(rt; receiver.try_changed() == Ok(Some(25)));
+    holds!(rt; receiver.try_changed_and(|x| *x < 5) == Ok(None));
+    holds!(rt; receiver.try_changed() == Ok(Some(25)));
     sends(&rt, &watch.sender(), 30);
     let context = Context::from_waker(1);
-    assert!(rt; receiver.changed_and(|x| *x > 5).poll(&context) == Ok(Poll::Ready(30)));
-    assert!(rt; receiver.get_and(|x| *x > 5).poll(&context) == Ok(Poll::Ready(30)));
+    holds!(rt; receiver.changed_and(|x| *x > 5).poll(&context) == Ok(Poll::Ready(30)));
+    holds!(rt; receiver.get_and(|x| *x > 5).poll(&context) == Ok(Poll::Ready(30)));
 }

@@ -1,7 +1,7 @@
 use crate::reads::{Places, receives, sends};
 use esync_base::waitqueue::{Context, Poll};
 use esync_cells::watch::{DynReceiver, DynSender, Watch};
-use esync_notes::{Notes, woken};
+use esync_notes::{Notes, holds, woken};
 use std::process::Abort;
 
 #[test]
@@ -14,9 +14,9 @@ fn clone_senders(rt: HostRuntime) {
     };
     let mut receiver = receives(&rt, watch.receiver()).as_dyn();
     sends(&rt, &first, 10);
-    assert!(rt; receiver.try_changed() == Ok(Some(10)));
+    holds!(rt; receiver.try_changed() == Ok(Some(10)));
     sends(&rt, &second, 20);
-    assert!(rt; receiver.try_changed() == Ok(Some(20)));
+    holds!(rt; receiver.try_changed() == Ok(Some(20)));
 }
 
 #[test]
@@ -27,9 +27,9 @@ fn use_dynamics(rt: HostRuntime) {
     let mut receiver = receives(&rt, watch.dyn_receiver());
     let sender = watch.dyn_sender();
     sends(&rt, &sender, 10);
-    assert!(rt; anonymous.try_changed() == Ok(Some(10)));
-    assert!(rt; receiver.try_changed() == Ok(Some(10)));
-    assert!(rt; receiver.try_changed() == Ok(None));
+    holds!(rt; anonymous.try_changed() == Ok(Some(10)));
+    holds!(rt; receiver.try_changed() == Ok(Some(10)));
+    holds!(rt; receiver.try_changed() == Ok(None));
 }
 
 #[test]
@@ -40,10 +40,10 @@ fn convert_to_dyn(rt: HostRuntime) {
     let mut receiver = receives(&rt, watch.receiver()).as_dyn();
     let sender: DynSender<'_, _> = watch.sender().into();
     sends(&rt, &sender, 10);
-    assert!(rt; anonymous.try_changed() == Ok(Some(10)));
-    assert!(rt; receiver.try_changed() == Ok(Some(10)));
+    holds!(rt; anonymous.try_changed() == Ok(Some(10)));
+    holds!(rt; receiver.try_changed() == Ok(Some(10)));
     let mut same: DynReceiver<'_, _> = receiver.into();
-    assert!(rt; same.try_changed() == Ok(None));
+    holds!(rt; same.try_changed() == Ok(None));
 }
 
 #[test]
@@ -52,14 +52,14 @@ fn dynamic_receiver_count(rt: HostRuntime) {
     let watch: Places<_, 2> = Watch::new(&notes);
     let first = receives(&rt, watch.receiver());
     let second = watch.receiver();
-    assert!(rt; second.is_some());
-    assert!(rt; watch.receiver().is_none());
+    holds!(rt; second.is_some());
+    holds!(rt; watch.receiver().is_none());
     let dynamic = first.as_dyn();
-    assert!(rt; watch.receiver().is_none());
+    holds!(rt; watch.receiver().is_none());
     drop(dynamic);
     let third = watch.receiver();
-    assert!(rt; third.is_some());
-    assert!(rt; watch.receiver().is_none());
+    holds!(rt; third.is_some());
+    holds!(rt; watch.receiver().is_none());
 }
 
 #[test]
@@ -69,13 +69,13 @@ fn an_end_gives_its_place_back_and_nothing_else(rt: HostRuntime) {
     let first = receives(&rt, watch.receiver()).as_dyn();
     let mut second = receives(&rt, watch.receiver());
     let mut changed = second.changed();
-    assert!(rt; changed.poll(&Context::from_waker(2)) == Ok(Poll::Pending));
+    holds!(rt; changed.poll(&Context::from_waker(2)) == Ok(Poll::Pending));
     drop(first);
     woken!(&rt, &notes, &[]);
     let third = watch.receiver();
-    assert!(rt; third.is_some());
-    assert!(rt; watch.receiver().is_none());
-    assert!(rt; watch.try_get() == Ok(Some(7)));
+    holds!(rt; third.is_some());
+    holds!(rt; watch.receiver().is_none());
+    holds!(rt; watch.try_get() == Ok(Some(7)));
     sends(&rt, &watch.sender(), 8);
     woken!(&rt, &notes, &[2]);
 }
@@ -84,13 +84,13 @@ fn an_end_gives_its_place_back_and_nothing_else(rt: HostRuntime) {
 fn a_watch_without_places_has_anonymous_receivers_alone(rt: HostRuntime) {
     let notes = Notes::new(&rt);
     let watch: Places<_, 0> = Watch::new(&notes);
-    assert!(rt; watch.receiver().is_none());
+    holds!(rt; watch.receiver().is_none());
     let mut anonymous = watch.anon_receiver();
     sends(&rt, &watch.sender(), 10);
-    assert!(rt; anonymous.try_get_and(|x| *x < 5) == Ok(None));
-    assert!(rt; anonymous.try_changed_and(|x| *x > 5) == Ok(Some(10)));
-    assert!(rt; anonymous.try_changed() == Ok(None));
-    assert!(rt; anonymous.try_get() == Ok(Some(10)));
+    holds!(rt; anonymous.try_get_and(|x| *x < 5) == Ok(None));
+    holds!(rt; anonymous.try_changed_and(|x| *x > 5) == Ok(Some(10)));
+    holds!(rt; anonymous.try_changed() == Ok(None));
+    holds!(rt; anonymous.try_get() == Ok(Some(10)));
 }
 
 #[test]
@@ -99,7 +99,7 @@ fn receive_after_create(rt: HostRuntime) {
     let watch: Places<_, 1> = Watch::new(&notes);
     sends(&rt, &watch.sender(), 10);
     let mut receiver = receives(&rt, watch.receiver());
-    assert!(rt; receiver.try_changed() == Ok(Some(10)));
+    holds!(rt; receiver.try_changed() == Ok(Some(10)));
 }
 
 #[test]
@@ -107,12 +107,12 @@ fn max_receivers_drop(rt: HostRuntime) {
     let notes = Notes::new(&rt);
     let watch: Places<_, 2> = Watch::new(&notes);
     let first = watch.receiver();
-    assert!(rt; first.is_some());
+    holds!(rt; first.is_some());
     let second = watch.receiver();
-    assert!(rt; second.is_some());
-    assert!(rt; watch.receiver().is_none());
+    holds!(rt; second.is_some());
+    holds!(rt; watch.receiver().is_none());
     drop(first);
-    assert!(rt; watch.receiver().is_some());
+    holds!(rt; watch.receiver().is_some());
 }
 
 #[test]
@@ -121,9 +121,9 @@ fn multiple_receivers(rt: HostRuntime) {
     let watch: Places<_, 2> = Watch::new(&notes);
     let mut receiver = receives(&rt, watch.receiver());
     let mut anonymous = watch.anon_receiver();
-    assert!(rt; receiver.try_changed() == Ok(None));
-    assert!(rt; anonymous.try_changed() == Ok(None));
+    holds!(rt; receiver.try_changed() == Ok(None));
+    holds!(rt; anonymous.try_changed() == Ok(None));
     sends(&rt, &watch.sender(), 0);
-    assert!(rt; receiver.try_changed() == Ok(Some(0)));
-    assert!(rt; anonymous.try_changed() == Ok(Some(0)));
+    holds!(rt; receiver.try_changed() == Ok(Some(0)));
+    holds!(rt; anonymous.try_changed() == Ok(Some(0)));
 }

@@ -1,7 +1,7 @@
 use crate::reads::{Places, receives, sends};
 use esync_base::waitqueue::{Context, Poll, Wakes};
 use esync_cells::watch::{Change, Watch, WatchState};
-use esync_notes::{Notes, woken};
+use esync_notes::{Notes, holds, same, woken};
 use std::process::Abort;
 
 // Adds this much to a value, modulo 2^32.
@@ -49,12 +49,12 @@ fn multiple_sends(rt: HostRuntime) {
     let notes = Notes::new(&rt);
     let watch: Places<_, 1> = Watch::new(&notes);
     let mut receiver = receives(&rt, watch.receiver());
-    assert!(rt; receiver.try_changed() == Ok(None));
+    holds!(rt; receiver.try_changed() == Ok(None));
     sends(&rt, &watch.sender(), 10);
-    assert!(rt; receiver.changed().poll(&Context::from_waker(1)) == Ok(Poll::Ready(10)));
+    holds!(rt; receiver.changed().poll(&Context::from_waker(1)) == Ok(Poll::Ready(10)));
     sends(&rt, &watch.sender(), 20);
-    assert!(rt; receiver.try_changed() == Ok(Some(20)));
-    assert!(rt; receiver.try_changed() == Ok(None));
+    holds!(rt; receiver.try_changed() == Ok(Some(20)));
+    holds!(rt; receiver.try_changed() == Ok(None));
 }
 
 #[test]
@@ -63,10 +63,10 @@ fn sender_modify(rt: HostRuntime) {
     let watch: Places<_, 1> = Watch::new(&notes);
     let mut receiver = receives(&rt, watch.receiver());
     sends(&rt, &watch.sender(), 10);
-    assert!(rt; receiver.try_changed() == Ok(Some(10)));
-    assert!(rt; watch.sender().send_modify(&Adds(5)) == Ok(()));
-    assert!(rt; receiver.try_changed() == Ok(Some(15)));
-    assert!(rt; receiver.try_changed() == Ok(None));
+    holds!(rt; receiver.try_changed() == Ok(Some(10)));
+    holds!(rt; watch.sender().send_modify(&Adds(5)) == Ok(()));
+    holds!(rt; receiver.try_changed() == Ok(Some(15)));
+    holds!(rt; receiver.try_changed() == Ok(None));
 }
 
 #[test]
@@ -76,14 +76,14 @@ fn a_change_wakes_where_it_tells(rt: HostRuntime) {
     let mut receiver = receives(&rt, watch.receiver());
     let mut changed = receiver.changed();
     let context = Context::from_waker(1);
-    assert!(rt; changed.poll(&context) == Ok(Poll::Pending));
-    assert!(rt; watch.sender().send_if_modified(&Leaves {}) == Ok(()));
+    holds!(rt; changed.poll(&context) == Ok(Poll::Pending));
+    holds!(rt; watch.sender().send_if_modified(&Leaves {}) == Ok(()));
     woken!(&rt, &notes, &[]);
-    assert!(rt; changed.poll(&context) == Ok(Poll::Pending));
-    assert!(rt; watch.sender().send_if_modified(&Adds(5)) == Ok(()));
+    holds!(rt; changed.poll(&context) == Ok(Poll::Pending));
+    holds!(rt; watch.sender().send_if_modified(&Adds(5)) == Ok(()));
     woken!(&rt, &notes, &[1]);
-    assert!(rt; changed.poll(&context) == Ok(Poll::Ready(15)));
-    assert_eq!(rt; watch.get_msg_id(), 1);
+    holds!(rt; changed.poll(&context) == Ok(Poll::Ready(15)));
+    same!(rt; watch.get_msg_id(), 1);
 }
 
 #[test]
@@ -93,14 +93,14 @@ fn a_change_that_is_sent_wakes_whether_or_not_it_tells(rt: HostRuntime) {
     let mut receiver = receives(&rt, watch.receiver());
     let mut changed = receiver.changed();
     let context = Context::from_waker(1);
-    assert!(rt; changed.poll(&context) == Ok(Poll::Pending));
-    assert!(rt; watch.sender().send_modify(&Leaves {}) == Ok(()));
+    holds!(rt; changed.poll(&context) == Ok(Poll::Pending));
+    holds!(rt; watch.sender().send_modify(&Leaves {}) == Ok(()));
     woken!(&rt, &notes, &[1]);
-    assert!(rt; changed.poll(&context) == Ok(Poll::Ready(10)));
-    assert!(rt; changed.poll(&context) == Ok(Poll::Pending));
-    assert!(rt; watch.sender().send_modify(&Adds(5)) == Ok(()));
+    holds!(rt; changed.poll(&context) == Ok(Poll::Ready(10)));
+    holds!(rt; changed.poll(&context) == Ok(Poll::Pending));
+    holds!(rt; watch.sender().send_modify(&Adds(5)) == Ok(()));
     woken!(&rt, &notes, &[1]);
-    assert_eq!(rt; watch.get_msg_id(), 2);
+    same!(rt; watch.get_msg_id(), 2);
 }
 
 // Sends where no version is left.
@@ -117,6 +117,6 @@ fn an_exhausted_watch_says_why(rt: HostRuntime) -> anyhow::Result<()> {
         rt.abort()
     };
     let text = format!(in rt.alloc(); "{error}")?;
-    assert_eq!(rt; text.as_str(), "the versions have run out");
+    same!(rt; text.as_str(), "the versions have run out");
     Ok(())
 }

@@ -1,7 +1,7 @@
 use crate::reads::{Places, receives, sends};
 use esync_base::waitqueue::{Context, Poll};
 use esync_cells::watch::Watch;
-use esync_notes::{Notes, woken};
+use esync_notes::{Notes, holds, woken};
 
 #[test]
 fn a_get_waits_for_a_value(rt: HostRuntime) {
@@ -9,14 +9,14 @@ fn a_get_waits_for_a_value(rt: HostRuntime) {
     let watch: Places<_, 1> = Watch::new(&notes);
     let mut receiver = receives(&rt, watch.receiver());
     let mut get = receiver.get();
-    assert!(rt; get.poll(&Context::from_waker(1)) == Ok(Poll::Pending));
+    holds!(rt; get.poll(&Context::from_waker(1)) == Ok(Poll::Pending));
     woken!(&rt, &notes, &[]);
-    assert!(rt; get.poll(&Context::from_waker(2)) == Ok(Poll::Pending));
+    holds!(rt; get.poll(&Context::from_waker(2)) == Ok(Poll::Pending));
     woken!(&rt, &notes, &[1]);
     sends(&rt, &watch.sender(), 10);
     woken!(&rt, &notes, &[2]);
-    assert!(rt; get.poll(&Context::from_waker(2)) == Ok(Poll::Ready(10)));
-    assert!(rt; get.poll(&Context::from_waker(2)) == Ok(Poll::Ready(10)));
+    holds!(rt; get.poll(&Context::from_waker(2)) == Ok(Poll::Ready(10)));
+    holds!(rt; get.poll(&Context::from_waker(2)) == Ok(Poll::Ready(10)));
     woken!(&rt, &notes, &[]);
 }
 
@@ -26,12 +26,12 @@ fn a_change_waits_for_news(rt: HostRuntime) {
     let watch: Places<_, 1> = Watch::new_with(7, &notes);
     let mut receiver = receives(&rt, watch.receiver());
     let mut changed = receiver.changed();
-    assert!(rt; changed.poll(&Context::from_waker(1)) == Ok(Poll::Pending));
+    holds!(rt; changed.poll(&Context::from_waker(1)) == Ok(Poll::Pending));
     woken!(&rt, &notes, &[]);
     sends(&rt, &watch.sender(), 10);
     woken!(&rt, &notes, &[1]);
-    assert!(rt; changed.poll(&Context::from_waker(1)) == Ok(Poll::Ready(10)));
-    assert!(rt; changed.poll(&Context::from_waker(1)) == Ok(Poll::Pending));
+    holds!(rt; changed.poll(&Context::from_waker(1)) == Ok(Poll::Ready(10)));
+    holds!(rt; changed.poll(&Context::from_waker(1)) == Ok(Poll::Pending));
     woken!(&rt, &notes, &[]);
 }
 
@@ -41,13 +41,13 @@ fn a_get_waits_for_a_value_that_passes(rt: HostRuntime) {
     let watch: Places<_, 1> = Watch::new_with(7, &notes);
     let mut receiver = receives(&rt, watch.receiver());
     let mut get = receiver.get_and(|x| *x > 7);
-    assert!(rt; get.poll(&Context::from_waker(1)) == Ok(Poll::Pending));
+    holds!(rt; get.poll(&Context::from_waker(1)) == Ok(Poll::Pending));
     sends(&rt, &watch.sender(), 5);
     woken!(&rt, &notes, &[1]);
-    assert!(rt; get.poll(&Context::from_waker(2)) == Ok(Poll::Pending));
+    holds!(rt; get.poll(&Context::from_waker(2)) == Ok(Poll::Pending));
     sends(&rt, &watch.sender(), 10);
     woken!(&rt, &notes, &[2]);
-    assert!(rt; get.poll(&Context::from_waker(2)) == Ok(Poll::Ready(10)));
+    holds!(rt; get.poll(&Context::from_waker(2)) == Ok(Poll::Ready(10)));
     woken!(&rt, &notes, &[]);
 }
 
@@ -57,13 +57,13 @@ fn a_change_waits_for_news_that_pass(rt: HostRuntime) {
     let watch: Places<_, 1> = Watch::new_with(10, &notes);
     let mut receiver = receives(&rt, watch.receiver());
     let mut changed = receiver.changed_and(|x| *x > 7);
-    assert!(rt; changed.poll(&Context::from_waker(1)) == Ok(Poll::Pending));
+    holds!(rt; changed.poll(&Context::from_waker(1)) == Ok(Poll::Pending));
     sends(&rt, &watch.sender(), 5);
     woken!(&rt, &notes, &[1]);
-    assert!(rt; changed.poll(&Context::from_waker(2)) == Ok(Poll::Pending));
+    holds!(rt; changed.poll(&Context::from_waker(2)) == Ok(Poll::Pending));
     sends(&rt, &watch.sender(), 8);
     woken!(&rt, &notes, &[2]);
-    assert!(rt; changed.poll(&Context::from_waker(2)) == Ok(Poll::Ready(8)));
+    holds!(rt; changed.poll(&Context::from_waker(2)) == Ok(Poll::Ready(8)));
     woken!(&rt, &notes, &[]);
 }
 
@@ -73,8 +73,8 @@ fn all_who_wait_are_woken_in_order(rt: HostRuntime) {
     let watch: Places<_, 2> = Watch::new(&notes);
     let mut first = receives(&rt, watch.receiver());
     let mut second = receives(&rt, watch.receiver());
-    assert!(rt; second.changed().poll(&Context::from_waker(2)) == Ok(Poll::Pending));
-    assert!(rt; first.get().poll(&Context::from_waker(1)) == Ok(Poll::Pending));
+    holds!(rt; second.changed().poll(&Context::from_waker(2)) == Ok(Poll::Pending));
+    holds!(rt; first.get().poll(&Context::from_waker(1)) == Ok(Poll::Pending));
     sends(&rt, &watch.sender(), 10);
     woken!(&rt, &notes, &[2, 1]);
 }

@@ -1,5 +1,5 @@
 use esync_base::waitqueue::{Context, Hand, Poll};
-use esync_notes::{Notes, woken};
+use esync_notes::{Notes, holds, same, woken};
 use esync_zerocopy::zerocopy_channel::{Channel, Slot, SlotLent, SlotLoan};
 use std::process::Abort;
 use std::test::Fail;
@@ -40,22 +40,22 @@ fn clear_is_refused_under_a_loan(rt: HostRuntime) -> Result<(), Fail> {
     );
     let (mut sender, mut receiver) = channel.split();
     let mut slot = lent(&rt, sender.try_send());
-    assert_eq!(rt; *slot.get(), 8);
+    same!(rt; *slot.get(), 8);
     *slot.get_mut() = 5;
     slot.done();
     let received = lent(&rt, receiver.try_receive());
-    assert_eq!(rt; *received.get(), 5);
-    assert_eq!(rt; sender.clear(), Err(SlotLent));
+    same!(rt; *received.get(), 5);
+    same!(rt; sender.clear(), Err(SlotLent));
     received.done();
     let slot = lent(&rt, sender.try_send());
-    assert_eq!(rt; *slot.get(), 9);
-    assert_eq!(rt; receiver.clear(), Err(SlotLent));
+    same!(rt; *slot.get(), 9);
+    same!(rt; receiver.clear(), Err(SlotLent));
     slot.end();
-    assert_eq!(rt; sender.clear(), Ok(()));
+    same!(rt; sender.clear(), Ok(()));
     let slot = lent(&rt, sender.try_send());
-    assert_eq!(rt; *slot.get(), 5);
+    same!(rt; *slot.get(), 5);
     drop(slot);
-    assert_eq!(rt; receiver.clear(), Ok(()));
+    same!(rt; receiver.clear(), Ok(()));
     woken!(&rt, &notes, &[]);
     Ok(())
 }
@@ -65,30 +65,30 @@ fn a_slot_that_is_handed_on_wakes_who_waits_for_it(rt: HostRuntime) -> Result<()
     let notes = Notes::new(&rt);
     let (one, two) = (Context::from_waker(1), Context::from_waker(2));
     let mut channel = Channel::new(vec![in rt.alloc(); Slot::new(4u32)]?, &notes);
-    assert_eq!(rt;
+    same!(rt;
         (channel.len(), channel.free_capacity(), channel.capacity()),
         (0, 1, 1)
     );
-    assert!(rt; channel.is_empty() && !channel.is_full());
+    holds!(rt; channel.is_empty() && !channel.is_full());
     let (mut sender, mut receiver) = channel.split();
     pending(&rt, receiver.poll_receive(&one));
     pending(&rt, receiver.receive().poll(&one));
     woken!(&rt, &notes, &[]);
     ready(&rt, sender.poll_send(&two)).done();
     woken!(&rt, &notes, &[1]);
-    assert!(rt; sender.is_full() && !receiver.is_empty());
+    holds!(rt; sender.is_full() && !receiver.is_empty());
     pending(&rt, sender.borrow().send().poll(&two));
     woken!(&rt, &notes, &[]);
-    assert_eq!(rt;
+    same!(rt;
         *ready(&rt, receiver.borrow().receive().poll(&one)).get(),
         4
     );
     woken!(&rt, &notes, &[]);
     ready(&rt, receiver.poll_receive(&one)).done();
     woken!(&rt, &notes, &[2]);
-    assert_eq!(rt; (receiver.len(), sender.len()), (0, 0));
-    assert_eq!(rt; (receiver.free_capacity(), sender.free_capacity()), (1, 1));
-    assert_eq!(rt; (receiver.capacity(), sender.capacity()), (1, 1));
+    same!(rt; (receiver.len(), sender.len()), (0, 0));
+    same!(rt; (receiver.free_capacity(), sender.free_capacity()), (1, 1));
+    same!(rt; (receiver.capacity(), sender.capacity()), (1, 1));
     Ok(())
 }
 
@@ -107,20 +107,20 @@ fn a_side_is_done_with_the_slot_that_is_next(rt: HostRuntime) -> Result<(), Fail
     sender.send_done();
     sender.send_done();
     sender.send_done();
-    assert!(rt; receiver.is_full() && !sender.is_empty());
+    holds!(rt; receiver.is_full() && !sender.is_empty());
     pending(&rt, sender.poll_send(&cx));
-    assert_eq!(rt; *lent(&rt, receiver.try_receive()).get(), 3);
+    same!(rt; *lent(&rt, receiver.try_receive()).get(), 3);
     receiver.receive_done();
     woken!(&rt, &notes, &[7]);
     receiver.receive_done();
     receiver.receive_done();
-    assert!(rt; receiver.try_receive().is_none());
+    holds!(rt; receiver.try_receive().is_none());
     sender.send_done();
     sender.send_done();
     pending(&rt, sender.poll_send(&cx));
     channel.clear();
     woken!(&rt, &notes, &[7]);
-    assert_eq!(rt; channel.len(), 0);
+    same!(rt; channel.len(), 0);
     Ok(())
 }
 
@@ -135,15 +135,15 @@ fn what_was_written_stays_when_a_slot_is_lent_again(rt: HostRuntime) -> Result<(
     *slot.get_mut() = 3;
     slot.end();
     let slot = lent(&rt, sender.try_send());
-    assert_eq!(rt; *slot.get(), 3);
+    same!(rt; *slot.get(), 3);
     slot.done();
     woken!(&rt, &notes, &[5]);
     let received = ready(&rt, receiver.poll_receive(&five));
-    assert_eq!(rt; *received.get(), 3);
-    assert_eq!(rt; sender.clear(), Err(SlotLent));
+    same!(rt; *received.get(), 3);
+    same!(rt; sender.clear(), Err(SlotLent));
     received.done();
     receiver.receive_done();
-    assert_eq!(rt; (sender.clear(), sender.free_capacity()), (Ok(()), 1));
+    same!(rt; (sender.clear(), sender.free_capacity()), (Ok(()), 1));
     woken!(&rt, &notes, &[]);
     Ok(())
 }
@@ -157,14 +157,14 @@ fn a_side_clears_once_the_other_sides_loan_has_ended(rt: HostRuntime) -> Result<
     sender.send_done();
     pending(&rt, sender.poll_send(&seven));
     let received = lent(&rt, receiver.try_receive());
-    assert_eq!(rt; sender.clear(), Err(SlotLent));
+    same!(rt; sender.clear(), Err(SlotLent));
     received.end();
     woken!(&rt, &notes, &[]);
-    assert_eq!(rt; sender.clear(), Ok(()));
+    same!(rt; sender.clear(), Ok(()));
     woken!(&rt, &notes, &[7]);
     sender.send_done();
     pending(&rt, sender.poll_send(&seven));
-    assert_eq!(rt; receiver.clear(), Ok(()));
+    same!(rt; receiver.clear(), Ok(()));
     woken!(&rt, &notes, &[7]);
     Ok(())
 }
@@ -176,11 +176,11 @@ fn both_sides_see_the_sizes_and_end_their_own_loans(rt: HostRuntime) -> Result<(
     let mut channel = Channel::new(slots, &notes);
     channel.split().0.send_done();
     let (mut sender, mut receiver) = channel.split();
-    assert_eq!(rt;
+    same!(rt;
         (sender.len(), sender.free_capacity(), sender.capacity()),
         (1, 2, 3)
     );
-    assert_eq!(rt;
+    same!(rt;
         (
             receiver.len(),
             receiver.free_capacity(),
@@ -188,12 +188,12 @@ fn both_sides_see_the_sizes_and_end_their_own_loans(rt: HostRuntime) -> Result<(
         ),
         (1, 2, 3)
     );
-    assert!(rt; !sender.is_full() && !receiver.is_full());
+    holds!(rt; !sender.is_full() && !receiver.is_full());
     let slot = lent(&rt, sender.try_send());
     drop(lent(&rt, receiver.try_receive()));
-    assert_eq!(rt; receiver.clear(), Err(SlotLent));
+    same!(rt; receiver.clear(), Err(SlotLent));
     slot.end();
-    assert_eq!(rt; receiver.clear(), Ok(()));
-    assert!(rt; sender.is_empty() && receiver.is_empty());
+    same!(rt; receiver.clear(), Ok(()));
+    holds!(rt; sender.is_empty() && receiver.is_empty());
     Ok(())
 }

@@ -1,4 +1,5 @@
 use esync_base::waitqueue::{Context, Poll, Wakes};
+use esync_notes::{holds, same};
 use esync_zerocopy::zerocopy_channel::{ChannelState, Side, SlotLent};
 use std::test::Fail;
 
@@ -6,25 +7,25 @@ use std::test::Fail;
 fn clear_is_refused_under_a_loan(rt: HostRuntime) -> Result<(), Fail> {
     let mut channel: ChannelState<u32, u64> = ChannelState::new(vec![in rt.alloc(); 0, 0]?);
     let mut wakes: Wakes<u64, 1> = Wakes::new();
-    assert_eq!(rt; channel.next_slot(Side::Sender), Some(0));
+    same!(rt; channel.next_slot(Side::Sender), Some(0));
     if let Some(slot) = channel.try_send() {
         *slot = 5;
     }
-    assert!(rt; !channel.is_full());
+    holds!(rt; !channel.is_full());
     channel.send_done(&mut wakes);
-    assert_eq!(rt; channel.next_slot(Side::Receiver), Some(0));
+    same!(rt; channel.next_slot(Side::Receiver), Some(0));
     let received = channel.try_receive().map(|slot: &mut u32| *slot);
-    assert_eq!(rt; received, Some(5));
-    assert_eq!(rt; channel.clear(Side::Sender, &mut wakes), Err(SlotLent));
-    assert!(rt; !channel.is_empty());
+    same!(rt; received, Some(5));
+    same!(rt; channel.clear(Side::Sender, &mut wakes), Err(SlotLent));
+    holds!(rt; !channel.is_empty());
     channel.receive_done(&mut wakes);
-    assert_eq!(rt; channel.next_slot(Side::Sender), Some(1));
-    assert!(rt; channel.try_send().is_some());
-    assert!(rt; channel.is_lent(Side::Sender));
+    same!(rt; channel.next_slot(Side::Sender), Some(1));
+    holds!(rt; channel.try_send().is_some());
+    holds!(rt; channel.is_lent(Side::Sender));
     channel.end_loan(Side::Sender);
-    assert_eq!(rt; channel.clear(Side::Sender, &mut wakes), Ok(()));
-    assert_eq!(rt; channel.next_slot(Side::Sender), Some(0));
-    assert!(rt; wakes.is_empty());
+    same!(rt; channel.clear(Side::Sender, &mut wakes), Ok(()));
+    same!(rt; channel.next_slot(Side::Sender), Some(0));
+    holds!(rt; wakes.is_empty());
     Ok(())
 }
 
@@ -32,23 +33,23 @@ fn clear_is_refused_under_a_loan(rt: HostRuntime) -> Result<(), Fail> {
 fn a_slot_that_is_handed_on_wakes_who_waits_for_it(rt: HostRuntime) -> Result<(), Fail> {
     let mut channel: ChannelState<u32, u64> = ChannelState::new(vec![in rt.alloc(); 4]?);
     let mut wakes: Wakes<u64, 2> = Wakes::new();
-    assert!(rt; channel.poll_receive(&Context::from_waker(1), &mut wakes) == Poll::Pending);
-    assert_eq!(rt;
+    holds!(rt; channel.poll_receive(&Context::from_waker(1), &mut wakes) == Poll::Pending);
+    same!(rt;
         (channel.len(), channel.free_capacity(), channel.capacity()),
         (0, 1, 1)
     );
     if !channel.is_full() {
         channel.send_done(&mut wakes);
     }
-    assert_eq!(rt; wakes.get(0), Some(1));
-    assert!(rt; channel.poll_send(&Context::from_waker(2), &mut wakes) == Poll::Pending);
-    assert!(rt; channel.poll_receive(&Context::from_waker(1), &mut wakes) == Poll::Ready(&mut 4));
+    same!(rt; wakes.get(0), Some(1));
+    holds!(rt; channel.poll_send(&Context::from_waker(2), &mut wakes) == Poll::Pending);
+    holds!(rt; channel.poll_receive(&Context::from_waker(1), &mut wakes) == Poll::Ready(&mut 4));
     if !channel.is_empty() {
         channel.receive_done(&mut wakes);
     }
-    assert_eq!(rt; wakes.get(1), Some(2));
+    same!(rt; wakes.get(1), Some(2));
     let mut wakes: Wakes<u64, 1> = Wakes::new();
-    assert!(rt; channel.poll_send(&Context::from_waker(2), &mut wakes) == Poll::Ready(&mut 4));
+    holds!(rt; channel.poll_send(&Context::from_waker(2), &mut wakes) == Poll::Ready(&mut 4));
     Ok(())
 }
 
@@ -57,24 +58,24 @@ fn what_was_written_stays_when_a_slot_is_lent_again(rt: HostRuntime) -> Result<(
     let mut channel: ChannelState<u32, u64> = ChannelState::new(vec![in rt.alloc(); 0]?);
     let mut wakes: Wakes<u64, 1> = Wakes::new();
     let five = Context::from_waker(5);
-    assert!(rt; channel.poll_receive(&five, &mut wakes) == Poll::Pending);
+    holds!(rt; channel.poll_receive(&five, &mut wakes) == Poll::Pending);
     if let Some(slot) = channel.try_send() {
         *slot = 3;
     }
-    assert!(rt; channel.try_send() == Some(&mut 3));
+    holds!(rt; channel.try_send() == Some(&mut 3));
     if !channel.is_full() {
         channel.send_done(&mut wakes);
     }
-    assert_eq!(rt; wakes.get(0), Some(5));
+    same!(rt; wakes.get(0), Some(5));
     let mut wakes: Wakes<u64, 1> = Wakes::new();
-    assert!(rt; channel.poll_receive(&five, &mut wakes) == Poll::Ready(&mut 3));
-    assert_eq!(rt; channel.clear(Side::Sender, &mut wakes), Err(SlotLent));
+    holds!(rt; channel.poll_receive(&five, &mut wakes) == Poll::Ready(&mut 3));
+    same!(rt; channel.clear(Side::Sender, &mut wakes), Err(SlotLent));
     if !channel.is_empty() {
         channel.receive_done(&mut wakes);
     }
-    assert!(rt; channel.is_empty());
-    assert_eq!(rt; channel.clear(Side::Sender, &mut wakes), Ok(()));
-    assert!(rt; wakes.is_empty());
+    holds!(rt; channel.is_empty());
+    same!(rt; channel.clear(Side::Sender, &mut wakes), Ok(()));
+    holds!(rt; wakes.is_empty());
     Ok(())
 }
 

@@ -1,4 +1,5 @@
 use esync_base::waitqueue::Hand;
+use esync_notes::{holds, same};
 use esync_zerocopy::zerocopy_channel::{Channel, Receiver, Sender, Slot};
 use std::sync::Wait;
 use std::sync::atomic::{AtomicU32, Ordering};
@@ -71,8 +72,8 @@ fn messages_come_in_order_between_threads(rt: HostRuntime) -> Result<(), Fail> {
     );
     let (sender, receiver) = channel.split();
     let (_, in_order) = thread::join(&rt, || sends(&rt, sender), || receives(&rt, receiver));
-    assert!(rt; in_order);
-    assert!(rt; channel.is_empty());
+    holds!(rt; in_order);
+    holds!(rt; channel.is_empty());
     Ok(())
 }
 
@@ -134,7 +135,7 @@ fn a_slot_that_is_shown_is_lent_at_once(rt: HostRuntime) -> Result<(), Fail> {
         || sends_where_spare(&rt, sender),
         || receives_where_held(&rt, receiver),
     );
-    assert_eq!(rt; lent, (true, true));
+    same!(rt; lent, (true, true));
     Ok(())
 }
 
@@ -193,6 +194,6 @@ fn a_slot_whose_loan_has_ended_is_lent_after_a_clear(rt: HostRuntime) -> Result<
         || clears(&rt, sender, &step),
         || ends_loans(&rt, receiver, &step),
     );
-    assert!(rt; are_lent);
+    holds!(rt; are_lent);
     Ok(())
 }

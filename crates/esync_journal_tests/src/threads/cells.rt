@@ -15,6 +15,7 @@ use esync_history::recorded::Recorded;
 use esync_machine::primitive::{Answer, Command};
 use esync_machine::requests::Requests;
 use esync_machine::run::Machine;
+use esync_notes::same;
 use std::alloc::Global;
 use std::marker::Brand;
 use std::process::Abort;
@@ -76,8 +77,8 @@ fn watch<L: Ledger + Send + Sync, R: Threads + Wait + Abort + Sync>(
     let receipts = call_by_two!(rt, alloc, blank, L, watch, [sends, reads], look)?;
     let sent = [Answer::Gives(WatchHeard::Sent(Ok(())))];
     let found = [None, Some(1), Some(2)].map(|value| Answer::Gives(WatchHeard::Found(value)));
-    assert_eq!(rt; answered(&receipts, 0, &sent), CALLS);
-    assert_eq!(rt; answered(&receipts, 1, &found), CALLS);
+    same!(rt; answered(&receipts, 0, &sent), CALLS);
+    same!(rt; answered(&receipts, 1, &found), CALLS);
     Ok(())
 }
 
@@ -120,9 +121,9 @@ fn once_lock<L: Ledger + Send + Sync, R: Threads + Wait + Abort + Sync>(
     for (seat, own) in [(0, 1), (1, 2)] {
         let sets = if seat == winner { 1 } else { 0 };
         let refused = has_set(Err(InitError::Set(own)));
-        assert_eq!(rt; answered(&receipts, seat, &[has_set(Ok(()))]), sets);
-        assert_eq!(rt; answered(&receipts, seat, &[refused]), CALLS / 2 - sets);
-        assert_eq!(rt; answered(&receipts, seat, &[found]), CALLS / 2);
+        same!(rt; answered(&receipts, seat, &[has_set(Ok(()))]), sets);
+        same!(rt; answered(&receipts, seat, &[refused]), CALLS / 2 - sets);
+        same!(rt; answered(&receipts, seat, &[found]), CALLS / 2);
     }
     Ok(())
 }
@@ -149,12 +150,12 @@ fn lazy_lock<L: Ledger + Send + Sync, R: Threads + Wait + Abort + Sync>(
     let takes = [Command::Call(LazyCall::Get), Command::Call(LazyCall::Into)];
     let look = (Command::Call(LazyCall::Get), told(7));
     let receipts = call_by_two!(rt, alloc, blank, L, lazy, [asks, takes], look)?;
-    assert_eq!(rt;
+    same!(rt;
         answered(&receipts, 0, &[Answer::Gives(7), Answer::NoSuch]),
         CALLS
     );
-    assert_eq!(rt; answered(&receipts, 1, &[Answer::Gives(7)]), 2);
-    assert_eq!(rt; answered(&receipts, 1, &[Answer::NoSuch]), CALLS - 2);
+    same!(rt; answered(&receipts, 1, &[Answer::Gives(7)]), 2);
+    same!(rt; answered(&receipts, 1, &[Answer::NoSuch]), CALLS - 2);
     Ok(())
 }
 
@@ -192,9 +193,9 @@ fn mutex<L: Ledger + Send + Sync, R: Threads + Wait + Abort + Sync>(
     for seat in [0, 1] {
         let ends = answered(&receipts, seat, &[Answer::Done]);
         let vain = answered(&receipts, seat, &[Answer::NoSuch]);
-        assert_eq!(rt; answered(&receipts, seat, &[locked, refused]), CALLS / 2);
-        assert_eq!(rt; answered(&receipts, seat, &[locked]), ends);
-        assert_eq!(rt; answered(&receipts, seat, &[refused]), vain);
+        same!(rt; answered(&receipts, seat, &[locked, refused]), CALLS / 2);
+        same!(rt; answered(&receipts, seat, &[locked]), ends);
+        same!(rt; answered(&receipts, seat, &[refused]), vain);
     }
     Ok(())
 }

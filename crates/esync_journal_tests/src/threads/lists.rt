@@ -7,6 +7,7 @@ use esync_history::recorded::Recorded;
 use esync_machine::primitive::{Answer, Command};
 use esync_machine::requests::Requests;
 use esync_machine::run::Machine;
+use esync_notes::{holds, same};
 use esync_pubsub::pubsub::machine::{Events, PubSubCall, PubSubCommand, PubSubHeard, PubSubRun};
 use esync_pubsub::pubsub::{TryPublishError, WaitResult};
 use esync_zerocopy::zerocopy_channel::machine::{Lent, ZeroCall, ZeroCommand, ZeroHeard, ZeroRun};
@@ -64,8 +65,8 @@ fn pubsub<L: Ledger + Send + Sync, R: Threads + Wait + Abort + Sync>(
     ]
     .map(|read| Answer::Gives(PubSubHeard::Tried(read)));
     for seat in [0, 1] {
-        assert_eq!(rt; answered(&receipts, seat, &published), CALLS / 2);
-        assert_eq!(rt; answered(&receipts, seat, &read), CALLS / 2);
+        same!(rt; answered(&receipts, seat, &published), CALLS / 2);
+        same!(rt; answered(&receipts, seat, &read), CALLS / 2);
     }
     Ok(())
 }
@@ -112,13 +113,13 @@ fn zerocopy_channel<L: Ledger + Send + Sync, R: Threads + Wait + Abort + Sync>(
     for (seat, lent) in [(0, spare), (1, held)] {
         let [first, second, third, fourth] = lent;
         let tries = [tried(None), first, second, third, fourth];
-        assert_eq!(rt; answered(&receipts, seat, &tries), CALLS / 2);
-        assert_eq!(rt;
+        same!(rt; answered(&receipts, seat, &tries), CALLS / 2);
+        same!(rt;
             answered(&receipts, seat, &[Answer::Done, Answer::NoSuch]),
             CALLS / 2
         );
     }
-    assert!(rt; answered(&receipts, 0, &[Answer::Done]) >= 4);
+    holds!(rt; answered(&receipts, 0, &[Answer::Done]) >= 4);
     Ok(())
 }
 
