@@ -206,10 +206,15 @@ fn reads_later<'a>(
     holds!(rt; reads_at_last(alloc, &mut topic) == Ok(Some("x")));
 }
 
+// As does one of each kind that reads.
+fn each_reads_later<'a>(rt: &impl Abort, alloc: Global, is_refused: &'a Cell<bool>) {
+    for ask in [Ask::Message(0), Ask::MessagePure(0), Ask::Stream(0)] {
+        reads_later(rt, alloc, is_refused, ask);
+    }
+}
+
 #[test]
 fn a_request_whose_clone_is_refused_reads_later(rt: HostRuntime) {
     let is_refused = Cell::new(true);
-    reads_later(&rt, rt.alloc(), &is_refused, Ask::Message(0));
-    reads_later(&rt, rt.alloc(), &is_refused, Ask::MessagePure(0));
-    reads_later(&rt, rt.alloc(), &is_refused, Ask::Stream(0));
+    each_reads_later(&rt, rt.alloc(), &is_refused);
 }

@@ -1,4 +1,6 @@
 //! Calls of a state, with what they answer and hand out.
+//!
+//! Where the messages are of any type, what a call requires is asserted by a branch: the search doesn't find it behind `holds!`.
 use esync_base::waitqueue::{Context, Poll, Wakes};
 use esync_notes::{holds, same};
 use esync_pubsub::pubsub::{
@@ -33,7 +35,7 @@ pub fn leaves<T: Clone, const CAP: usize>(
     wakers: &[u64],
 ) {
     let mut wakes = Wakes::new();
-    holds!(rt; state.is_subscriber(&id));
+    assert!(rt; state.is_subscriber(&id));
     state.leave(id, &mut wakes);
     hand_out(rt, &wakes, wakers);
 }
@@ -162,7 +164,7 @@ pub fn has<T: Clone, const CAP: usize>(
     id: &SubId,
     available: u64,
 ) {
-    holds!(rt; state.is_subscriber(id));
+    assert!(rt; state.is_subscriber(id));
     same!(rt; state.available(id), available);
 }
 
