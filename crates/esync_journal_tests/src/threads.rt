@@ -97,18 +97,34 @@ where
 }
 
 // Two threads make fifty calls each, of their own two in turn. A look at the machine as it was sees this.
-macro_rules! call_by_two {
-    ($rt:expr, $alloc:expr, $blank:expr, $ledger:ty, $machine:expr, [$one:expr, $two:expr], $look:expr) => {{
-        let (recorded, mut seats) = Recorded::<_, $ledger>::new($alloc, $blank, $machine, 2)?;
-        let (first, second) = (seats.seat(), seats.seat());
-        let shared = &recorded;
-        let (one, two) = thread::join(
-            $rt,
-            move || makes($rt, $alloc, shared, first, $one),
-            move || makes($rt, $alloc, shared, second, $two),
-        );
-        has_both($rt, $alloc, recorded.into_book(), seats, one?, two?, $look)
-    }};
+fn call_by_two<M, L, R>(
+    rt: &R,
+    alloc: Global,
+    blank: Blank,
+    machine: M,
+    calls: [[M::Command; 2]; 2],
+    look: (M::Command, M::Reply),
+) -> Result<Vec<Receipt<M::Command, M::Reply>>, Fail>
+where
+    M: Keep + Drop + Send,
+    M::Command: Copy + Eq + Send,
+    M::Reply: Copy + Eq + Send,
+    M::Waker: Send,
+    L: Ledger + Send + Sync,
+    R: Threads + Wait + Abort + Sync,
+    requires ledger { blank.name ≡ L.name }
+    requires parts { blank.parts ≡ L.parts }
+    requires room { 2 < blank.parts }
+{
+    let (recorded, mut seats) = Recorded::<M, L>::new(alloc, blank, machine, 2)?;
+    let (first, second) = (seats.seat(), seats.seat());
+    let (shared, [one, two]) = (&recorded, calls);
+    let (one, two) = thread::join(
+        rt,
+        move || makes(rt, alloc, shared, first, one),
+        move || makes(rt, alloc, shared, second, two),
+    );
+    has_both(rt, alloc, recorded.into_book(), seats, one?, two?, look)
 }
 
 mod cells;
@@ -157,7 +173,7 @@ fn channel<L: Ledger + Send + Sync, R: Threads + Wait + Abort + Sync>(
         Command::Call(ChannelCall::Len),
         told(ChannelHeard::Number(0)),
     );
-    call_by_two!(rt, alloc, blank, L, channel, [sends(1), sends(2)], look)?;
+    call_by_two::<_, L, _>(rt, alloc, blank, channel, [sends(1), sends(2)], look)?;
     Ok(())
 }
 
@@ -181,7 +197,7 @@ fn priority_channel<L: Ledger + Send + Sync, R: Threads + Wait + Abort + Sync>(
         Command::Call(ChannelCall::Len),
         told(ChannelHeard::Number(0)),
     );
-    call_by_two!(rt, alloc, blank, L, channel, [sends(1), sends(2)], look)?;
+    call_by_two::<_, L, _>(rt, alloc, blank, channel, [sends(1), sends(2)], look)?;
     Ok(())
 }
 
@@ -202,7 +218,7 @@ fn pipe<L: Ledger + Send + Sync, R: Threads + Wait + Abort + Sync>(
 {
     let pipe: PipeRun<TaskId, 4, 16, 2> = Requests::new(PipeState::new());
     let look = (Command::Call(PipeCall::Len), told(PipeHeard::Number(0)));
-    call_by_two!(rt, alloc, blank, L, pipe, [writes(1), writes(2)], look)?;
+    call_by_two::<_, L, _>(rt, alloc, blank, pipe, [writes(1), writes(2)], look)?;
     Ok(())
 }
 
@@ -226,7 +242,7 @@ fn signal<L: Ledger + Send + Sync, R: Threads + Wait + Abort + Sync>(
         Command::Call(SignalCall::Signaled),
         told(SignalHeard::Signaled(false)),
     );
-    call_by_two!(rt, alloc, blank, L, signal, [signals(1), signals(2)], look)?;
+    call_by_two::<_, L, _>(rt, alloc, blank, signal, [signals(1), signals(2)], look)?;
     Ok(())
 }
 
@@ -250,7 +266,7 @@ fn greedy_semaphore<L: Ledger + Send + Sync, R: Threads + Wait + Abort + Sync>(
         Command::Call(PermitCall::Permits),
         told(PermitHeard::Count(4)),
     );
-    call_by_two!(rt, alloc, blank, L, semaphore, [takes(0), takes(1)], look)?;
+    call_by_two::<_, L, _>(rt, alloc, blank, semaphore, [takes(0), takes(1)], look)?;
     Ok(())
 }
 
@@ -274,7 +290,7 @@ fn fair_semaphore<L: Ledger + Send + Sync, R: Threads + Wait + Abort + Sync>(
         Command::Call(PermitCall::Permits),
         told(PermitHeard::Count(4)),
     );
-    call_by_two!(rt, alloc, blank, L, semaphore, [takes(0), takes(1)], look)?;
+    call_by_two::<_, L, _>(rt, alloc, blank, semaphore, [takes(0), takes(1)], look)?;
     Ok(())
 }
 

@@ -1,7 +1,7 @@
 //! Threads that share a recorded cell: a watch, a value that is set once, one that is made when it is first asked for, or a mutex.
 ghost use Rattle.std.specs.Prelude.{◌≡◌, ◌<◌};
 
-use super::{CALLS, answered, has_both, makes, told};
+use super::{CALLS, answered, call_by_two, told};
 use esync_base::waitqueue::TaskId;
 use esync_cells::lazy_lock::Given;
 use esync_cells::lazy_lock::machine::{LazyCall, LazyHolder, LazyRun};
@@ -11,7 +11,6 @@ use esync_cells::watch::machine::{Reading, WatchCall, WatchHeard, WatchRun, Watc
 use esync_cells::watch::{Change, Judge};
 use esync_guards::mutex::machine::{Guarded, MutexCall, MutexCommand, MutexHeard, MutexRun};
 use esync_guards::mutex::{Second, TryLockError};
-use esync_history::recorded::Recorded;
 use esync_machine::primitive::{Answer, Command};
 use esync_machine::requests::Requests;
 use esync_machine::run::Machine;
@@ -22,7 +21,6 @@ use std::process::Abort;
 use std::sync::Wait;
 use std::sync::ledger::{Blank, Ledger};
 use std::test::Fail;
-use std::thread;
 use std::thread::Threads;
 
 // Lets no value pass, and changes none.
@@ -74,7 +72,7 @@ fn watch<L: Ledger + Send + Sync, R: Threads + Wait + Abort + Sync>(
         Command::Call(WatchCall::Contains),
         told(WatchHeard::HasValue(false)),
     );
-    let receipts = call_by_two!(rt, alloc, blank, L, watch, [sends, reads], look)?;
+    let receipts = call_by_two::<_, L, _>(rt, alloc, blank, watch, [sends, reads], look)?;
     let sent = [Answer::Gives(WatchHeard::Sent(Ok(())))];
     let found = [None, Some(1), Some(2)].map(|value| Answer::Gives(WatchHeard::Found(value)));
     same!(rt; answered(&receipts, 0, &sent), CALLS);
@@ -111,7 +109,7 @@ fn once_lock<L: Ledger + Send + Sync, R: Threads + Wait + Abort + Sync>(
         Command::Call(OnceCall::IsSet),
         told(OnceHeard::IsSet(false)),
     );
-    let receipts = call_by_two!(rt, alloc, blank, L, once, [sets(1), sets(2)], look)?;
+    let receipts = call_by_two::<_, L, _>(rt, alloc, blank, once, [sets(1), sets(2)], look)?;
     let (winner, value) = if answered(&receipts, 0, &[has_set(Ok(()))]) == 1 {
         (0, 1)
     } else {
@@ -149,7 +147,7 @@ fn lazy_lock<L: Ledger + Send + Sync, R: Threads + Wait + Abort + Sync>(
     let asks = [Command::Call(LazyCall::Get); 2];
     let takes = [Command::Call(LazyCall::Get), Command::Call(LazyCall::Into)];
     let look = (Command::Call(LazyCall::Get), told(7));
-    let receipts = call_by_two!(rt, alloc, blank, L, lazy, [asks, takes], look)?;
+    let receipts = call_by_two::<_, L, _>(rt, alloc, blank, lazy, [asks, takes], look)?;
     same!(rt;
         answered(&receipts, 0, &[Answer::Gives(7), Answer::NoSuch]),
         CALLS
@@ -186,7 +184,7 @@ fn mutex<L: Ledger + Send + Sync, R: Threads + Wait + Abort + Sync>(
         Command::Call(MutexCall::TryLock(2)),
         told(MutexHeard::Tried(Ok(()))),
     );
-    let receipts = call_by_two!(rt, alloc, blank, L, mutex, [locks(0), locks(1)], look)?;
+    let receipts = call_by_two::<_, L, _>(rt, alloc, blank, mutex, [locks(0), locks(1)], look)?;
     let [locked, refused] = [Ok(()), Err(TryLockError {})].map(|tried| {
         Answer::Gives(MutexHeard::Tried(tried))
     });

@@ -1,9 +1,8 @@
 //! Threads that share a recorded list of messages: that of publishers and subscribers, or the slots of a zero-copy channel.
 ghost use Rattle.std.specs.Prelude.{◌≡◌, ◌<◌};
 
-use super::{CALLS, answered, has_both, makes, told};
+use super::{CALLS, answered, call_by_two, told};
 use esync_base::waitqueue::TaskId;
-use esync_history::recorded::Recorded;
 use esync_machine::primitive::{Answer, Command};
 use esync_machine::requests::Requests;
 use esync_machine::run::Machine;
@@ -18,7 +17,6 @@ use std::process::Abort;
 use std::sync::Wait;
 use std::sync::ledger::{Blank, Ledger};
 use std::test::Fail;
-use std::thread;
 use std::thread::Threads;
 
 type Topic = PubSubRun<u32, TaskId, 4, 4, 4, 16, 16, 4>;
@@ -51,7 +49,7 @@ fn pubsub<L: Ledger + Send + Sync, R: Threads + Wait + Abort + Sync>(
 {
     let (one, two) = (publishes(0, 5), publishes(1, 6));
     let look = (Command::Call(PubSubCall::Len), told(PubSubHeard::Number(0)));
-    let receipts = call_by_two!(rt, alloc, blank, L, topic(), [one, two], look)?;
+    let receipts = call_by_two::<_, L, _>(rt, alloc, blank, topic(), [one, two], look)?;
     let published = [
         Ok(()),
         Err(TryPublishError::Full(5)),
@@ -105,7 +103,7 @@ fn zerocopy_channel<L: Ledger + Send + Sync, R: Threads + Wait + Abort + Sync>(
         Command::Call(ZeroCall::FreeCapacity),
         told(ZeroHeard::Count(4)),
     );
-    let receipts = call_by_two!(rt, alloc, blank, L, channel, [sends, gives_back], look)?;
+    let receipts = call_by_two::<_, L, _>(rt, alloc, blank, channel, [sends, gives_back], look)?;
     let spare = [0, 1, 2, 3].map(|slot| tried(Some(Lent::Spare(slot))));
     let held = [(0, 5), (1, 6), (2, 7), (3, 8)].map(|(slot, value)| tried(Some(Lent::Held(
         slot, value,
