@@ -96,8 +96,8 @@ where
     Ok(receipts)
 }
 
-// Two threads make fifty calls each, of their own two in turn. A look at the machine as it was sees this.
-fn call_by_two<M, L, R>(
+// Two threads make fifty calls each, of their own two in turn, under this ledger.
+fn call_under<M, L, R>(
     rt: &R,
     alloc: Global,
     blank: Blank,
@@ -125,6 +125,24 @@ where
         move || makes(rt, alloc, shared, second, two),
     );
     has_both(rt, alloc, recorded.into_book(), seats, one?, two?, look)
+}
+
+// Two threads make fifty calls each, of their own two in turn. A look at the machine as it was sees this. Returns the receipts.
+fn call_by_two<M, R>(
+    rt: &R,
+    alloc: Global,
+    machine: M,
+    calls: [[M::Command; 2]; 2],
+    look: (M::Command, M::Reply),
+) -> Result<Vec<Receipt<M::Command, M::Reply>>, Fail>
+where
+    M: Keep + Drop + Send,
+    M::Command: Copy + Eq + Send,
+    M::Reply: Copy + Eq + Send,
+    M::Waker: Send,
+    R: Threads + Wait + Abort + Sync,
+{
+    call_under::<M, Brand, R>(rt, alloc, Blank::new(3), machine, calls, look)
 }
 
 mod cells;
@@ -159,142 +177,74 @@ fn takes(r: usize) -> [Command<Amount, TaskId, PermitCall>; 2] {
 }
 
 // Two threads send and receive.
-fn channel<L: Ledger + Send + Sync, R: Threads + Wait + Abort + Sync>(
-    rt: &R,
-    alloc: Global,
-    blank: Blank,
-) -> Result<(), Fail>
-    requires ledger { blank.name ≡ L.name }
-    requires parts { blank.parts ≡ L.parts }
-    requires room { 2 < blank.parts }
-{
+#[test]
+fn two_threads_call_a_recorded_channel(rt: HostRuntime) -> Result<(), Fail> {
     let channel: ChannelRun<u32, TaskId, 4, 16, 1> = Requests::new(ChannelState::new());
     let look = (
         Command::Call(ChannelCall::Len),
         told(ChannelHeard::Number(0)),
     );
-    call_by_two::<_, L, _>(rt, alloc, blank, channel, [sends(1), sends(2)], look)?;
+    call_by_two(&rt, rt.alloc(), channel, [sends(1), sends(2)], look)?;
     Ok(())
 }
 
-#[test]
-fn two_threads_call_a_recorded_channel(rt: HostRuntime) -> Result<(), Fail> {
-    channel::<Brand, _>(&rt, rt.alloc(), Blank::new(3))
-}
-
 // Two threads send and receive by priority.
-fn priority_channel<L: Ledger + Send + Sync, R: Threads + Wait + Abort + Sync>(
-    rt: &R,
-    alloc: Global,
-    blank: Blank,
-) -> Result<(), Fail>
-    requires ledger { blank.name ≡ L.name }
-    requires parts { blank.parts ≡ L.parts }
-    requires room { 2 < blank.parts }
-{
+#[test]
+fn two_threads_call_a_recorded_priority_channel(rt: HostRuntime) -> Result<(), Fail> {
     let channel: PriorityRun<u32, TaskId, Max, 4, 16, 1> = Requests::new(PriorityState::new());
     let look = (
         Command::Call(ChannelCall::Len),
         told(ChannelHeard::Number(0)),
     );
-    call_by_two::<_, L, _>(rt, alloc, blank, channel, [sends(1), sends(2)], look)?;
+    call_by_two(&rt, rt.alloc(), channel, [sends(1), sends(2)], look)?;
     Ok(())
 }
 
-#[test]
-fn two_threads_call_a_recorded_priority_channel(rt: HostRuntime) -> Result<(), Fail> {
-    priority_channel::<Brand, _>(&rt, rt.alloc(), Blank::new(3))
-}
-
 // Two threads write and read.
-fn pipe<L: Ledger + Send + Sync, R: Threads + Wait + Abort + Sync>(
-    rt: &R,
-    alloc: Global,
-    blank: Blank,
-) -> Result<(), Fail>
-    requires ledger { blank.name ≡ L.name }
-    requires parts { blank.parts ≡ L.parts }
-    requires room { 2 < blank.parts }
-{
+fn pipe(rt: &(impl Threads + Wait + Abort + Sync), alloc: Global) -> Result<(), Fail> {
     let pipe: PipeRun<TaskId, 4, 16, 2> = Requests::new(PipeState::new());
     let look = (Command::Call(PipeCall::Len), told(PipeHeard::Number(0)));
-    call_by_two::<_, L, _>(rt, alloc, blank, pipe, [writes(1), writes(2)], look)?;
+    call_by_two(rt, alloc, pipe, [writes(1), writes(2)], look)?;
     Ok(())
 }
 
 #[test]
 fn two_threads_call_a_recorded_pipe(rt: HostRuntime) -> Result<(), Fail> {
-    pipe::<Brand, _>(&rt, rt.alloc(), Blank::new(3))
+    pipe(&rt, rt.alloc())
 }
 
 // Two threads signal and take.
-fn signal<L: Ledger + Send + Sync, R: Threads + Wait + Abort + Sync>(
-    rt: &R,
-    alloc: Global,
-    blank: Blank,
-) -> Result<(), Fail>
-    requires ledger { blank.name ≡ L.name }
-    requires parts { blank.parts ≡ L.parts }
-    requires room { 2 < blank.parts }
-{
+#[test]
+fn two_threads_call_a_recorded_signal(rt: HostRuntime) -> Result<(), Fail> {
     let signal: SignalRun<u32, TaskId, 16, 1> = Requests::new(SignalState::new());
     let look = (
         Command::Call(SignalCall::Signaled),
         told(SignalHeard::Signaled(false)),
     );
-    call_by_two::<_, L, _>(rt, alloc, blank, signal, [signals(1), signals(2)], look)?;
+    call_by_two(&rt, rt.alloc(), signal, [signals(1), signals(2)], look)?;
     Ok(())
 }
 
-#[test]
-fn two_threads_call_a_recorded_signal(rt: HostRuntime) -> Result<(), Fail> {
-    signal::<Brand, _>(&rt, rt.alloc(), Blank::new(3))
-}
-
 // Two threads take permits and give them back.
-fn greedy_semaphore<L: Ledger + Send + Sync, R: Threads + Wait + Abort + Sync>(
-    rt: &R,
-    alloc: Global,
-    blank: Blank,
-) -> Result<(), Fail>
-    requires ledger { blank.name ≡ L.name }
-    requires parts { blank.parts ≡ L.parts }
-    requires room { 2 < blank.parts }
-{
+#[test]
+fn two_threads_call_a_recorded_greedy_semaphore(rt: HostRuntime) -> Result<(), Fail> {
     let semaphore: GreedyRun<TaskId, 16, 1> = Requests::new(GreedyState::new(4));
     let look = (
         Command::Call(PermitCall::Permits),
         told(PermitHeard::Count(4)),
     );
-    call_by_two::<_, L, _>(rt, alloc, blank, semaphore, [takes(0), takes(1)], look)?;
+    call_by_two(&rt, rt.alloc(), semaphore, [takes(0), takes(1)], look)?;
     Ok(())
 }
 
-#[test]
-fn two_threads_call_a_recorded_greedy_semaphore(rt: HostRuntime) -> Result<(), Fail> {
-    greedy_semaphore::<Brand, _>(&rt, rt.alloc(), Blank::new(3))
-}
-
 // Two threads take permits and give them back.
-fn fair_semaphore<L: Ledger + Send + Sync, R: Threads + Wait + Abort + Sync>(
-    rt: &R,
-    alloc: Global,
-    blank: Blank,
-) -> Result<(), Fail>
-    requires ledger { blank.name ≡ L.name }
-    requires parts { blank.parts ≡ L.parts }
-    requires room { 2 < blank.parts }
-{
+#[test]
+fn two_threads_call_a_recorded_fair_semaphore(rt: HostRuntime) -> Result<(), Fail> {
     let semaphore: FairRun<TaskId, 4, 16, 1> = Requests::new(FairState::new(4));
     let look = (
         Command::Call(PermitCall::Permits),
         told(PermitHeard::Count(4)),
     );
-    call_by_two::<_, L, _>(rt, alloc, blank, semaphore, [takes(0), takes(1)], look)?;
+    call_by_two(&rt, rt.alloc(), semaphore, [takes(0), takes(1)], look)?;
     Ok(())
-}
-
-#[test]
-fn two_threads_call_a_recorded_fair_semaphore(rt: HostRuntime) -> Result<(), Fail> {
-    fair_semaphore::<Brand, _>(&rt, rt.alloc(), Blank::new(3))
 }

@@ -1,6 +1,4 @@
 //! Threads that share a recorded cell: a watch, a value that is set once, one that is made when it is first asked for, or a mutex.
-ghost use Rattle.std.specs.Prelude.{◌≡◌, ◌<◌};
-
 use super::{CALLS, answered, call_by_two, told};
 use esync_base::waitqueue::TaskId;
 use esync_cells::lazy_lock::Given;
@@ -15,13 +13,7 @@ use esync_machine::primitive::{Answer, Command};
 use esync_machine::requests::Requests;
 use esync_machine::run::Machine;
 use esync_notes::same;
-use std::alloc::Global;
-use std::marker::Brand;
-use std::process::Abort;
-use std::sync::Wait;
-use std::sync::ledger::{Blank, Ledger};
 use std::test::Fail;
-use std::thread::Threads;
 
 // Lets no value pass, and changes none.
 #[derive(Clone, Copy, PartialEq, Eq)]
@@ -52,15 +44,8 @@ impl Change<u32> for Never {
 }
 
 // One thread sends its numbers, which the other reads.
-fn watch<L: Ledger + Send + Sync, R: Threads + Wait + Abort + Sync>(
-    rt: &R,
-    alloc: Global,
-    blank: Blank,
-) -> Result<(), Fail>
-    requires ledger { blank.name ≡ L.name }
-    requires parts { blank.parts ≡ L.parts }
-    requires room { 2 < blank.parts }
-{
+#[test]
+fn two_threads_call_a_recorded_watch(rt: HostRuntime) -> Result<(), Fail> {
     let mut watch: WatchRun<u32, TaskId, Never, Never, 4, 16, 16, 4> = Requests::new(
         Watched::new(),
     );
@@ -72,17 +57,12 @@ fn watch<L: Ledger + Send + Sync, R: Threads + Wait + Abort + Sync>(
         Command::Call(WatchCall::Contains),
         told(WatchHeard::HasValue(false)),
     );
-    let receipts = call_by_two::<_, L, _>(rt, alloc, blank, watch, [sends, reads], look)?;
+    let receipts = call_by_two(&rt, rt.alloc(), watch, [sends, reads], look)?;
     let sent = [Answer::Gives(WatchHeard::Sent(Ok(())))];
     let found = [None, Some(1), Some(2)].map(|value| Answer::Gives(WatchHeard::Found(value)));
     same!(rt; answered(&receipts, 0, &sent), CALLS);
     same!(rt; answered(&receipts, 1, &found), CALLS);
     Ok(())
-}
-
-#[test]
-fn two_threads_call_a_recorded_watch(rt: HostRuntime) -> Result<(), Fail> {
-    watch::<Brand, _>(&rt, rt.alloc(), Blank::new(3))
 }
 
 fn sets(value: u32) -> [OnceCommand<u32, TaskId>; 2] {
@@ -95,21 +75,14 @@ fn has_set(set: Result<(), InitError<u32>>) -> Answer<OnceHeard<u32>> {
 }
 
 // Two threads set a value and look. One of them sets it, once, and both see what it set.
-fn once_lock<L: Ledger + Send + Sync, R: Threads + Wait + Abort + Sync>(
-    rt: &R,
-    alloc: Global,
-    blank: Blank,
-) -> Result<(), Fail>
-    requires ledger { blank.name ≡ L.name }
-    requires parts { blank.parts ≡ L.parts }
-    requires room { 2 < blank.parts }
-{
+#[test]
+fn two_threads_call_a_recorded_once_lock(rt: HostRuntime) -> Result<(), Fail> {
     let once: OnceRun<u32, TaskId, 16, 1> = Requests::new(OnceState::new());
     let look = (
         Command::Call(OnceCall::IsSet),
         told(OnceHeard::IsSet(false)),
     );
-    let receipts = call_by_two::<_, L, _>(rt, alloc, blank, once, [sets(1), sets(2)], look)?;
+    let receipts = call_by_two(&rt, rt.alloc(), once, [sets(1), sets(2)], look)?;
     let (winner, value) = if answered(&receipts, 0, &[has_set(Ok(()))]) == 1 {
         (0, 1)
     } else {
@@ -126,28 +99,16 @@ fn once_lock<L: Ledger + Send + Sync, R: Threads + Wait + Abort + Sync>(
     Ok(())
 }
 
-#[test]
-fn two_threads_call_a_recorded_once_lock(rt: HostRuntime) -> Result<(), Fail> {
-    once_lock::<Brand, _>(&rt, rt.alloc(), Blank::new(3))
-}
-
 // Two threads ask for a value. The second takes it out after its first look, and then nothing is there.
-fn lazy_lock<L: Ledger + Send + Sync, R: Threads + Wait + Abort + Sync>(
-    rt: &R,
-    alloc: Global,
-    blank: Blank,
-) -> Result<(), Fail>
-    requires ledger { blank.name ≡ L.name }
-    requires parts { blank.parts ≡ L.parts }
-    requires room { 2 < blank.parts }
-{
+#[test]
+fn two_threads_call_a_recorded_lazy_lock(rt: HostRuntime) -> Result<(), Fail> {
     let lazy: LazyRun<u32, Given<u32>, TaskId, 16, 1> = Requests::new(LazyHolder::new(Given {
         value: 7,
     }));
     let asks = [Command::Call(LazyCall::Get); 2];
     let takes = [Command::Call(LazyCall::Get), Command::Call(LazyCall::Into)];
     let look = (Command::Call(LazyCall::Get), told(7));
-    let receipts = call_by_two::<_, L, _>(rt, alloc, blank, lazy, [asks, takes], look)?;
+    let receipts = call_by_two(&rt, rt.alloc(), lazy, [asks, takes], look)?;
     same!(rt;
         answered(&receipts, 0, &[Answer::Gives(7), Answer::NoSuch]),
         CALLS
@@ -157,25 +118,13 @@ fn lazy_lock<L: Ledger + Send + Sync, R: Threads + Wait + Abort + Sync>(
     Ok(())
 }
 
-#[test]
-fn two_threads_call_a_recorded_lazy_lock(rt: HostRuntime) -> Result<(), Fail> {
-    lazy_lock::<Brand, _>(&rt, rt.alloc(), Blank::new(3))
-}
-
 fn locks(r: usize) -> [MutexCommand<(u32, u32), u32, TaskId>; 2] {
     [Command::Call(MutexCall::TryLock(r)), Command::End(r)]
 }
 
 // Two threads try to lock, and end what they locked. As many ends of each find a guard as its tries have locked.
-fn mutex<L: Ledger + Send + Sync, R: Threads + Wait + Abort + Sync>(
-    rt: &R,
-    alloc: Global,
-    blank: Blank,
-) -> Result<(), Fail>
-    requires ledger { blank.name ≡ L.name }
-    requires parts { blank.parts ≡ L.parts }
-    requires room { 2 < blank.parts }
-{
+#[test]
+fn two_threads_call_a_recorded_mutex(rt: HostRuntime) -> Result<(), Fail> {
     let mutex: MutexRun<(u32, u32), u32, Second, TaskId, 16, 1> = Requests::new(Guarded::new(
         (4, 6),
         Second {},
@@ -184,7 +133,7 @@ fn mutex<L: Ledger + Send + Sync, R: Threads + Wait + Abort + Sync>(
         Command::Call(MutexCall::TryLock(2)),
         told(MutexHeard::Tried(Ok(()))),
     );
-    let receipts = call_by_two::<_, L, _>(rt, alloc, blank, mutex, [locks(0), locks(1)], look)?;
+    let receipts = call_by_two(&rt, rt.alloc(), mutex, [locks(0), locks(1)], look)?;
     let [locked, refused] = [Ok(()), Err(TryLockError {})].map(|tried| {
         Answer::Gives(MutexHeard::Tried(tried))
     });
@@ -196,9 +145,4 @@ fn mutex<L: Ledger + Send + Sync, R: Threads + Wait + Abort + Sync>(
         same!(rt; answered(&receipts, seat, &[refused]), vain);
     }
     Ok(())
-}
-
-#[test]
-fn two_threads_call_a_recorded_mutex(rt: HostRuntime) -> Result<(), Fail> {
-    mutex::<Brand, _>(&rt, rt.alloc(), Blank::new(3))
 }

@@ -1,6 +1,4 @@
 //! Threads that share a recorded list of messages: that of publishers and subscribers, or the slots of a zero-copy channel.
-ghost use Rattle.std.specs.Prelude.{◌≡◌, ◌<◌};
-
 use super::{CALLS, answered, call_by_two, told};
 use esync_base::waitqueue::TaskId;
 use esync_machine::primitive::{Answer, Command};
@@ -11,13 +9,7 @@ use esync_pubsub::pubsub::machine::{Events, PubSubCall, PubSubCommand, PubSubHea
 use esync_pubsub::pubsub::{TryPublishError, WaitResult};
 use esync_zerocopy::zerocopy_channel::machine::{Lent, ZeroCall, ZeroCommand, ZeroHeard, ZeroRun};
 use esync_zerocopy::zerocopy_channel::{ChannelState, Side};
-use std::alloc::Global;
-use std::marker::Brand;
-use std::process::Abort;
-use std::sync::Wait;
-use std::sync::ledger::{Blank, Ledger};
 use std::test::Fail;
-use std::thread::Threads;
 
 type Topic = PubSubRun<u32, TaskId, 4, 4, 4, 16, 16, 4>;
 
@@ -38,18 +30,11 @@ fn publishes(number: usize, message: u32) -> [PubSubCommand<u32, TaskId>; 2] {
 }
 
 // Two threads publish to both, and read.
-fn pubsub<L: Ledger + Send + Sync, R: Threads + Wait + Abort + Sync>(
-    rt: &R,
-    alloc: Global,
-    blank: Blank,
-) -> Result<(), Fail>
-    requires ledger { blank.name ≡ L.name }
-    requires parts { blank.parts ≡ L.parts }
-    requires room { 2 < blank.parts }
-{
+#[test]
+fn two_threads_call_a_recorded_pubsub_channel(rt: HostRuntime) -> Result<(), Fail> {
     let (one, two) = (publishes(0, 5), publishes(1, 6));
     let look = (Command::Call(PubSubCall::Len), told(PubSubHeard::Number(0)));
-    let receipts = call_by_two::<_, L, _>(rt, alloc, blank, topic(), [one, two], look)?;
+    let receipts = call_by_two(&rt, rt.alloc(), topic(), [one, two], look)?;
     let published = [
         Ok(()),
         Err(TryPublishError::Full(5)),
@@ -69,11 +54,6 @@ fn pubsub<L: Ledger + Send + Sync, R: Threads + Wait + Abort + Sync>(
     Ok(())
 }
 
-#[test]
-fn two_threads_call_a_recorded_pubsub_channel(rt: HostRuntime) -> Result<(), Fail> {
-    pubsub::<Brand, _>(&rt, rt.alloc(), Blank::new(3))
-}
-
 fn tried(lent: Option<Lent<u32>>) -> Answer<ZeroHeard<u32>> {
     Answer::Gives(ZeroHeard::Tried(lent))
 }
@@ -87,23 +67,16 @@ fn turns(side: Side) -> [ZeroCommand<u32, TaskId>; 2] {
 }
 
 // One thread sends slots, and the other gives them back. Each slot has its own value.
-fn zerocopy_channel<L: Ledger + Send + Sync, R: Threads + Wait + Abort + Sync>(
-    rt: &R,
-    alloc: Global,
-    blank: Blank,
-) -> Result<(), Fail>
-    requires ledger { blank.name ≡ L.name }
-    requires parts { blank.parts ≡ L.parts }
-    requires room { 2 < blank.parts }
-{
-    let slots = vec![in alloc; 5, 6, 7, 8]?;
+#[test]
+fn two_threads_call_a_recorded_zerocopy_channel(rt: HostRuntime) -> Result<(), Fail> {
+    let slots = vec![in rt.alloc(); 5, 6, 7, 8]?;
     let channel: ZeroRun<u32, TaskId, 16, 1> = Requests::new(ChannelState::new(slots));
     let (sends, gives_back) = (turns(Side::Sender), turns(Side::Receiver));
     let look = (
         Command::Call(ZeroCall::FreeCapacity),
         told(ZeroHeard::Count(4)),
     );
-    let receipts = call_by_two::<_, L, _>(rt, alloc, blank, channel, [sends, gives_back], look)?;
+    let receipts = call_by_two(&rt, rt.alloc(), channel, [sends, gives_back], look)?;
     let spare = [0, 1, 2, 3].map(|slot| tried(Some(Lent::Spare(slot))));
     let held = [(0, 5), (1, 6), (2, 7), (3, 8)].map(|(slot, value)| tried(Some(Lent::Held(
         slot, value,
@@ -119,9 +92,4 @@ fn zerocopy_channel<L: Ledger + Send + Sync, R: Threads + Wait + Abort + Sync>(
     }
     holds!(rt; answered(&receipts, 0, &[Answer::Done]) >= 4);
     Ok(())
-}
-
-#[test]
-fn two_threads_call_a_recorded_zerocopy_channel(rt: HostRuntime) -> Result<(), Fail> {
-    zerocopy_channel::<Brand, _>(&rt, rt.alloc(), Blank::new(3))
 }
