@@ -1,3 +1,4 @@
+use crate::runs::runs;
 use esync_base::waitqueue::TaskId;
 use esync_channel::channel::{ChannelState, TrySendError};
 use esync_history::executor::{Act, Executor, NewError, Outcome};
@@ -14,11 +15,9 @@ type Channel = ChannelRun<u32, TaskId, 1, 16, 1>;
 
 type ChannelAct = Act<ChannelAsk<u32>, ChannelCommand<u32, TaskId>>;
 
-type Tasks = Vec<Vec<ChannelAct>>;
+type ChannelAnswer = Answer<ChannelHeard<u32>>;
 
-fn channel() -> Channel {
-    Requests::new(ChannelState::new())
-}
+type Tasks = Vec<Vec<ChannelAct>>;
 
 fn receive(r: usize) -> ChannelAct {
     Act::Await(r, ChannelAsk::Receive)
@@ -28,38 +27,12 @@ fn try_send(message: u32) -> ChannelAct {
     Act::Call(Command::Call(ChannelCall::TrySend(message)))
 }
 
-// How many messages a channel holds.
-fn held(channel: &mut Channel) -> Option<usize> {
-    match channel.step(Command::Call(ChannelCall::Len)).answer {
-        Answer::Gives(ChannelHeard::Number(len)) => Some(len),
-        _ => None,
-    }
-}
-
-type ChannelAnswer = Answer<ChannelHeard<u32>>;
-
 fn received(message: u32) -> ChannelAnswer {
     Answer::Gives(ChannelHeard::Received(message))
 }
 
 fn sent() -> ChannelAnswer {
     Answer::Gives(ChannelHeard::TrySent(Ok(())))
-}
-
-// The acts of the task that are over answered this, in order.
-fn has_heard(executor: &Executor<Channel>, task: usize, answers: &[ChannelAnswer]) -> bool {
-    let Some(heard) = executor.heard(task) else {
-        return false;
-    };
-    if heard.len() != answers.len() {
-        return false;
-    }
-    for (reply, answer) in heard.iter().zip(answers) {
-        if reply.answer != *answer {
-            return false;
-        }
-    }
-    true
 }
 
 // One task for each act.
@@ -71,89 +44,111 @@ fn one_act_each(alloc: Global, acts: &[ChannelAct]) -> Result<Tasks, AllocError>
     Ok(tasks)
 }
 
+// Gives these commands to a channel of one place, and runs these tasks over it: each run, of so many turns at most, ends so, and then
+// the tasks have heard this. Then the channel holds so many messages.
+fn plays(
+    rt: &impl Abort,
+    alloc: Global,
+    commands: &[ChannelCommand<u32, TaskId>],
+    tasks: Tasks,
+    turns: &[(usize, Outcome, &[&[ChannelAnswer]])],
+    held: usize,
+) -> Result<(), Fail> {
+    let mut channel: Channel = Requests::new(ChannelState::new());
+    for command in commands {
+        channel.step(*command);
+    }
+    let executor = runs(rt, alloc, channel, tasks, turns)?;
+    let mut channel = executor.into_machine();
+    let len = channel.step(Command::Call(ChannelCall::Len));
+    holds!(rt; len.answer == Answer::Gives(ChannelHeard::Number(held)));
+    Ok(())
+}
+
 #[test]
 fn a_message_reaches_the_task_that_waits(rt: HostRuntime) -> Result<(), Fail> {
-    let alloc = rt.alloc();
-    let tasks = one_act_each(alloc, &[receive(0), try_send(7)])?;
-    let mut executor = Executor::new(alloc, channel(), tasks)?;
-    same!(rt; executor.run(10), Outcome::Done);
-    same!(rt; executor.run(0), Outcome::Done);
-    holds!(rt; has_heard(&executor, 0, &[received(7)]));
-    holds!(rt; has_heard(&executor, 1, &[sent()]));
-    holds!(rt; executor.heard(2).is_none());
-    holds!(rt; executor.heard(usize::MAX).is_none());
-    let mut channel = executor.into_machine();
-    same!(rt; held(&mut channel), Some(0));
-    Ok(())
+    let tasks = one_act_each(rt.alloc(), &[receive(0), try_send(7)])?;
+    let (waiter, sender) = ([received(7)], [sent()]);
+    let heard = [&waiter[..], &sender[..]];
+    let turns = [
+        (10, Outcome::Done, &heard[..]),
+        (0, Outcome::Done, &heard[..]),
+    ];
+    plays(&rt, rt.alloc(), &[], tasks, &turns, 0)
 }
 
 #[test]
 fn a_run_goes_on_after_its_limit(rt: HostRuntime) -> Result<(), Fail> {
-    let alloc = rt.alloc();
-    let tasks = one_act_each(alloc, &[receive(0), try_send(7)])?;
-    let mut executor = Executor::new(alloc, channel(), tasks)?;
-    same!(rt; executor.run(0), Outcome::Limit);
-    holds!(rt; has_heard(&executor, 0, &[]));
-    holds!(rt; has_heard(&executor, 1, &[]));
-    same!(rt; executor.run(2), Outcome::Limit);
-    holds!(rt; has_heard(&executor, 0, &[]));
-    holds!(rt; has_heard(&executor, 1, &[sent()]));
-    same!(rt; executor.run(1), Outcome::Done);
-    holds!(rt; has_heard(&executor, 0, &[received(7)]));
-    holds!(rt; has_heard(&executor, 1, &[sent()]));
-    Ok(())
+    let tasks = one_act_each(rt.alloc(), &[receive(0), try_send(7)])?;
+    let answers = [received(7), sent()];
+    let (nothing, waiter, sender) = (&answers[..0], &answers[..1], &answers[1..]);
+    let turns = [
+        (0, Outcome::Limit, &[nothing, nothing][..]),
+        (2, Outcome::Limit, &[nothing, sender][..]),
+        (1, Outcome::Done, &[waiter, sender][..]),
+    ];
+    plays(&rt, rt.alloc(), &[], tasks, &turns, 0)
 }
 
 #[test]
 fn a_task_that_nobody_wakes_stalls(rt: HostRuntime) -> Result<(), Fail> {
-    let alloc = rt.alloc();
-    let mut executor = Executor::new(alloc, channel(), one_act_each(alloc, &[receive(0)])?)?;
-    same!(rt; executor.run(0), Outcome::Limit);
-    same!(rt; executor.run(1), Outcome::Stalled);
-    same!(rt; executor.run(10), Outcome::Stalled);
-    holds!(rt; has_heard(&executor, 0, &[]));
-    Ok(())
+    let tasks = one_act_each(rt.alloc(), &[receive(0)])?;
+    let nothing = [&[][..]];
+    let turns = [
+        (0, Outcome::Limit, &nothing[..]),
+        (1, Outcome::Stalled, &nothing[..]),
+        (10, Outcome::Stalled, &nothing[..]),
+    ];
+    plays(&rt, rt.alloc(), &[], tasks, &turns, 0)
 }
 
 #[test]
 fn two_receivers_wake_each_other_for_ever(rt: HostRuntime) -> Result<(), Fail> {
-    let alloc = rt.alloc();
-    let tasks = one_act_each(alloc, &[receive(0), receive(1)])?;
-    let mut executor = Executor::new(alloc, channel(), tasks)?;
-    same!(rt; executor.run(50), Outcome::Limit);
-    same!(rt; executor.run(50), Outcome::Limit);
-    holds!(rt; has_heard(&executor, 0, &[]));
-    holds!(rt; has_heard(&executor, 1, &[]));
-    Ok(())
+    let tasks = one_act_each(rt.alloc(), &[receive(0), receive(1)])?;
+    let nothing = [&[][..], &[][..]];
+    let turns = [
+        (50, Outcome::Limit, &nothing[..]),
+        (50, Outcome::Limit, &nothing[..]),
+    ];
+    plays(&rt, rt.alloc(), &[], tasks, &turns, 0)
 }
 
 #[test]
-fn tasks_without_acts_have_ended(rt: HostRuntime) -> Result<(), Fail> {
+fn nobody_has_ended(rt: HostRuntime) -> Result<(), Fail> {
+    let turns = [(0, Outcome::Done, &[][..])];
+    plays(&rt, rt.alloc(), &[], Vec::new(rt.alloc()), &turns, 0)
+}
+
+#[test]
+fn a_task_without_acts_has_ended(rt: HostRuntime) -> Result<(), Fail> {
     let alloc = rt.alloc();
-    let mut nobody = Executor::new(alloc, channel(), Vec::new(alloc))?;
-    same!(rt; nobody.run(0), Outcome::Done);
-    holds!(rt; nobody.heard(0).is_none());
-    let empty = vec![in alloc; Vec::new(alloc)]?;
-    let mut idle = Executor::new(alloc, channel(), empty)?;
-    same!(rt; idle.run(0), Outcome::Done);
-    holds!(rt; has_heard(&idle, 0, &[]));
-    let beside = vec![in alloc; Vec::new(alloc), vec![in alloc; try_send(7)]?]?;
-    let mut executor = Executor::new(alloc, channel(), beside)?;
-    same!(rt; executor.run(0), Outcome::Limit);
-    same!(rt; executor.run(1), Outcome::Done);
-    Ok(())
+    let tasks = vec![in alloc; Vec::new(alloc)]?;
+    plays(&rt, alloc, &[], tasks, &[(0, Outcome::Done, &[&[]])], 0)
+}
+
+#[test]
+fn a_task_without_acts_is_passed_over(rt: HostRuntime) -> Result<(), Fail> {
+    let alloc = rt.alloc();
+    let tasks = vec![in alloc; Vec::new(alloc), vec![in alloc; try_send(7)]?]?;
+    let sender = [sent()];
+    let turns = [
+        (0, Outcome::Limit, &[&[][..], &[][..]][..]),
+        (1, Outcome::Done, &[&[][..], &sender[..]][..]),
+    ];
+    plays(&rt, alloc, &[], tasks, &turns, 1)
 }
 
 #[test]
 fn a_waker_that_names_no_task_is_passed_over(rt: HostRuntime) -> Result<(), Fail> {
-    let alloc = rt.alloc();
+    let sender = [sent()];
     for stranger in [1, 99, u64::MAX] {
-        let mut channel = channel();
-        channel.step(Command::Start(15, ChannelAsk::Receive));
-        channel.step(Command::Poll(15, TaskId(stranger)));
-        let tasks = one_act_each(alloc, &[try_send(7)])?;
-        let mut executor = Executor::new(alloc, channel, tasks)?;
-        assert_eq!(rt; executor.run(1), Outcome::Done, "{stranger}");
+        let receives = [
+            Command::Start(15, ChannelAsk::Receive),
+            Command::Poll(15, TaskId(stranger)),
+        ];
+        let tasks = one_act_each(rt.alloc(), &[try_send(7)])?;
+        let turns = [(1, Outcome::Done, &[&sender[..]][..])];
+        plays(&rt, rt.alloc(), &receives, tasks, &turns, 1)?;
     }
     Ok(())
 }
@@ -161,51 +156,51 @@ fn a_waker_that_names_no_task_is_passed_over(rt: HostRuntime) -> Result<(), Fail
 #[test]
 fn an_await_of_an_occupied_number_is_over(rt: HostRuntime) -> Result<(), Fail> {
     let alloc = rt.alloc();
-    let mut channel = channel();
-    channel.step(Command::Start(3, ChannelAsk::Receive));
-    let acts = vec![in alloc; receive(3), try_send(7)]?;
-    let mut executor = Executor::new(alloc, channel, vec![in alloc; acts]?)?;
-    same!(rt; executor.run(2), Outcome::Done);
-    holds!(rt; has_heard(&executor, 0, &[Answer::NoSuch, sent()]));
-    let mut channel = executor.into_machine();
-    same!(rt; held(&mut channel), Some(1));
-    Ok(())
+    let tasks = vec![in alloc; vec![in alloc; receive(3), try_send(7)]?]?;
+    let heard = [Answer::NoSuch, sent()];
+    let turns = [(2, Outcome::Done, &[&heard[..]][..])];
+    let starts = [Command::Start(3, ChannelAsk::Receive)];
+    plays(&rt, alloc, &starts, tasks, &turns, 1)
 }
 
 #[test]
 fn an_await_whose_request_a_call_ends_stalls(rt: HostRuntime) -> Result<(), Fail> {
-    let alloc = rt.alloc();
-    let tasks = one_act_each(alloc, &[receive(0), Act::Call(Command::End(0))])?;
-    let mut executor = Executor::new(alloc, channel(), tasks)?;
-    same!(rt; executor.run(10), Outcome::Stalled);
-    holds!(rt; has_heard(&executor, 0, &[]));
-    holds!(rt; has_heard(&executor, 1, &[Answer::Done]));
-    Ok(())
+    let acts = [receive(0), Act::Call(Command::End(0))];
+    let tasks = one_act_each(rt.alloc(), &acts)?;
+    let ender = [Answer::Done];
+    let turns = [(10, Outcome::Stalled, &[&[][..], &ender[..]][..])];
+    plays(&rt, rt.alloc(), &[], tasks, &turns, 0)
 }
 
 #[test]
 fn acts_of_a_task_come_in_order(rt: HostRuntime) -> Result<(), Fail> {
     let alloc = rt.alloc();
     let acts = vec![in alloc; try_send(1), try_send(2), receive(4)]?;
-    let mut executor = Executor::new(alloc, channel(), vec![in alloc; acts]?)?;
     let full = Answer::Gives(ChannelHeard::TrySent(Err(TrySendError::Full(2))));
-    same!(rt; executor.run(2), Outcome::Limit);
-    holds!(rt; has_heard(&executor, 0, &[sent(), full]));
-    same!(rt; executor.run(1), Outcome::Done);
-    holds!(rt; has_heard(&executor, 0, &[sent(), full, received(1)]));
-    let (mut channel, heard) = executor.into_parts();
-    same!(rt; held(&mut channel), Some(0));
-    same!(rt; heard.len(), 1);
-    holds!(rt; heard.first().is_some_and(|answers| answers.len() == 3));
-    Ok(())
+    let heard = [sent(), full, received(1)];
+    let turns = [
+        (2, Outcome::Limit, &[&heard[..2]][..]),
+        (1, Outcome::Done, &[&heard[..]][..]),
+    ];
+    plays(&rt, alloc, &[], vec![in alloc; acts]?, &turns, 0)
 }
 
-// What `new` says to these tasks.
-fn is_refused(rt: &impl Abort, alloc: Global, tasks: Tasks) {
-    match Executor::new(alloc, channel(), tasks) {
-        Ok(_) => holds!(rt; false),
-        Err(error) => same!(rt; error, NewError::NoSuch),
+// Why an executor of these tasks isn't made.
+fn refusal(alloc: Global, tasks: Tasks) -> Option<NewError> {
+    let channel: Channel = Requests::new(ChannelState::new());
+    match Executor::new(alloc, channel, tasks) {
+        Ok(executor) => {
+            let _channel = executor.machine();
+            None
+        }
+        Err(error) => Some(error),
     }
+}
+
+// An executor of one task for each act isn't made.
+fn is_refused(rt: &impl Abort, alloc: Global, acts: &[ChannelAct]) -> Result<(), AllocError> {
+    same!(rt; refusal(alloc, one_act_each(alloc, acts)?), Some(NewError::NoSuch));
+    Ok(())
 }
 
 #[test]
@@ -213,29 +208,15 @@ fn unsuited_tasks_are_refused(rt: HostRuntime) -> Result<(), Fail> {
     let alloc = rt.alloc();
     let start = Act::Call(Command::Start(2, ChannelAsk::Receive));
     let poll = Act::Call(Command::Poll(2, TaskId(0)));
-    is_refused(
-        &rt,
-        alloc,
-        vec![in alloc; vec![in alloc; receive(2), try_send(1), receive(2)]?]?,
-    );
-    is_refused(
-        &rt,
-        alloc,
-        one_act_each(alloc, &[receive(2), try_send(1), receive(2)])?,
-    );
-    is_refused(
-        &rt,
-        alloc,
-        one_act_each(alloc, &[receive(15), receive(16)])?,
-    );
-    is_refused(&rt, alloc, one_act_each(alloc, &[receive(usize::MAX)])?);
-    is_refused(&rt, alloc, one_act_each(alloc, &[try_send(1), start])?);
-    is_refused(&rt, alloc, one_act_each(alloc, &[poll])?);
-    let suited = one_act_each(
-        alloc,
-        &[receive(15), receive(0), Act::Call(Command::End(0))],
-    )?;
-    let executor = Executor::new(alloc, channel(), suited)?;
-    let _channel = executor.machine();
+    let twice = vec![in alloc; vec![in alloc; receive(2), try_send(1), receive(2)]?]?;
+    same!(rt; refusal(alloc, twice), Some(NewError::NoSuch));
+    is_refused(&rt, alloc, &[receive(2), try_send(1), receive(2)])?;
+    is_refused(&rt, alloc, &[receive(15), receive(16)])?;
+    is_refused(&rt, alloc, &[receive(usize::MAX)])?;
+    is_refused(&rt, alloc, &[try_send(1), start])?;
+    is_refused(&rt, alloc, &[poll])?;
+    let end = Act::Call(Command::End(0));
+    let suited = one_act_each(alloc, &[receive(15), receive(0), end])?;
+    same!(rt; refusal(alloc, suited), None);
     Ok(())
 }

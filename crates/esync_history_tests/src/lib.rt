@@ -19,6 +19,8 @@ mod priority;
 mod pubsub;
 #[cfg(test)]
 mod refused;
+#[cfg(test)]
+mod runs;
 pub mod stalls;
 #[cfg(test)]
 mod watch;

@@ -1,7 +1,8 @@
+use crate::runs::ends_after;
 use esync_base::waitqueue::TaskId;
-use esync_history::executor::{Act, Executor, Outcome};
+use esync_history::executor::{Act, Outcome};
 use esync_machine::run::Machine;
-use esync_notes::{holds, same};
+use esync_notes::holds;
 use esync_permits::semaphore::machine::fair::{FairCommand, FairRun};
 use esync_permits::semaphore::machine::greedy::GreedyRun;
 use esync_permits::semaphore::machine::{PermitCall, PermitHeard};
@@ -9,6 +10,7 @@ use esync_permits::semaphore::{Amount, FairState, GreedyState};
 use esync_run::primitive::{Answer, Command};
 use esync_run::requests::Requests;
 use std::alloc::{AllocError, Global};
+use std::process::Abort;
 use std::test::Fail;
 
 type Semaphore = FairRun<TaskId, 2, 16, 1>;
@@ -20,21 +22,16 @@ fn acquire(r: usize) -> PermitAct {
 }
 
 // A request that ends gives its place to another, and two permits are released.
-fn executor(alloc: Global) -> Result<Executor<Semaphore>, Fail> {
-    let semaphore: Semaphore = Requests::new(FairState::new(0));
+#[test]
+fn a_place_is_free_after_an_end(rt: HostRuntime) -> Result<(), Fail> {
+    let alloc = rt.alloc();
     let first = vec![in alloc; acquire(0)]?;
     let second = vec![in alloc; acquire(1)]?;
     let ends_the_second = vec![in alloc; Act::Call(Command::End(1)), acquire(2)]?;
     let releases = vec![in alloc; Act::Call(Command::Call(PermitCall::Release(2)))]?;
     let tasks = vec![in alloc; first, second, ends_the_second, releases]?;
-    Ok(Executor::new(alloc, semaphore, tasks)?)
-}
-
-#[test]
-fn a_place_is_free_after_an_end(rt: HostRuntime) -> Result<(), Fail> {
-    let alloc = rt.alloc();
-    same!(rt; executor(alloc)?.run(6), Outcome::Limit);
-    same!(rt; executor(alloc)?.run(7), Outcome::Stalled);
+    let semaphore: Semaphore = Requests::new(FairState::new(0));
+    ends_after(&rt, alloc, semaphore, tasks, 6, Outcome::Stalled)?;
     Ok(())
 }
 
@@ -46,36 +43,47 @@ fn two_waits(alloc: Global, released: usize) -> Result<Vec<Vec<PermitAct>>, Allo
     Ok(vec![in alloc; two, one, releases]?)
 }
 
+// With so many permits released to a greedy semaphore, the tasks end so after so many turns, and no permit is left.
+fn greedy_ends(
+    rt: &impl Abort,
+    alloc: Global,
+    released: usize,
+    turns: usize,
+    outcome: Outcome,
+) -> Result<(), Fail> {
+    let semaphore: GreedyRun<TaskId, 16, 1> = Requests::new(GreedyState::new(0));
+    let tasks = two_waits(alloc, released)?;
+    let (mut semaphore, _heard) = ends_after(rt, alloc, semaphore, tasks, turns, outcome)?;
+    let reply = semaphore.step(Command::Call(PermitCall::Permits));
+    holds!(rt; reply.answer == Answer::Gives(PermitHeard::Count(0)));
+    Ok(())
+}
+
 #[test]
 fn a_greedy_semaphore_grants_the_small_request(rt: HostRuntime) -> Result<(), Fail> {
-    let alloc = rt.alloc();
-    for (released, outcome) in [(3, Outcome::Done), (1, Outcome::Stalled)] {
-        let semaphore: GreedyRun<TaskId, 16, 1> = Requests::new(GreedyState::new(0));
-        let mut executor = Executor::new(alloc, semaphore, two_waits(alloc, released)?)?;
-        same!(rt; executor.run(4), Outcome::Limit);
-        same!(rt; executor.run(1), outcome);
-        let reply = executor
-            .into_machine()
-            .step(Command::Call(PermitCall::Permits));
-        holds!(rt; reply.answer == Answer::Gives(PermitHeard::Count(0)));
-    }
+    greedy_ends(&rt, rt.alloc(), 3, 4, Outcome::Done)?;
+    greedy_ends(&rt, rt.alloc(), 1, 4, Outcome::Stalled)
+}
+
+// With so many permits released to a fair semaphore, the tasks end so after so many turns, and so many permits are left.
+fn fair_ends(
+    rt: &impl Abort,
+    alloc: Global,
+    released: usize,
+    turns: usize,
+    outcome: Outcome,
+    left: usize,
+) -> Result<(), Fail> {
+    let semaphore: Semaphore = Requests::new(FairState::new(0));
+    let tasks = two_waits(alloc, released)?;
+    let (mut semaphore, _heard) = ends_after(rt, alloc, semaphore, tasks, turns, outcome)?;
+    let reply = semaphore.step(Command::Call(PermitCall::Permits));
+    holds!(rt; reply.answer == Answer::Gives(PermitHeard::Count(left)));
     Ok(())
 }
 
 #[test]
 fn a_fair_semaphore_keeps_the_permit_for_the_large_request(rt: HostRuntime) -> Result<(), Fail> {
-    let alloc = rt.alloc();
-    for (released, turns, outcome, left) in [
-        (3, 5, Outcome::Done, 0),
-        (1, 4, Outcome::Stalled, 1),
-    ] {
-        let semaphore: Semaphore = Requests::new(FairState::new(0));
-        let mut executor = Executor::new(alloc, semaphore, two_waits(alloc, released)?)?;
-        same!(rt; executor.run(turns), outcome);
-        let reply = executor
-            .into_machine()
-            .step(Command::Call(PermitCall::Permits));
-        holds!(rt; reply.answer == Answer::Gives(PermitHeard::Count(left)));
-    }
-    Ok(())
+    fair_ends(&rt, rt.alloc(), 3, 4, Outcome::Done, 0)?;
+    fair_ends(&rt, rt.alloc(), 1, 3, Outcome::Stalled, 1)
 }

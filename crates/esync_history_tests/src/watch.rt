@@ -1,3 +1,4 @@
+use crate::runs::ends_after;
 use esync_base::waitqueue::TaskId;
 use esync_cells::watch::{Change, Judge};
 use esync_history::executor::{Act, Executor, Outcome};
@@ -7,6 +8,7 @@ use esync_run::requests::Requests;
 use esync_run::watch::{Await, Reading, WatchCall, WatchCommand, WatchHeard, WatchRun, Watched};
 use std::alloc::{AllocError, Global};
 use std::cell::Cell;
+use std::process::Abort;
 use std::test::Fail;
 
 // Lets no value pass, and changes none.
@@ -49,21 +51,31 @@ fn reads(read: Reading<Never>) -> WatchAct {
     Act::Await(0, Await { receiver: 0, read })
 }
 
+// One task makes a receiver and awaits a value so, and another one sends a value: five turns.
+fn ends(
+    rt: &impl Abort,
+    alloc: Global,
+    read: Reading<Never>,
+    outcome: Outcome,
+) -> Result<(), Fail> {
+    let watch: Watch = Requests::new(Watched::new());
+    let receives = vec![in alloc; calls(WatchCall::Receiver(0)), reads(read)]?;
+    let sends = vec![in alloc; calls(WatchCall::Id), calls(WatchCall::Send(5))]?;
+    ends_after(
+        rt,
+        alloc,
+        watch,
+        vec![in alloc; receives, sends]?,
+        4,
+        outcome,
+    )?;
+    Ok(())
+}
+
 #[test]
 fn a_new_value_reaches_the_receiver_that_waits(rt: HostRuntime) -> Result<(), Fail> {
-    let alloc = rt.alloc();
-    for (read, outcome) in [
-        (Reading::Changed, Outcome::Done),
-        (Reading::GetAnd(Never {}), Outcome::Stalled),
-    ] {
-        let watch: Watch = Requests::new(Watched::new());
-        let receives = vec![in alloc; calls(WatchCall::Receiver(0)), reads(read)]?;
-        let sends = vec![in alloc; calls(WatchCall::Id), calls(WatchCall::Send(5))]?;
-        let mut executor = Executor::new(alloc, watch, vec![in alloc; receives, sends]?)?;
-        same!(rt; executor.run(4), Outcome::Limit);
-        same!(rt; executor.run(1), outcome);
-    }
-    Ok(())
+    ends(&rt, rt.alloc(), Reading::Changed, Outcome::Done)?;
+    ends(&rt, rt.alloc(), Reading::GetAnd(Never {}), Outcome::Stalled)
 }
 
 // A value whose clone has no memory while the cell says so.
