@@ -11,7 +11,7 @@ use std::alloc::AllocError;
 use std::process::Abort;
 
 // Of six messages at a channel with room for four, two are missed.
-fn misses_two<const CAP: usize>(rt: &impl Abort, state: &mut Two<u32, CAP>) {
+fn misses_two(rt: &impl Abort, state: &mut Two<u32, 4>) {
     let id = joins(rt, state);
     for message in 42..48 {
         publishes_at_once(rt, state, message, Ok(()), &[]);
@@ -30,7 +30,7 @@ fn who_lags_hears_how_many_messages_it_missed(rt: HostRuntime) {
 }
 
 // The end of the first of two subscribers makes room at a channel with room for two messages.
-fn an_end_makes_room<const CAP: usize>(rt: &impl Abort, state: &mut Two<u32, CAP>) {
+fn an_end_makes_room(rt: &impl Abort, state: &mut Two<u32, 2>) {
     holds!(rt; state.add_publisher().is_ok());
     let first = joins(rt, state);
     let second = joins(rt, state);
@@ -56,7 +56,7 @@ fn the_end_of_a_subscriber_that_lags_makes_room(rt: HostRuntime) {
 }
 
 // Two messages that are cleared are a lag of two.
-fn lags_by_what_is_cleared<const CAP: usize>(rt: &impl Abort, state: &mut Two<u32, CAP>) {
+fn lags_by_what_is_cleared(rt: &impl Abort, state: &mut Two<u32, 4>) {
     let id = joins(rt, state);
     publishes(rt, state, 1, Ok(()), &[]);
     publishes(rt, state, 2, Ok(()), &[]);
@@ -74,7 +74,7 @@ fn what_is_cleared_is_a_lag(rt: HostRuntime) {
 }
 
 // Two publishers wait at a channel with room for one message, which is cleared.
-fn clear_makes_room<const CAP: usize>(rt: &impl Abort, state: &mut Two<u32, CAP>) {
+fn clear_makes_room(rt: &impl Abort, state: &mut Two<u32, 1>) {
     let id = joins(rt, state);
     publishes(rt, state, 1, Ok(()), &[]);
     let mut first = PublishRequest::new(2);
@@ -95,7 +95,7 @@ fn clear_wakes_the_publishers(rt: HostRuntime) {
 }
 
 // There is a number for one message.
-fn numbers_one<const CAP: usize>(rt: &impl Abort, state: &mut Two<u32, CAP>) {
+fn numbers_one(rt: &impl Abort, state: &mut Two<u32, 4>) {
     let id = joins(rt, state);
     publishes(rt, state, 1, Ok(()), &[]);
     publishes(rt, state, 2, Err(TryPublishError::Exhausted(2)), &[]);
@@ -111,7 +111,7 @@ fn the_numbers_run_out(rt: HostRuntime) {
 }
 
 // Each way to publish keeps nothing.
-fn keeps_nothing<const CAP: usize>(rt: &impl Abort, state: &mut Two<u32, CAP>) {
+fn keeps_nothing(rt: &impl Abort, state: &mut Two<u32, 4>) {
     publishes(rt, state, 0, Ok(()), &[]);
     publishes_at_once(rt, state, 0, Ok(()), &[]);
     same!(rt; state.len(), 0);
@@ -129,7 +129,7 @@ fn without_subscribers_nothing_is_kept(rt: HostRuntime) {
 }
 
 // There is a number for one message, at a channel with room for one.
-fn refuses_at_once<const CAP: usize>(rt: &impl Abort, state: &mut Two<u32, CAP>) {
+fn refuses_at_once(rt: &impl Abort, state: &mut Two<u32, 1>) {
     let id = joins(rt, state);
     publishes(rt, state, 1, Ok(()), &[]);
     publishes_at_once(rt, state, 2, Err(Exhausted(2)), &[]);
@@ -144,7 +144,7 @@ fn a_refused_immediate_publish_drops_nothing(rt: HostRuntime) {
 }
 
 // A stream that lags by one message of a channel with room for one.
-fn streams_past_a_lag<const CAP: usize>(rt: &impl Abort, state: &mut Two<u32, CAP>) {
+fn streams_past_a_lag(rt: &impl Abort, state: &mut Two<u32, 1>) {
     let id = joins(rt, state);
     publishes_at_once(rt, state, 1, Ok(()), &[]);
     publishes_at_once(rt, state, 2, Ok(()), &[]);
@@ -162,7 +162,7 @@ fn a_stream_that_lags_is_woken_at_once(rt: HostRuntime) {
 }
 
 // Two messages at a channel with room for four, until both subscribers have read them or ended.
-fn two_read_or_end<const CAP: usize>(rt: &impl Abort, state: &mut Two<u32, CAP>) {
+fn two_read_or_end(rt: &impl Abort, state: &mut Two<u32, 4>) {
     let first = joins(rt, state);
     let second = joins(rt, state);
     publishes(rt, state, 1, Ok(()), &[]);
@@ -224,7 +224,7 @@ fn who_waits_for_a_message_is_displaced_and_woken(rt: HostRuntime) {
 }
 
 // Pure reads at a channel with room for two messages.
-fn reads_past_lags<const CAP: usize>(rt: &impl Abort, state: &mut Two<u32, CAP>) {
+fn reads_past_lags(rt: &impl Abort, state: &mut Two<u32, 2>) {
     let id = joins(rt, state);
     polls_on(rt, state, &id, 1, Poll::Pending, &[]);
     publishes_at_once(rt, state, 1, Ok(()), &[1]);
@@ -246,7 +246,7 @@ fn a_pure_read_passes_over_a_lag(rt: HostRuntime) {
 }
 
 // Two subscribe and two publish, and one more of each does where one has ended.
-fn two_and_two<const CAP: usize>(rt: &impl Abort, state: &mut Two<u32, CAP>) {
+fn two_and_two(rt: &impl Abort, state: &mut Two<u32, 4>) {
     let first = joins(rt, state);
     let _second = joins(rt, state);
     holds!(rt; matches!(state.subscribe(), Err(Error::MaximumSubscribersReached)));
