@@ -114,7 +114,7 @@ fn two_receivers_wake_each_other_for_ever(rt: HostRuntime) -> Result<(), Fail> {
 }
 
 #[test]
-fn nobody_has_ended(rt: HostRuntime) -> Result<(), Fail> {
+fn an_executor_without_tasks_is_done(rt: HostRuntime) -> Result<(), Fail> {
     let turns = [(0, Outcome::Done, &[][..])];
     plays(&rt, rt.alloc(), &[], Vec::new(rt.alloc()), &turns, 0)
 }
