@@ -229,13 +229,13 @@ fn handles_take_the_calls_of_their_channel(rt: HostRuntime) {
     );
 }
 
-fn acts_by_dynamic_handles<S: Store<Message = u32>, H: Hand<u64>, R: Wait>(
+// A receiver that is displaced, a message for the one that waits, and room for a sender that waits.
+fn waits_by_dynamic_handles<C: DynamicChannel<Message = u32, Waker = u64>, R: Wait>(
     rt: &impl Abort,
     notes: &Notes<'_, R>,
-    channel: &SharedMailbox<S, u64, H>,
+    sender: &DynamicSender<'_, C>,
+    receiver: &DynamicReceiver<'_, C>,
 ) {
-    let sender = DynamicSender::from(channel.sender());
-    let receiver = DynamicReceiver::from(channel.receiver());
     let mut receive = receiver.receive();
     holds!(rt; receive.poll(&cx(1)) == Poll::Pending);
     holds!(rt; receiver.poll_receive(&cx(2)) == Poll::Pending);
@@ -248,11 +248,31 @@ fn acts_by_dynamic_handles<S: Store<Message = u32>, H: Hand<u64>, R: Wait>(
     holds!(rt; sender.poll_ready_to_send(&cx(4)) == Poll::Pending);
     holds!(rt; receive.poll(&cx(1)) == Poll::Ready(5));
     woken!(rt, notes, &[4]);
+}
+
+// A receiver that is told that a message is there.
+fn asks_by_dynamic_handles<C: DynamicChannel<Message = u32, Waker = u64>, R: Wait>(
+    rt: &impl Abort,
+    notes: &Notes<'_, R>,
+    sender: &DynamicSender<'_, C>,
+    receiver: &DynamicReceiver<'_, C>,
+) {
     holds!(rt; receiver.try_receive() == Err(TryReceiveError::Empty));
     holds!(rt; receiver.poll_ready_to_receive(&cx(2)) == Poll::Pending);
     holds!(rt; sender.try_send(7) == Ok(()));
     woken!(rt, notes, &[2]);
     holds!(rt; receiver.poll_receive(&cx(2)) == Poll::Ready(7));
+}
+
+fn acts_by_dynamic_handles<S: Store<Message = u32>, H: Hand<u64>, R: Wait>(
+    rt: &impl Abort,
+    notes: &Notes<'_, R>,
+    channel: &SharedMailbox<S, u64, H>,
+) {
+    let sender = DynamicSender::from(channel.sender());
+    let receiver = DynamicReceiver::from(channel.receiver());
+    waits_by_dynamic_handles(rt, notes, &sender, &receiver);
+    asks_by_dynamic_handles(rt, notes, &sender, &receiver);
     let mut send = DynamicSendFuture::from(channel.send(8));
     holds!(rt; !send.is_finished());
     holds!(rt; send.poll(&cx(3)) == Poll::Ready(()));
