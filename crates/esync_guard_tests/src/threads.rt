@@ -76,13 +76,14 @@ fn tells<H: Hand<u64>>(mutex: &Mutex<u32, u64, H>, flag: &AtomicU32) {
     flag.store(heard, Ordering::SeqCst);
 }
 
-// Reads the flag until it tells something, at most so many times.
+// Reads the flag until it tells something, at most so many times. Between two reads other threads may run.
 fn awaits(flag: &AtomicU32, reads: u32) -> u32 {
     for _read in 0..reads {
         let told = flag.load(Ordering::SeqCst);
         if told != NOT_TRIED {
             return told;
         }
+        thread::yield_now();
     }
     NOT_TRIED
 }
@@ -127,7 +128,9 @@ impl<R: Wait> Hand<u64> for Lets<'_, R> {
     fn wake(&self, _waker: u64) {
         self.woken.store(WOKEN, Ordering::SeqCst);
         let heard = awaits(self.told, 50_000_000);
-        self.woken.store(heard, Ordering::SeqCst);
+        if heard != NOT_TRIED {
+            self.woken.store(heard, Ordering::SeqCst);
+        }
     }
 }
 

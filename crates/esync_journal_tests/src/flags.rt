@@ -23,12 +23,13 @@ type Channel = ChannelRun<u32, TaskId, 4, 16, 1>;
 // How often a thread looks for the other's flag.
 const LOOKS: usize = 50_000_000;
 
-// The flag is up at one of the looks.
+// The flag is up at one of the looks. Between two of them other threads may run.
 fn sees(flag: &AtomicBool) -> bool {
     for _ in 0..LOOKS {
         if flag.load(Ordering::SeqCst) {
             return true;
         }
+        thread::yield_now();
     }
     false
 }
