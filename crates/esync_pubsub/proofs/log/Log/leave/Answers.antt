@@ -1,4 +1,5 @@
 use Rattle.std.proofs.Common.{arith, rules, sym, ◌∙◌, length, ◌≤◌, ◌-◌}
+use Rattle.esync_pubsub.proofs.Logged.{place_below}
 use Rattle.esync_pubsub.proofs.Logged.{log_some, log_lowers, log_leave, log_left}
 use Rattle.esync_pubsub.proofs.log.Log.leave.Goals as goal
 
@@ -46,3 +47,6 @@ first_unread-from-requires g c = search rules
 
 pub free-requires : goal.free-requires
 free-requires g c = search rules
+
+pub put-requires : goal.put-requires
+put-requires g c = omega (arith, place_below c.self.inside.positions.row c.args.place (rw (← c.self.view_is) at c.requires), c.self.invariant.places)

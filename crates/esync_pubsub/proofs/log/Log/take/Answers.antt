@@ -1,11 +1,10 @@
-use Rattle.std.proofs.Common.{sym, ◌∙◌}
+use Rattle.std.proofs.Common.{rules, sym, ◌∙◌}
 use Rattle.esync_pubsub.proofs.Logged.{takes_clone, refused_clone}
 use Rattle.esync_pubsub.proofs.log.Log.take.Goals as goal
 
-pub returns-else-is_last-clause-ok : goal.returns-else-is_last-clause-ok
-returns-else-is_last-clause-ok g c =
-    takes_clone g.T.Clone.is_clone c.args.place c.args.position c.args.self.now c.take_clone.new.self c.take_clone.result c.requires.from (sym c.is_last.ensures ∙ c.if-is_last.false) c.take_clone.ensures.ok c.take_clone.ensures.state
-
-pub returns-else-is_last-clause-refused : goal.returns-else-is_last-clause-refused
-returns-else-is_last-clause-refused g c =
-    refused_clone g.T.Clone.is_infallible c.args.place c.args.position c.args.self.now c.take_clone.result c.requires.from (sym c.is_last.ensures ∙ c.if-is_last.false) c.take_clone.ensures.refused
+pub returns-else-is_last : goal.returns-else-is_last
+returns-else-is_last g c = record {
+  ok = takes_clone g.T.Clone.is_clone c.args.place c.args.position c.args.self.now c.take_clone.new.self c.take_clone.result c.requires.from (sym c.is_last.ensures ∙ c.if-is_last.false) c.take_clone.ensures.ok c.take_clone.ensures.state;
+  refused = refused_clone g.T.Clone.is_infallible c.args.place c.args.position c.args.self.now c.take_clone.result c.requires.from (sym c.is_last.ensures ∙ c.if-is_last.false) c.take_clone.ensures.refused;
+  err = search rules;
+}

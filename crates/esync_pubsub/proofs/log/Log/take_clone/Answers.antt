@@ -25,15 +25,20 @@ invariant_of-self g c =
     let shared = rw (← c.self.view_is) at c.requires.shared in
     rw (c.lower.ensures.messages, c.lower.ensures.counts, c.put.ensures, o) (log_take g.row.CAP g.row.SUBS a.held.messages a.held.counts a.next a.positions.row a.subscribers c.self.invariant c.args.place c.args.position at from held (shared_more g.row.CAP g.row.SUBS a.held.messages a.held.counts a.next a.positions.row a.subscribers c.self.invariant c.args.place c.args.position at from held shared))
 
-pub returns-clause-state : goal.returns-clause-state
-returns-clause-state g c =
-    let a = c.self.inside in
-    let at = rw (← c.self.view_is) at c.requires.live in
-    let from = rw (← c.self.view_is) at c.requires.from in
-    let held = rw (← c.self.view_is) at c.requires.held in
-    let o = rw (← c.self.view_is) at c.oldest.ensures in
-    let shared = rw (← c.self.view_is) at c.requires.shared in
-    rw (c.lower.ensures.messages, c.put.ensures, ← c.self.view_is) (log_took g.row.CAP g.row.SUBS a.held.messages a.held.counts a.next a.positions.row a.subscribers c.self.invariant c.args.place c.args.position at from held (shared_more g.row.CAP g.row.SUBS a.held.messages a.held.counts a.next a.positions.row a.subscribers c.self.invariant c.args.place c.args.position at from held shared))
+pub returns : goal.returns
+returns g c = record {
+  ok = search rules;
+  state = (
+      let a = c.self.inside in
+      let at = rw (← c.self.view_is) at c.requires.live in
+      let from = rw (← c.self.view_is) at c.requires.from in
+      let held = rw (← c.self.view_is) at c.requires.held in
+      let o = rw (← c.self.view_is) at c.oldest.ensures in
+      let shared = rw (← c.self.view_is) at c.requires.shared in
+      rw (c.lower.ensures.messages, c.put.ensures, ← c.self.view_is) (log_took g.row.CAP g.row.SUBS a.held.messages a.held.counts a.next a.positions.row a.subscribers c.self.invariant c.args.place c.args.position at from held (shared_more g.row.CAP g.row.SUBS a.held.messages a.held.counts a.next a.positions.row a.subscribers c.self.invariant c.args.place c.args.position at from held shared)));
+  refused = search rules;
+  err = search rules;
+}
 
 pub oldest-requires : goal.oldest-requires
 oldest-requires g c = search rules

@@ -10,17 +10,21 @@ put_publisher-requires g c =
     let free = sym c.is_publisher_free.ensures ∙ c.if-not-is_publisher_free.false in
     (search rules, publisher_free_below g.row.CAP g.row.PUBS g.row.NAMES c.args.self.now c.args.tables.now c.requires.named c.args.p free)
 
-pub returns-in-Ok-clause-named : goal.returns-in-Ok-clause-named
-returns-in-Ok-clause-named g c =
-    let free = sym c.is_publisher_free.ensures ∙ c.if-not-is_publisher_free.false in
-    rw c.put_publisher.ensures
-    (named_publisher g.row.CAP g.row.PUBS g.row.NAMES c.args.self.now c.add_publisher.new.self c.args.tables.now.subscribers c.args.tables.now.publishers c.requires.named c.args.p free c.in-Ok.ensures.count.0 (counted_as g.row.PUBS c.args.self.now c.add_publisher.new.self c.in-Ok.ensures.rest _ c.in-Ok.ensures.count.1))
+pub returns-in-Ok : goal.returns-in-Ok
+returns-in-Ok g c = record {
+  allowed = search rules;
+  named = (
+      let free = sym c.is_publisher_free.ensures ∙ c.if-not-is_publisher_free.false in
+      rw c.put_publisher.ensures
+      (named_publisher g.row.CAP g.row.PUBS g.row.NAMES c.args.self.now c.add_publisher.new.self c.args.tables.now.subscribers c.args.tables.now.publishers c.requires.named c.args.p free c.in-Ok.ensures.count.0 (counted_as g.row.PUBS c.args.self.now c.add_publisher.new.self c.in-Ok.ensures.rest _ c.in-Ok.ensures.count.1)));
+  lists = search rules;
+}
 
-pub returns-in-Err-clause-allowed : goal.returns-in-Err-clause-allowed
-returns-in-Err-clause-allowed g c =
-    let free = sym c.is_publisher_free.ensures ∙ c.if-not-is_publisher_free.false in
-    where_true _ (topic_of c.args.self.now c.args.tables.now) _ _ _ free (refused_publisher g.row.PUBS c.args.self.now c.add_publisher.new.self c.in-Err.ensures.rest c.args.tables.now c.args.p c.in-Err.error c.requires.named.counted c.in-Err.ensures.count)
-
-pub returns-in-Err-clause-named : goal.returns-in-Err-clause-named
-returns-in-Err-clause-named g c =
-    named_same g.row.CAP g.row.PUBS g.row.NAMES c.args.self.now c.add_publisher.new.self c.args.tables.now.subscribers c.args.tables.now.publishers c.requires.named (refused_count g.row.PUBS c.args.self.now c.add_publisher.new.self c.in-Err.ensures.rest c.in-Err.error c.in-Err.ensures.count) (λ q. ap (λ x. is_live q x.log) c.in-Err.ensures.rest)
+pub returns-in-Err : goal.returns-in-Err
+returns-in-Err g c = record {
+  allowed = (
+      let free = sym c.is_publisher_free.ensures ∙ c.if-not-is_publisher_free.false in
+      where_true _ (topic_of c.args.self.now c.args.tables.now) _ _ _ free (refused_publisher g.row.PUBS c.args.self.now c.add_publisher.new.self c.in-Err.ensures.rest c.args.tables.now c.args.p c.in-Err.error c.requires.named.counted c.in-Err.ensures.count));
+  named = named_same g.row.CAP g.row.PUBS g.row.NAMES c.args.self.now c.add_publisher.new.self c.args.tables.now.subscribers c.args.tables.now.publishers c.requires.named (refused_count g.row.PUBS c.args.self.now c.add_publisher.new.self c.in-Err.ensures.rest c.in-Err.error c.in-Err.ensures.count) (λ q. ap (λ x. is_live q x.log) c.in-Err.ensures.rest);
+  lists = search rules;
+}

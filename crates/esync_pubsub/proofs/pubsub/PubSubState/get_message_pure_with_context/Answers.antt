@@ -7,28 +7,37 @@ register-requires g c =
     let unwoken = rw (c.in-Ok-None.field-0-is, append-nil c.args.wakes.now) at c.in-Ok-None.ensures.wakes in
     (search rules, (search rules, (omega (arith, c.try_next_message_pure.ensures.place), rw unwoken c.requires.subscribers)))
 
-pub returns-in-Ok-None-clause-wakes : goal.returns-in-Ok-None-clause-wakes
-returns-in-Ok-None-clause-wakes g c =
-    let unwoken = rw (c.in-Ok-None.field-0-is, append-nil c.args.wakes.now) at c.in-Ok-None.ensures.wakes in
-    rw (c.register.ensures.displaced, unwoken) (search rules)
+pub returns-in-Ok-None : goal.returns-in-Ok-None
+returns-in-Ok-None g c = record {
+  ok = search rules;
+  rest = search rules;
+  wakes = (
+      let unwoken = rw (c.in-Ok-None.field-0-is, append-nil c.args.wakes.now) at c.in-Ok-None.ensures.wakes in
+      rw (c.register.ensures.displaced, unwoken) (search rules));
+  refused = search rules;
+  unchanged = search rules;
+  unwoken = search rules;
+}
 
 pub try_next_message_pure-requires : goal.try_next_message_pure-requires
 try_next_message_pure-requires g c = (search rules, (search rules, (c.requires.live, c.requires.publishers)))
 
-pub returns-in-Ok-Some-clause-ok : goal.returns-in-Ok-Some-clause-ok
-returns-in-Ok-Some-clause-ok g c = rw c.in-Ok-Some.field-0-is at c.in-Ok-Some.ensures.ok
+pub returns-in-Ok-Some : goal.returns-in-Ok-Some
+returns-in-Ok-Some g c = record {
+  ok = rw c.in-Ok-Some.field-0-is at c.in-Ok-Some.ensures.ok;
+  rest = rw c.in-Ok-Some.field-0-is at c.in-Ok-Some.ensures.rest;
+  wakes = rw c.in-Ok-Some.field-0-is at c.in-Ok-Some.ensures.wakes;
+  refused = search rules;
+  unchanged = search rules;
+  unwoken = search rules;
+}
 
-pub returns-in-Ok-Some-clause-rest : goal.returns-in-Ok-Some-clause-rest
-returns-in-Ok-Some-clause-rest g c = rw c.in-Ok-Some.field-0-is at c.in-Ok-Some.ensures.rest
-
-pub returns-in-Ok-Some-clause-wakes : goal.returns-in-Ok-Some-clause-wakes
-returns-in-Ok-Some-clause-wakes g c = rw c.in-Ok-Some.field-0-is at c.in-Ok-Some.ensures.wakes
-
-pub returns-in-Err-clause-refused : goal.returns-in-Err-clause-refused
-returns-in-Err-clause-refused g c = c.in-Err.ensures.refused
-
-pub returns-in-Err-clause-unchanged : goal.returns-in-Err-clause-unchanged
-returns-in-Err-clause-unchanged g c = c.in-Err.ensures.unchanged
-
-pub returns-in-Err-clause-unwoken : goal.returns-in-Err-clause-unwoken
-returns-in-Err-clause-unwoken g c = c.in-Err.ensures.unwoken
+pub returns-in-Err : goal.returns-in-Err
+returns-in-Err g c = record {
+  ok = search rules;
+  rest = search rules;
+  wakes = search rules;
+  refused = c.in-Err.ensures.refused;
+  unchanged = c.in-Err.ensures.unchanged;
+  unwoken = c.in-Err.ensures.unwoken;
+}

@@ -10,18 +10,22 @@ put_subscriber-requires g c =
     let free = sym c.is_subscriber_free.ensures ∙ c.if-not-is_subscriber_free.false in
     (search rules, subscriber_free_below g.row.CAP g.row.PUBS g.row.NAMES c.args.self.now c.args.tables.now c.requires.named c.args.s free)
 
-pub returns-in-Ok-clause-allowed : goal.returns-in-Ok-clause-allowed
-returns-in-Ok-clause-allowed g c =
+pub returns-in-Ok : goal.returns-in-Ok
+returns-in-Ok g c =
     let free = sym c.is_subscriber_free.ensures ∙ c.if-not-is_subscriber_free.false in
-    let put = rw c.place_of.ensures at c.put_subscriber.ensures in
-    where_true _ (topic_of c.args.self.now c.args.tables.now) _ _ _ free (c.in-Ok.id, c.in-Ok.ensures.log, ap (λ t. topic_of c.subscribe.new.self t) put)
+    record {
+      allowed = (
+          let put = rw c.place_of.ensures at c.put_subscriber.ensures in
+          where_true _ (topic_of c.args.self.now c.args.tables.now) _ _ _ free (c.in-Ok.id, c.in-Ok.ensures.log, ap (λ t. topic_of c.subscribe.new.self t) put));
+      named = (
+          rw (c.put_subscriber.ensures, c.place_of.ensures)
+          (named_join g.row.CAP g.row.PUBS g.row.NAMES c.args.self.now c.subscribe.new.self c.args.tables.now.subscribers c.args.tables.now.publishers c.requires.named c.args.s c.in-Ok.id c.in-Ok.ensures.log free (ap (λ x. x.publishers) c.in-Ok.ensures.rest)));
+      lists = search rules;
+    }
 
-pub returns-in-Ok-clause-named : goal.returns-in-Ok-clause-named
-returns-in-Ok-clause-named g c =
-    let free = sym c.is_subscriber_free.ensures ∙ c.if-not-is_subscriber_free.false in
-    rw (c.put_subscriber.ensures, c.place_of.ensures)
-    (named_join g.row.CAP g.row.PUBS g.row.NAMES c.args.self.now c.subscribe.new.self c.args.tables.now.subscribers c.args.tables.now.publishers c.requires.named c.args.s c.in-Ok.id c.in-Ok.ensures.log free (ap (λ x. x.publishers) c.in-Ok.ensures.rest))
-
-pub returns-in-Err-clause-named : goal.returns-in-Err-clause-named
-returns-in-Err-clause-named g c =
-    named_same g.row.CAP g.row.PUBS g.row.NAMES c.args.self.now c.subscribe.new.self c.args.tables.now.subscribers c.args.tables.now.publishers c.requires.named (ap (λ x. x.publishers) c.in-Err.ensures.rest) (λ q. ap (λ x. is_live q x) (refused_same c.in-Err.error c.args.self.now.log c.subscribe.new.self.log c.in-Err.ensures.log))
+pub returns-in-Err : goal.returns-in-Err
+returns-in-Err g c = record {
+  allowed = search rules;
+  named = named_same g.row.CAP g.row.PUBS g.row.NAMES c.args.self.now c.subscribe.new.self c.args.tables.now.subscribers c.args.tables.now.publishers c.requires.named (ap (λ x. x.publishers) c.in-Err.ensures.rest) (λ q. ap (λ x. is_live q x) (refused_same c.in-Err.error c.args.self.now.log c.subscribe.new.self.log c.in-Err.ensures.log));
+  lists = search rules;
+}

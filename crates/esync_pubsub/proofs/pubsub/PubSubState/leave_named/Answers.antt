@@ -7,8 +7,12 @@ put_subscriber-requires g c =
     let here = sym c.subscriber.ensures.place ∙ c.in-Some.is in
     (search rules, subscriber_below g.row.CAP g.row.PUBS g.row.NAMES c.args.self.now c.args.tables.now c.requires.named c.args.s c.in-Some.id here)
 
-pub returns-clause-named : goal.returns-clause-named
-returns-clause-named g c =
-    let here = sym c.subscriber.ensures.place ∙ c.in-Some.is in
-    rw c.put_subscriber.ensures
-    (named_leave g.row.CAP g.row.PUBS g.row.NAMES c.args.self.now c.leave.new.self c.args.tables.now.subscribers c.args.tables.now.publishers c.requires.named c.args.s c.in-Some.id here (ap (λ x. x.log) c.leave.ensures.state) (ap (λ x. x.publishers) c.leave.ensures.state))
+pub returns : goal.returns
+returns g c = record {
+  allowed = search rules;
+  exact = search rules;
+  named = (
+      let here = sym c.subscriber.ensures.place ∙ c.in-Some.is in
+      rw c.put_subscriber.ensures
+      (named_leave g.row.CAP g.row.PUBS g.row.NAMES c.args.self.now c.leave.new.self c.args.tables.now.subscribers c.args.tables.now.publishers c.requires.named c.args.s c.in-Some.id here (ap (λ x. x.log) c.leave.ensures.state) (ap (λ x. x.publishers) c.leave.ensures.state)));
+}

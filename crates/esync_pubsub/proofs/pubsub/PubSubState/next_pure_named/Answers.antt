@@ -4,15 +4,16 @@ use Rattle.esync_pubsub.specs.PubSubRules.{topic_of, WithLog, TriesPure, pure_ha
 use Rattle.esync_pubsub.proofs.Turns.{at_named, where_named}
 use Rattle.esync_pubsub.proofs.pubsub.PubSubState.next_pure_named.Goals as goal
 
-pub returns-clause-allowed : goal.returns-clause-allowed
-returns-clause-allowed g c =
+pub returns : goal.returns
+returns g c =
     let here = sym c.subscriber.ensures.place ∙ c.in-Some.is in
-    let old = topic_of c.args.self.now c.args.tables.now in
-    let new = topic_of c.try_next_pure.new.self c.args.tables.now in
-    where_named old new c.try_next_pure.result c.args.s c.in-Some.id (λ n. TriesPure g.T.Clone.is_clone g.T.Clone.is_infallible n old.log c.try_next_pure.result new.log × WithLog old new) here (c.try_next_pure.ensures.allowed, refl)
-
-pub returns-clause-exact : goal.returns-clause-exact
-returns-clause-exact g c =
-    let here = sym c.subscriber.ensures.place ∙ c.in-Some.is in
-    let s = c.args.self.now in
-    at_named (topic_of s c.args.tables.now) c.args.s c.in-Some.id (λ n. IsHanded (unless_refused c.try_next_pure.result s.lists (pure_hands g.W.PartialEq.eq g.row.SUBS g.row.PUBS n s.log None (pure_of c.try_next_pure.result) s.lists)) c.try_next_pure.new.wakes c.try_next_pure.new.self.lists) here c.try_next_pure.ensures.exact
+    record {
+      allowed = (
+          let old = topic_of c.args.self.now c.args.tables.now in
+          let new = topic_of c.try_next_pure.new.self c.args.tables.now in
+          where_named old new c.try_next_pure.result c.args.s c.in-Some.id (λ n. TriesPure g.T.Clone.is_clone g.T.Clone.is_infallible n old.log c.try_next_pure.result new.log × WithLog old new) here (c.try_next_pure.ensures.allowed, refl));
+      exact = (
+          let s = c.args.self.now in
+          at_named (topic_of s c.args.tables.now) c.args.s c.in-Some.id (λ n. IsHanded (unless_refused c.try_next_pure.result s.lists (pure_hands g.W.PartialEq.eq g.row.SUBS g.row.PUBS n s.log None (pure_of c.try_next_pure.result) s.lists)) c.try_next_pure.new.wakes c.try_next_pure.new.self.lists) here c.try_next_pure.ensures.exact);
+      publishers = c.try_next_pure.ensures.publishers;
+    }

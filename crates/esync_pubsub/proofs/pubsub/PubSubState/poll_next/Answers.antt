@@ -17,44 +17,38 @@ push-requires g c =
     let woken = (rw c.in-Ok-Ready-Lagged.field-0-is at c.in-Ok-Ready-Lagged.ensures.wakes) ∙ ap (λ b. c.args.wakes.now ++ wakes_of_room b c.args.self.now.lists) frees ∙ append-nil c.args.wakes.now in
     (search rules, rw woken (omega (arith, c.requires.one)))
 
-pub returns-in-Ok-Ready-Lagged-clause-ok : goal.returns-in-Ok-Ready-Lagged-clause-ok
-returns-in-Ok-Ready-Lagged-clause-ok g c =
+pub returns-in-Ok-Ready-Lagged : goal.returns-in-Ok-Ready-Lagged
+returns-in-Ok-Ready-Lagged g c =
     let log2 = c.get_message_with_context.new.self.log in
     let read = rw (c.in-Ok-Ready-Lagged.field-0-is, c.in-Ok-Ready-Lagged.field-0-0-is) at c.in-Ok-Ready-Lagged.ensures.ok in
-    lag_gap c.args.id.now c.args.self.now.log g.T.Clone.is_clone log2 c.in-Ok-Ready-Lagged._missed read
+    record {
+      ok = lag_gap c.args.id.now c.args.self.now.log g.T.Clone.is_clone log2 c.in-Ok-Ready-Lagged._missed read;
+      rest = (
+          let frees = lag_frees c.args.id.now c.args.self.now.log g.T.Clone.is_clone log2 c.in-Ok-Ready-Lagged._missed read in
+          let rest = (rw c.in-Ok-Ready-Lagged.field-0-is at c.in-Ok-Ready-Lagged.ensures.rest) ∙ ap (with_lists log2 c.args.self.now) (ap (λ b. lists_after_room b c.args.self.now.lists) frees) in
+          rw (lag_read c.args.id.now c.args.self.now.log g.T.Clone.is_clone log2 c.in-Ok-Ready-Lagged._missed read) rest);
+      wakes = (
+          let frees = lag_frees c.args.id.now c.args.self.now.log g.T.Clone.is_clone log2 c.in-Ok-Ready-Lagged._missed read in
+          let woken = (rw c.in-Ok-Ready-Lagged.field-0-is at c.in-Ok-Ready-Lagged.ensures.wakes) ∙ ap (λ b. c.args.wakes.now ++ wakes_of_room b c.args.self.now.lists) frees ∙ append-nil c.args.wakes.now in
+          rw (lag_read c.args.id.now c.args.self.now.log g.T.Clone.is_clone log2 c.in-Ok-Ready-Lagged._missed read, c.push.ensures, woken, c.waker.ensures) (search rules));
+      refused = search rules;
+      unchanged = search rules;
+      unwoken = search rules;
+    }
 
-pub returns-in-Ok-Ready-Lagged-clause-rest : goal.returns-in-Ok-Ready-Lagged-clause-rest
-returns-in-Ok-Ready-Lagged-clause-rest g c =
-    let log2 = c.get_message_with_context.new.self.log in
-    let read = rw (c.in-Ok-Ready-Lagged.field-0-is, c.in-Ok-Ready-Lagged.field-0-0-is) at c.in-Ok-Ready-Lagged.ensures.ok in
-    let frees = lag_frees c.args.id.now c.args.self.now.log g.T.Clone.is_clone log2 c.in-Ok-Ready-Lagged._missed read in
-    let rest = (rw c.in-Ok-Ready-Lagged.field-0-is at c.in-Ok-Ready-Lagged.ensures.rest) ∙ ap (with_lists log2 c.args.self.now) (ap (λ b. lists_after_room b c.args.self.now.lists) frees) in
-    rw (lag_read c.args.id.now c.args.self.now.log g.T.Clone.is_clone log2 c.in-Ok-Ready-Lagged._missed read) rest
-
-pub returns-in-Ok-Ready-Lagged-clause-wakes : goal.returns-in-Ok-Ready-Lagged-clause-wakes
-returns-in-Ok-Ready-Lagged-clause-wakes g c =
-    let log2 = c.get_message_with_context.new.self.log in
-    let read = rw (c.in-Ok-Ready-Lagged.field-0-is, c.in-Ok-Ready-Lagged.field-0-0-is) at c.in-Ok-Ready-Lagged.ensures.ok in
-    let frees = lag_frees c.args.id.now c.args.self.now.log g.T.Clone.is_clone log2 c.in-Ok-Ready-Lagged._missed read in
-    let woken = (rw c.in-Ok-Ready-Lagged.field-0-is at c.in-Ok-Ready-Lagged.ensures.wakes) ∙ ap (λ b. c.args.wakes.now ++ wakes_of_room b c.args.self.now.lists) frees ∙ append-nil c.args.wakes.now in
-    rw (lag_read c.args.id.now c.args.self.now.log g.T.Clone.is_clone log2 c.in-Ok-Ready-Lagged._missed read, c.push.ensures, woken, c.waker.ensures) (search rules)
-
-pub returns-in-Ok-Pending-clause-ok : goal.returns-in-Ok-Pending-clause-ok
-returns-in-Ok-Pending-clause-ok g c =
+pub returns-in-Ok-Pending : goal.returns-in-Ok-Pending
+returns-in-Ok-Pending g c =
     let log2 = c.get_message_with_context.new.self.log in
     let read = rw c.in-Ok-Pending.field-0-is at c.in-Ok-Pending.ensures.ok in
-    end_gap c.args.id.now c.args.self.now.log g.T.Clone.is_clone log2 read
-
-pub returns-in-Ok-Pending-clause-rest : goal.returns-in-Ok-Pending-clause-rest
-returns-in-Ok-Pending-clause-rest g c =
-    let log2 = c.get_message_with_context.new.self.log in
-    let read = rw c.in-Ok-Pending.field-0-is at c.in-Ok-Pending.ensures.ok in
-    let rest = rw c.in-Ok-Pending.field-0-is at c.in-Ok-Pending.ensures.rest in
-    rw (end_read c.args.id.now c.args.self.now.log g.T.Clone.is_clone log2 read) rest
-
-pub returns-in-Ok-Pending-clause-wakes : goal.returns-in-Ok-Pending-clause-wakes
-returns-in-Ok-Pending-clause-wakes g c =
-    let log2 = c.get_message_with_context.new.self.log in
-    let read = rw c.in-Ok-Pending.field-0-is at c.in-Ok-Pending.ensures.ok in
-    let woken = rw c.in-Ok-Pending.field-0-is at c.in-Ok-Pending.ensures.wakes in
-    rw (end_read c.args.id.now c.args.self.now.log g.T.Clone.is_clone log2 read) woken
+    record {
+      ok = end_gap c.args.id.now c.args.self.now.log g.T.Clone.is_clone log2 read;
+      rest = (
+          let rest = rw c.in-Ok-Pending.field-0-is at c.in-Ok-Pending.ensures.rest in
+          rw (end_read c.args.id.now c.args.self.now.log g.T.Clone.is_clone log2 read) rest);
+      wakes = (
+          let woken = rw c.in-Ok-Pending.field-0-is at c.in-Ok-Pending.ensures.wakes in
+          rw (end_read c.args.id.now c.args.self.now.log g.T.Clone.is_clone log2 read) woken);
+      refused = search rules;
+      unchanged = search rules;
+      unwoken = search rules;
+    }

@@ -7,10 +7,18 @@ register-requires g c =
     let unwoken = rw (c.in-Err-Full.field-0-is, append-nil c.args.wakes.now) at c.in-Err-Full.ensures.wakes in
     (search rules, (search rules, (c.requires.place, rw unwoken c.requires.publishers)))
 
-pub returns-in-Err-Full-clause-wakes : goal.returns-in-Err-Full-clause-wakes
-returns-in-Err-Full-clause-wakes g c =
-    let unwoken = rw (c.in-Err-Full.field-0-is, append-nil c.args.wakes.now) at c.in-Err-Full.ensures.wakes in
-    rw (c.register.ensures.displaced, unwoken) (search rules)
+pub returns-in-Err-Full : goal.returns-in-Err-Full
+returns-in-Err-Full g c = record {
+  log = search rules;
+  rest = search rules;
+  wakes = (
+      let unwoken = rw (c.in-Err-Full.field-0-is, append-nil c.args.wakes.now) at c.in-Err-Full.ensures.wakes in
+      rw (c.register.ensures.displaced, unwoken) (search rules));
+}
 
-pub returns-in-Ok-clause-log : goal.returns-in-Ok-clause-log
-returns-in-Ok-clause-log g c = c.in-Ok.ensures.log
+pub returns-in-Ok : goal.returns-in-Ok
+returns-in-Ok g c = record {
+  log = c.in-Ok.ensures.log;
+  rest = search rules;
+  wakes = search rules;
+}

@@ -13,9 +13,13 @@ put_publisher-requires g c =
     let here = sym c.is_publisher.ensures ∙ c.if-not-is_publisher.false in
     (search rules, publisher_below g.row.CAP g.row.PUBS g.row.NAMES c.args.self.now c.args.tables.now c.requires.named c.args.p here)
 
-pub returns-clause-named : goal.returns-clause-named
-returns-clause-named g c =
-    let here = sym c.is_publisher.ensures ∙ c.if-not-is_publisher.false in
-    let named = some_there (at_number c.args.tables.now.publishers c.args.p) here in
-    rw c.put_publisher.ensures
-    (named_retire g.row.CAP g.row.PUBS g.row.NAMES c.args.self.now c.remove_publisher.new.self c.args.tables.now.subscribers c.args.tables.now.publishers c.requires.named c.args.p named.0 named.1 c.remove_publisher.ensures)
+pub returns : goal.returns
+returns g c = record {
+  allowed = search rules;
+  named = (
+      let here = sym c.is_publisher.ensures ∙ c.if-not-is_publisher.false in
+      let named = some_there (at_number c.args.tables.now.publishers c.args.p) here in
+      rw c.put_publisher.ensures
+      (named_retire g.row.CAP g.row.PUBS g.row.NAMES c.args.self.now c.remove_publisher.new.self c.args.tables.now.subscribers c.args.tables.now.publishers c.requires.named c.args.p named.0 named.1 c.remove_publisher.ensures));
+  lists = search rules;
+}

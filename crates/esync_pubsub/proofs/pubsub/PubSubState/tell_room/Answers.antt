@@ -14,35 +14,29 @@ module _ {W : Type 0} (l : Lists W) (nobody : l.publishers ≡ []) where
   unwoken true = nobody
   unwoken false = refl
 
-pub returns-then-is_empty-clause-state : goal.returns-then-is_empty-clause-state
-returns-then-is_empty-clause-state g c =
+pub returns-then-is_empty : goal.returns-then-is_empty
+returns-then-is_empty g c =
     let nobody : c.args.self.now.lists.publishers ≡ [] = rw (← c.self.view_is) (c.is_empty.ensures.0 c.if-is_empty.true) in
-    rw (stays c.args.self.now.lists nobody (nat_lt (length c.args.self.now.log.held) c.args.held)) refl
+    record {
+      state = rw (stays c.args.self.now.lists nobody (nat_lt (length c.args.self.now.log.held) c.args.held)) refl;
+      wakes = rw (unwoken c.args.self.now.lists nobody (nat_lt (length c.args.self.now.log.held) c.args.held)) (sym (append-nil c.args.wakes.now));
+    }
 
-pub returns-then-is_empty-clause-wakes : goal.returns-then-is_empty-clause-wakes
-returns-then-is_empty-clause-wakes g c =
-    let nobody : c.args.self.now.lists.publishers ≡ [] = rw (← c.self.view_is) (c.is_empty.ensures.0 c.if-is_empty.true) in
-    rw (unwoken c.args.self.now.lists nobody (nat_lt (length c.args.self.now.log.held) c.args.held)) (sym (append-nil c.args.wakes.now))
-
-pub returns-else-has_freed-clause-wakes : goal.returns-else-has_freed-clause-wakes
-returns-else-has_freed-clause-wakes g c =
+pub returns-else-has_freed : goal.returns-else-has_freed
+returns-else-has_freed g c =
     let kept : nat_lt (length c.args.self.now.log.held) c.args.held ≡ false = sym c.has_freed.ensures ∙ c.if-has_freed.false in
-    rw kept (sym (append-nil c.args.wakes.now))
+    record {
+      state = rw kept refl;
+      wakes = rw kept (sym (append-nil c.args.wakes.now));
+    }
 
 pub wake-requires : goal.wake-requires
 wake-requires g c = (search rules, (search rules, c.requires))
 
-pub returns-else-has_freed-clause-state : goal.returns-else-has_freed-clause-state
-returns-else-has_freed-clause-state g c =
-    let kept : nat_lt (length c.args.self.now.log.held) c.args.held ≡ false = sym c.has_freed.ensures ∙ c.if-has_freed.false in
-    rw kept refl
-
-pub returns-then-has_freed-clause-state : goal.returns-then-has_freed-clause-state
-returns-then-has_freed-clause-state g c =
+pub returns-then-has_freed : goal.returns-then-has_freed
+returns-then-has_freed g c =
     let freed : nat_lt (length c.args.self.now.log.held) c.args.held ≡ true = sym c.has_freed.ensures ∙ c.if-has_freed.true in
-    rw (freed, ← c.self.view_is, c.wake.ensures.emptied) refl
-
-pub returns-then-has_freed-clause-wakes : goal.returns-then-has_freed-clause-wakes
-returns-then-has_freed-clause-wakes g c =
-    let freed : nat_lt (length c.args.self.now.log.held) c.args.held ≡ true = sym c.has_freed.ensures ∙ c.if-has_freed.true in
-    rw (freed, ← c.self.view_is) c.wake.ensures.handed_out
+    record {
+      state = rw (freed, ← c.self.view_is, c.wake.ensures.emptied) refl;
+      wakes = rw (freed, ← c.self.view_is) c.wake.ensures.handed_out;
+    }

@@ -2,23 +2,19 @@ use Rattle.std.proofs.Common.{None, ap, rules, ◌∙◌}
 use Rattle.esync_pubsub.proofs.Reading.{read_below, refused_below, read_handed, alone}
 use Rattle.esync_pubsub.proofs.pubsub.PubSubState.try_next.Goals as goal
 
-pub returns-in-Ok-clause-allowed : goal.returns-in-Ok-clause-allowed
-returns-in-Ok-clause-allowed g c = (read_below g.T.Clone.is_clone c.args.id.now c.args.self.now.log _ c.in-Ok.answer c.numbered.ensures c.in-Ok.ensures.ok, c.in-Ok.ensures.ok)
+pub returns-in-Ok : goal.returns-in-Ok
+returns-in-Ok g c = record {
+  allowed = (read_below g.T.Clone.is_clone c.args.id.now c.args.self.now.log _ c.in-Ok.answer c.numbered.ensures c.in-Ok.ensures.ok, c.in-Ok.ensures.ok);
+  exact = read_handed g.W.PartialEq.eq g.row.SUBS g.row.PUBS c.args.id.now c.args.self.now.log _ c.args.self.now.lists _ _ g.T.Clone.is_clone None c.in-Ok.answer c.in-Ok.ensures.ok (alone c.args.wakes.now _ _ c.in-Ok.ensures.wakes c.requires.empty) (ap (λ x. x.lists) c.in-Ok.ensures.rest);
+  publishers = ap (λ x. x.publishers) c.in-Ok.ensures.rest;
+}
 
-pub returns-in-Ok-clause-exact : goal.returns-in-Ok-clause-exact
-returns-in-Ok-clause-exact g c = read_handed g.W.PartialEq.eq g.row.SUBS g.row.PUBS c.args.id.now c.args.self.now.log _ c.args.self.now.lists _ _ g.T.Clone.is_clone None c.in-Ok.answer c.in-Ok.ensures.ok (alone c.args.wakes.now _ _ c.in-Ok.ensures.wakes c.requires.empty) (ap (λ x. x.lists) c.in-Ok.ensures.rest)
-
-pub returns-in-Err-clause-allowed : goal.returns-in-Err-clause-allowed
-returns-in-Err-clause-allowed g c = (refused_below g.T.Clone.is_infallible c.args.id.now _ c.args.self.now.log c.numbered.ensures c.in-Err.ensures.refused, c.in-Err.ensures.refused, ap (λ x. x.log) c.in-Err.ensures.unchanged)
+pub returns-in-Err : goal.returns-in-Err
+returns-in-Err g c = record {
+  allowed = (refused_below g.T.Clone.is_infallible c.args.id.now _ c.args.self.now.log c.numbered.ensures c.in-Err.ensures.refused, c.in-Err.ensures.refused, ap (λ x. x.log) c.in-Err.ensures.unchanged);
+  exact = (c.in-Err.ensures.unwoken ∙ c.requires.empty, ap (λ x. x.lists) c.in-Err.ensures.unchanged);
+  publishers = ap (λ x. x.publishers) c.in-Err.ensures.unchanged;
+}
 
 pub try_next_message-requires : goal.try_next_message-requires
 try_next_message-requires g c = (search rules, (search rules, (c.requires.live, c.requires.publishers)))
-
-pub returns-in-Ok-clause-publishers : goal.returns-in-Ok-clause-publishers
-returns-in-Ok-clause-publishers g c = ap (λ x. x.publishers) c.in-Ok.ensures.rest
-
-pub returns-in-Err-clause-exact : goal.returns-in-Err-clause-exact
-returns-in-Err-clause-exact g c = (c.in-Err.ensures.unwoken ∙ c.requires.empty, ap (λ x. x.lists) c.in-Err.ensures.unchanged)
-
-pub returns-in-Err-clause-publishers : goal.returns-in-Err-clause-publishers
-returns-in-Err-clause-publishers g c = ap (λ x. x.publishers) c.in-Err.ensures.unchanged

@@ -1,11 +1,9 @@
 use Rattle.std.proofs.Common.{refl}
 use Rattle.esync_pubsub.proofs.pubsub.PubSubState.try_publish.Goals as goal
 
-pub returns-in-Ok-clause-log : goal.returns-in-Ok-clause-log
-returns-in-Ok-clause-log g c = rw (c.tell_news.ensures.state, ← c.self.view_is) c.in-Ok.ensures
-
-pub returns-in-Ok-clause-rest : goal.returns-in-Ok-clause-rest
-returns-in-Ok-clause-rest g c = rw (c.tell_news.ensures.state, c.has_subscribers-has_subscribers.ensures, ← c.self.view_is) refl
-
-pub returns-in-Ok-clause-wakes : goal.returns-in-Ok-clause-wakes
-returns-in-Ok-clause-wakes g c = rw (← c.self.view_is) (rw c.has_subscribers-has_subscribers.ensures at c.tell_news.ensures.wakes)
+pub returns-in-Ok : goal.returns-in-Ok
+returns-in-Ok g c = record {
+  log = rw (c.tell_news.ensures.state, ← c.self.view_is) c.in-Ok.ensures;
+  rest = rw (c.tell_news.ensures.state, c.has_subscribers-has_subscribers.ensures, ← c.self.view_is) refl;
+  wakes = rw (← c.self.view_is) (rw c.has_subscribers-has_subscribers.ensures at c.tell_news.ensures.wakes);
+}

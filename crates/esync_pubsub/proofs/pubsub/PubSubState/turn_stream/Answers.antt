@@ -3,53 +3,41 @@ use Rattle.esync_base.specs.declared.waitqueue.Poll.TheVariants.{Pending, Ready}
 use Rattle.esync_pubsub.proofs.Reading.{stream_below, refused_below, stream_handed, alone}
 use Rattle.esync_pubsub.proofs.pubsub.PubSubState.turn_stream.Goals as goal
 
-pub returns-in-Ok-Ready-clause-allowed : goal.returns-in-Ok-Ready-clause-allowed
-returns-in-Ok-Ready-clause-allowed g c =
-    let h = rw c.in-Ok-Ready.field-0-is at c.in-Ok-Ready.ensures.ok in
-    rw c.over.ensures.answer (stream_below g.T.Clone.is_clone c.args.id.now c.args.self.now.log _ c.in-Ok-Ready.answer c.numbered.ensures h, h)
+pub returns-in-Ok-Ready : goal.returns-in-Ok-Ready
+returns-in-Ok-Ready g c = record {
+  allowed = (
+      let h = rw c.in-Ok-Ready.field-0-is at c.in-Ok-Ready.ensures.ok in
+      rw c.over.ensures.answer (stream_below g.T.Clone.is_clone c.args.id.now c.args.self.now.log _ c.in-Ok-Ready.answer c.numbered.ensures h, h));
+  exact = (
+      let h = rw c.in-Ok-Ready.field-0-is at c.in-Ok-Ready.ensures.ok in
+      let wakes = rw c.in-Ok-Ready.field-0-is at c.in-Ok-Ready.ensures.wakes in
+      let lists = rw c.in-Ok-Ready.field-0-is at (ap (λ x. x.lists) c.in-Ok-Ready.ensures.rest) in
+      rw c.over.ensures.answer (stream_handed g.W.PartialEq.eq g.row.SUBS g.row.PUBS c.args.id.now c.args.self.now.log _ c.args.self.now.lists _ _ g.T.Clone.is_clone c.args.cx.now (Ready c.in-Ok-Ready.answer) h (alone c.args.wakes.now _ _ wakes c.requires.empty) lists));
+  place = rw c.over.ensures.answer c.over.ensures.place;
+  publishers = ap (λ x. x.publishers) c.in-Ok-Ready.ensures.rest;
+}
 
-pub returns-in-Ok-Ready-clause-exact : goal.returns-in-Ok-Ready-clause-exact
-returns-in-Ok-Ready-clause-exact g c =
-    let h = rw c.in-Ok-Ready.field-0-is at c.in-Ok-Ready.ensures.ok in
-    let wakes = rw c.in-Ok-Ready.field-0-is at c.in-Ok-Ready.ensures.wakes in
-    let lists = rw c.in-Ok-Ready.field-0-is at (ap (λ x. x.lists) c.in-Ok-Ready.ensures.rest) in
-    rw c.over.ensures.answer (stream_handed g.W.PartialEq.eq g.row.SUBS g.row.PUBS c.args.id.now c.args.self.now.log _ c.args.self.now.lists _ _ g.T.Clone.is_clone c.args.cx.now (Ready c.in-Ok-Ready.answer) h (alone c.args.wakes.now _ _ wakes c.requires.empty) lists)
+pub returns-in-Ok-Pending : goal.returns-in-Ok-Pending
+returns-in-Ok-Pending g c = record {
+  allowed = rw c.waits.ensures.answer (rw c.in-Ok-Pending.field-0-is at c.in-Ok-Pending.ensures.ok);
+  exact = (
+      let h = rw c.in-Ok-Pending.field-0-is at c.in-Ok-Pending.ensures.ok in
+      let wakes = rw c.in-Ok-Pending.field-0-is at c.in-Ok-Pending.ensures.wakes in
+      let lists = rw c.in-Ok-Pending.field-0-is at (ap (λ x. x.lists) c.in-Ok-Pending.ensures.rest) in
+      rw c.waits.ensures.answer (stream_handed g.W.PartialEq.eq g.row.SUBS g.row.PUBS c.args.id.now c.args.self.now.log _ c.args.self.now.lists _ _ g.T.Clone.is_clone c.args.cx.now Pending h (alone c.args.wakes.now _ _ wakes c.requires.empty) lists));
+  place = rw c.waits.ensures.answer c.waits.ensures.place;
+  publishers = ap (λ x. x.publishers) c.in-Ok-Pending.ensures.rest;
+}
 
-pub returns-in-Ok-Pending-clause-exact : goal.returns-in-Ok-Pending-clause-exact
-returns-in-Ok-Pending-clause-exact g c =
-    let h = rw c.in-Ok-Pending.field-0-is at c.in-Ok-Pending.ensures.ok in
-    let wakes = rw c.in-Ok-Pending.field-0-is at c.in-Ok-Pending.ensures.wakes in
-    let lists = rw c.in-Ok-Pending.field-0-is at (ap (λ x. x.lists) c.in-Ok-Pending.ensures.rest) in
-    rw c.waits.ensures.answer (stream_handed g.W.PartialEq.eq g.row.SUBS g.row.PUBS c.args.id.now c.args.self.now.log _ c.args.self.now.lists _ _ g.T.Clone.is_clone c.args.cx.now Pending h (alone c.args.wakes.now _ _ wakes c.requires.empty) lists)
-
-pub returns-in-Err-clause-allowed : goal.returns-in-Err-clause-allowed
-returns-in-Err-clause-allowed g c =
-    let h = c.in-Err.ensures.refused in
-    rw c.refused.ensures.answer (refused_below g.T.Clone.is_infallible c.args.id.now _ c.args.self.now.log c.numbered.ensures h, h, ap (λ x. x.log) c.in-Err.ensures.unchanged)
+pub returns-in-Err : goal.returns-in-Err
+returns-in-Err g c = record {
+  allowed = (
+      let h = c.in-Err.ensures.refused in
+      rw c.refused.ensures.answer (refused_below g.T.Clone.is_infallible c.args.id.now _ c.args.self.now.log c.numbered.ensures h, h, ap (λ x. x.log) c.in-Err.ensures.unchanged));
+  exact = rw c.refused.ensures.answer (c.in-Err.ensures.unwoken ∙ c.requires.empty, ap (λ x. x.lists) c.in-Err.ensures.unchanged);
+  place = rw c.refused.ensures.answer c.refused.ensures.place;
+  publishers = ap (λ x. x.publishers) c.in-Err.ensures.unchanged;
+}
 
 pub poll_next-requires : goal.poll_next-requires
 poll_next-requires g c = (search rules, (search rules, (c.requires.live, (c.requires.subscribers, (c.requires.publishers, c.requires.one)))))
-
-pub returns-in-Ok-Ready-clause-place : goal.returns-in-Ok-Ready-clause-place
-returns-in-Ok-Ready-clause-place g c = rw c.over.ensures.answer c.over.ensures.place
-
-pub returns-in-Ok-Ready-clause-publishers : goal.returns-in-Ok-Ready-clause-publishers
-returns-in-Ok-Ready-clause-publishers g c = ap (λ x. x.publishers) c.in-Ok-Ready.ensures.rest
-
-pub returns-in-Ok-Pending-clause-allowed : goal.returns-in-Ok-Pending-clause-allowed
-returns-in-Ok-Pending-clause-allowed g c = rw c.waits.ensures.answer (rw c.in-Ok-Pending.field-0-is at c.in-Ok-Pending.ensures.ok)
-
-pub returns-in-Ok-Pending-clause-place : goal.returns-in-Ok-Pending-clause-place
-returns-in-Ok-Pending-clause-place g c = rw c.waits.ensures.answer c.waits.ensures.place
-
-pub returns-in-Ok-Pending-clause-publishers : goal.returns-in-Ok-Pending-clause-publishers
-returns-in-Ok-Pending-clause-publishers g c = ap (λ x. x.publishers) c.in-Ok-Pending.ensures.rest
-
-pub returns-in-Err-clause-exact : goal.returns-in-Err-clause-exact
-returns-in-Err-clause-exact g c = rw c.refused.ensures.answer (c.in-Err.ensures.unwoken ∙ c.requires.empty, ap (λ x. x.lists) c.in-Err.ensures.unchanged)
-
-pub returns-in-Err-clause-place : goal.returns-in-Err-clause-place
-returns-in-Err-clause-place g c = rw c.refused.ensures.answer c.refused.ensures.place
-
-pub returns-in-Err-clause-publishers : goal.returns-in-Err-clause-publishers
-returns-in-Err-clause-publishers g c = ap (λ x. x.publishers) c.in-Err.ensures.unchanged

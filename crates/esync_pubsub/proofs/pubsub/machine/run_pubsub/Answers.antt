@@ -8,28 +8,26 @@ use Rattle.esync_pubsub.specs.Order.{ReadsInOrder, CountsUnread}
 use Rattle.esync_pubsub.proofs.Order.{whole_of, in_order, counts_unread}
 use Rattle.esync_pubsub.proofs.pubsub.machine.run_pubsub.Goals as goal
 
-pub returns-clause-order : goal.returns-clause-order
-returns-clause-order g c =
+pub returns : goal.returns
+returns g c =
     let old = c.args.machine.now in
     let new = c.run.new.machine in
     let clone = g.T.Clone in
     let wakings = pubsub_wakings g.W.PartialEq.eq g.row.SUBS g.row.PUBS in
     let whole = whole_of g.row.NAMES g.row.CAP g.row.PUBS c.state.result.now old.state c.state.ensures c.named.ensures.named c.named.ensures.numbered in
-    IfOk-weaker c.run.result
-    (λ replies. GoodRun (requests_meaning (pubsub_rules clone.is_clone clone.is_infallible g.row.CAP g.row.PUBS) wakings g.W.PartialEq.eq g.row.K) (record { core = topic_of old.state.state old.state.tables; requests = old.requests }) old.state.state.lists c.args.commands.items replies.items (record { core = topic_of new.state.state new.state.tables; requests = new.requests }) new.state.state.lists)
-    (λ replies. old.requests ≡ replicate g.row.REQS None → (s : ℕ) → ReadsInOrder clone.is_clone s c.args.commands.items replies.items (topic_of new.state.state new.state.tables))
-    (λ replies run free s. in_order clone.is_clone g.row.NAMES s clone.is_infallible g.row.CAP g.row.PUBS _ wakings g.W.PartialEq.eq g.row.K g.row.REQS _ _ _ _ c.args.commands.items replies.items run free whole)
-    c.run.ensures.run
-
-pub returns-clause-counts : goal.returns-clause-counts
-returns-clause-counts g c =
-    let old = c.args.machine.now in
-    let new = c.run.new.machine in
-    let clone = g.T.Clone in
-    let wakings = pubsub_wakings g.W.PartialEq.eq g.row.SUBS g.row.PUBS in
-    let whole = whole_of g.row.NAMES g.row.CAP g.row.PUBS c.state.result.now old.state c.state.ensures c.named.ensures.named c.named.ensures.numbered in
-    IfOk-weaker c.run.result
-    (λ replies. GoodRun (requests_meaning (pubsub_rules clone.is_clone clone.is_infallible g.row.CAP g.row.PUBS) wakings g.W.PartialEq.eq g.row.K) (record { core = topic_of old.state.state old.state.tables; requests = old.requests }) old.state.state.lists c.args.commands.items replies.items (record { core = topic_of new.state.state new.state.tables; requests = new.requests }) new.state.state.lists)
-    (λ replies. old.requests ≡ replicate g.row.REQS None → (s : ℕ) → CountsUnread clone.is_clone s c.args.commands.items replies.items)
-    (λ replies run free s. counts_unread clone.is_clone g.row.NAMES s clone.is_infallible g.row.CAP g.row.PUBS _ wakings g.W.PartialEq.eq g.row.K g.row.REQS _ _ _ _ c.args.commands.items replies.items run free whole)
-    c.run.ensures.run
+    record {
+      run = c.run.ensures.run;
+      order = (
+          IfOk-weaker c.run.result
+          (λ replies. GoodRun (requests_meaning (pubsub_rules clone.is_clone clone.is_infallible g.row.CAP g.row.PUBS) wakings g.W.PartialEq.eq g.row.K) (record { core = topic_of old.state.state old.state.tables; requests = old.requests }) old.state.state.lists c.args.commands.items replies.items (record { core = topic_of new.state.state new.state.tables; requests = new.requests }) new.state.state.lists)
+          (λ replies. old.requests ≡ replicate g.row.REQS None → (s : ℕ) → ReadsInOrder clone.is_clone s c.args.commands.items replies.items (topic_of new.state.state new.state.tables))
+          (λ replies run free s. in_order clone.is_clone g.row.NAMES s clone.is_infallible g.row.CAP g.row.PUBS _ wakings g.W.PartialEq.eq g.row.K g.row.REQS _ _ _ _ c.args.commands.items replies.items run free whole)
+          c.run.ensures.run);
+      counts = (
+          IfOk-weaker c.run.result
+          (λ replies. GoodRun (requests_meaning (pubsub_rules clone.is_clone clone.is_infallible g.row.CAP g.row.PUBS) wakings g.W.PartialEq.eq g.row.K) (record { core = topic_of old.state.state old.state.tables; requests = old.requests }) old.state.state.lists c.args.commands.items replies.items (record { core = topic_of new.state.state new.state.tables; requests = new.requests }) new.state.state.lists)
+          (λ replies. old.requests ≡ replicate g.row.REQS None → (s : ℕ) → CountsUnread clone.is_clone s c.args.commands.items replies.items)
+          (λ replies run free s. counts_unread clone.is_clone g.row.NAMES s clone.is_infallible g.row.CAP g.row.PUBS _ wakings g.W.PartialEq.eq g.row.K g.row.REQS _ _ _ _ c.args.commands.items replies.items run free whole)
+          c.run.ensures.run);
+      refused = c.run.ensures.refused;
+    }

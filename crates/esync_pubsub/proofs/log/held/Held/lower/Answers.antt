@@ -9,12 +9,15 @@ overflow_sub-readers g c =
     let some = rw (← c.self.view_is) at c.requires.some in
     omega (arith, some, count_at g.row.N a.messages.front a.counts.row (length a.messages.items) c.args.i c.slot_of-place.result c.get-readers.result h c.slot_of-place.ensures.place c.get-readers.ensures)
 
-pub returns-clause-counts : goal.returns-clause-counts
-returns-clause-counts g c =
-    let a = c.self.inside in
-    let h = rw (← c.self.view_is) at c.requires.place in
-    let s = c.slot_of-place.ensures in
-    rw (c.put.ensures, ← c.self.view_is) (count_lower g.row.N a.messages.front a.counts.row (length a.messages.items) c.args.i c.slot_of-place.result c.get-readers.result c.self.invariant.0 c.self.invariant.1 h s.place s.below c.get-readers.ensures)
+pub returns : goal.returns
+returns g c = record {
+  messages = search rules;
+  counts = (
+      let a = c.self.inside in
+      let h = rw (← c.self.view_is) at c.requires.place in
+      let s = c.slot_of-place.ensures in
+      rw (c.put.ensures, ← c.self.view_is) (count_lower g.row.N a.messages.front a.counts.row (length a.messages.items) c.args.i c.slot_of-place.result c.get-readers.result c.self.invariant.0 c.self.invariant.1 h s.place s.below c.get-readers.ensures));
+}
 
 pub slot_of-place-requires : goal.slot_of-place-requires
 slot_of-place-requires g c = search rules

@@ -25,3 +25,11 @@ loop-i-preserved g c =
 
 pub len-i-end-requires : goal.len-i-end-requires
 len-i-end-requires g c = search rules
+
+pub lower-requires : goal.lower-requires
+lower-requires g c =
+    let v = c.loop-i.invariant in
+    let i = c.loop-i.i in
+    let start = c.loop-i.auto.i in
+    let below : i < length c.args.self.now.messages = omega (arith, c.len-i-end.ensures.value, c.loop-i-test.true) in
+    (search rules, (rw v.0 below, rw (v.4 i (omega arith)) (c.requires i start below)))

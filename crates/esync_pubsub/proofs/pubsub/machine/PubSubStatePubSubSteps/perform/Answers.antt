@@ -26,124 +26,98 @@ next_pure_named-requires g c = (search rules, (search rules, (search rules, (c.r
 pub clear-requires : goal.clear-requires
 clear-requires g c = (search rules, (search rules, pubs_room g.row.SUBS g.row.PUBS g.row.K c.args.wakes.now c.requires.empty c.requires.room))
 
-pub returns-in-Join-clause-exact : goal.returns-in-Join-clause-exact
-returns-in-Join-clause-exact g c = rw c.in-Join.is (nobody_handed c.join_named.result c.args.self.now.lists c.join_named.new.self.lists c.args.wakes.now c.requires.empty c.join_named.ensures.lists)
+pub returns-in-Join : goal.returns-in-Join
+returns-in-Join g c = record {
+  exact = rw c.in-Join.is (nobody_handed c.join_named.result c.args.self.now.lists c.join_named.new.self.lists c.args.wakes.now c.requires.empty c.join_named.ensures.lists);
+  allowed = rw c.in-Join.is c.join_named.ensures.allowed;
+  named = c.join_named.ensures.named;
+}
 
-pub returns-in-Publisher-clause-exact : goal.returns-in-Publisher-clause-exact
-returns-in-Publisher-clause-exact g c = rw c.in-Publisher.is (nobody_handed c.add_named.result c.args.self.now.lists c.add_named.new.self.lists c.args.wakes.now c.requires.empty c.add_named.ensures.lists)
+pub returns-in-Publisher : goal.returns-in-Publisher
+returns-in-Publisher g c = record {
+  exact = rw c.in-Publisher.is (nobody_handed c.add_named.result c.args.self.now.lists c.add_named.new.self.lists c.args.wakes.now c.requires.empty c.add_named.ensures.lists);
+  allowed = rw c.in-Publisher.is c.add_named.ensures.allowed;
+  named = c.add_named.ensures.named;
+}
 
-pub returns-in-Retire-clause-exact : goal.returns-in-Retire-clause-exact
-returns-in-Retire-clause-exact g c = rw c.in-Retire.is (nobody_handed c.retire_named.result c.args.self.now.lists c.retire_named.new.self.lists c.args.wakes.now c.requires.empty c.retire_named.ensures.lists)
+pub returns-in-Retire : goal.returns-in-Retire
+returns-in-Retire g c = record {
+  exact = rw c.in-Retire.is (nobody_handed c.retire_named.result c.args.self.now.lists c.retire_named.new.self.lists c.args.wakes.now c.requires.empty c.retire_named.ensures.lists);
+  allowed = rw c.in-Retire.is c.retire_named.ensures.allowed;
+  named = c.retire_named.ensures.named;
+}
 
-pub returns-in-Available-clause-exact : goal.returns-in-Available-clause-exact
-returns-in-Available-clause-exact g c = rw c.in-Available.is (nobody_handed c.available_named.result c.args.self.now.lists c.args.self.now.lists c.args.wakes.now c.requires.empty refl)
+pub returns-in-Available : goal.returns-in-Available
+returns-in-Available g c = record {
+  exact = rw c.in-Available.is (nobody_handed c.available_named.result c.args.self.now.lists c.args.self.now.lists c.args.wakes.now c.requires.empty refl);
+  allowed = rw c.in-Available.is c.available_named.ensures;
+  named = c.requires.named;
+}
 
-pub returns-in-TryPublish-clause-named : goal.returns-in-TryPublish-clause-named
-returns-in-TryPublish-clause-named g c =
-    let old = topic_of c.args.self.now c.args.tables.now in
-    let new = topic_of c.try_publish_named.new.self c.args.tables.now in
-    named_same g.row.CAP g.row.PUBS g.row.NAMES c.args.self.now c.try_publish_named.new.self c.args.tables.now.subscribers c.args.tables.now.publishers c.requires.named c.try_publish_named.ensures.publishers (tried_named_live g.T.Clone.is_clone g.T.Clone.is_infallible g.row.CAP g.row.PUBS old new c.try_publish_named.result c.in-TryPublish.p c.in-TryPublish.message c.try_publish_named.ensures.allowed)
+pub returns-in-TryPublish : goal.returns-in-TryPublish
+returns-in-TryPublish g c = record {
+  exact = rw c.in-TryPublish.is c.try_publish_named.ensures.exact;
+  allowed = rw c.in-TryPublish.is c.try_publish_named.ensures.allowed;
+  named = (
+      let old = topic_of c.args.self.now c.args.tables.now in
+      let new = topic_of c.try_publish_named.new.self c.args.tables.now in
+      named_same g.row.CAP g.row.PUBS g.row.NAMES c.args.self.now c.try_publish_named.new.self c.args.tables.now.subscribers c.args.tables.now.publishers c.requires.named c.try_publish_named.ensures.publishers (tried_named_live g.T.Clone.is_clone g.T.Clone.is_infallible g.row.CAP g.row.PUBS old new c.try_publish_named.result c.in-TryPublish.p c.in-TryPublish.message c.try_publish_named.ensures.allowed));
+}
 
-pub returns-in-Immediate-clause-named : goal.returns-in-Immediate-clause-named
-returns-in-Immediate-clause-named g c =
-    named_same g.row.CAP g.row.PUBS g.row.NAMES c.args.self.now c.publish_at_once.new.self c.args.tables.now.subscribers c.args.tables.now.publishers c.requires.named c.publish_at_once.ensures.publishers (at_once_live c.args.self.now.log c.publish_at_once.new.self.log g.row.CAP c.in-Immediate.message c.publish_at_once.result c.publish_at_once.ensures.allowed)
+pub returns-in-Immediate : goal.returns-in-Immediate
+returns-in-Immediate g c = record {
+  exact = rw c.in-Immediate.is c.publish_at_once.ensures.exact;
+  allowed = rw c.in-Immediate.is (c.publish_at_once.ensures.allowed, refl);
+  named = named_same g.row.CAP g.row.PUBS g.row.NAMES c.args.self.now c.publish_at_once.new.self c.args.tables.now.subscribers c.args.tables.now.publishers c.requires.named c.publish_at_once.ensures.publishers (at_once_live c.args.self.now.log c.publish_at_once.new.self.log g.row.CAP c.in-Immediate.message c.publish_at_once.result c.publish_at_once.ensures.allowed);
+}
 
-pub returns-in-Next-clause-named : goal.returns-in-Next-clause-named
-returns-in-Next-clause-named g c =
-    let old = topic_of c.args.self.now c.args.tables.now in
-    let new = topic_of c.next_named.new.self c.args.tables.now in
-    named_same g.row.CAP g.row.PUBS g.row.NAMES c.args.self.now c.next_named.new.self c.args.tables.now.subscribers c.args.tables.now.publishers c.requires.named c.next_named.ensures.publishers (next_named_live g.T.Clone.is_clone g.T.Clone.is_infallible g.row.CAP g.row.PUBS old new c.next_named.result (here_by old c.requires.named.live) c.in-Next.s c.next_named.ensures.allowed)
+pub returns-in-Next : goal.returns-in-Next
+returns-in-Next g c = record {
+  exact = rw c.in-Next.is c.next_named.ensures.exact;
+  allowed = rw c.in-Next.is c.next_named.ensures.allowed;
+  named = (
+      let old = topic_of c.args.self.now c.args.tables.now in
+      let new = topic_of c.next_named.new.self c.args.tables.now in
+      named_same g.row.CAP g.row.PUBS g.row.NAMES c.args.self.now c.next_named.new.self c.args.tables.now.subscribers c.args.tables.now.publishers c.requires.named c.next_named.ensures.publishers (next_named_live g.T.Clone.is_clone g.T.Clone.is_infallible g.row.CAP g.row.PUBS old new c.next_named.result (here_by old c.requires.named.live) c.in-Next.s c.next_named.ensures.allowed));
+}
 
-pub returns-in-NextPure-clause-named : goal.returns-in-NextPure-clause-named
-returns-in-NextPure-clause-named g c =
-    let old = topic_of c.args.self.now c.args.tables.now in
-    let new = topic_of c.next_pure_named.new.self c.args.tables.now in
-    named_same g.row.CAP g.row.PUBS g.row.NAMES c.args.self.now c.next_pure_named.new.self c.args.tables.now.subscribers c.args.tables.now.publishers c.requires.named c.next_pure_named.ensures.publishers (next_pure_named_live g.T.Clone.is_clone g.T.Clone.is_infallible g.row.CAP g.row.PUBS old new c.next_pure_named.result (here_by old c.requires.named.live) c.in-NextPure.s c.next_pure_named.ensures.allowed)
+pub returns-in-NextPure : goal.returns-in-NextPure
+returns-in-NextPure g c = record {
+  exact = rw c.in-NextPure.is c.next_pure_named.ensures.exact;
+  allowed = rw c.in-NextPure.is c.next_pure_named.ensures.allowed;
+  named = (
+      let old = topic_of c.args.self.now c.args.tables.now in
+      let new = topic_of c.next_pure_named.new.self c.args.tables.now in
+      named_same g.row.CAP g.row.PUBS g.row.NAMES c.args.self.now c.next_pure_named.new.self c.args.tables.now.subscribers c.args.tables.now.publishers c.requires.named c.next_pure_named.ensures.publishers (next_pure_named_live g.T.Clone.is_clone g.T.Clone.is_infallible g.row.CAP g.row.PUBS old new c.next_pure_named.result (here_by old c.requires.named.live) c.in-NextPure.s c.next_pure_named.ensures.allowed));
+}
 
-pub returns-in-Clear-clause-named : goal.returns-in-Clear-clause-named
-returns-in-Clear-clause-named g c =
-    named_same g.row.CAP g.row.PUBS g.row.NAMES c.args.self.now c.clear.new.self c.args.tables.now.subscribers c.args.tables.now.publishers c.requires.named (ap (λ x. x.publishers) c.clear.ensures.state) (λ q. ap (λ x. is_live q x.log) c.clear.ensures.state)
+pub returns-in-Clear : goal.returns-in-Clear
+returns-in-Clear g c = record {
+  exact = rw c.in-Clear.is (c.clear.ensures.wakes ∙ ap (λ ws. ws ++ c.args.self.now.lists.publishers) c.requires.empty, ap (λ x. x.lists) c.clear.ensures.state);
+  allowed = rw c.in-Clear.is (refl, ap (λ x. topic_of x c.args.tables.now) c.clear.ensures.state);
+  named = named_same g.row.CAP g.row.PUBS g.row.NAMES c.args.self.now c.clear.new.self c.args.tables.now.subscribers c.args.tables.now.publishers c.requires.named (ap (λ x. x.publishers) c.clear.ensures.state) (λ q. ap (λ x. is_live q x.log) c.clear.ensures.state);
+}
 
-pub returns-in-Join-clause-allowed : goal.returns-in-Join-clause-allowed
-returns-in-Join-clause-allowed g c = rw c.in-Join.is c.join_named.ensures.allowed
+pub returns-in-Leave : goal.returns-in-Leave
+returns-in-Leave g c = record {
+  exact = rw c.in-Leave.is c.leave_named.ensures.exact;
+  allowed = rw c.in-Leave.is c.leave_named.ensures.allowed;
+  named = c.leave_named.ensures.named;
+}
 
-pub returns-in-Join-clause-named : goal.returns-in-Join-clause-named
-returns-in-Join-clause-named g c = c.join_named.ensures.named
+pub returns-in-Len : goal.returns-in-Len
+returns-in-Len g c = record {
+  exact = rw c.in-Len.is (c.requires.empty, refl);
+  allowed = rw c.in-Len.is (ap (λ n. Gives (Number n)) c.len.ensures.value, refl);
+  named = c.requires.named;
+}
 
-pub returns-in-Leave-clause-allowed : goal.returns-in-Leave-clause-allowed
-returns-in-Leave-clause-allowed g c = rw c.in-Leave.is c.leave_named.ensures.allowed
-
-pub returns-in-Leave-clause-exact : goal.returns-in-Leave-clause-exact
-returns-in-Leave-clause-exact g c = rw c.in-Leave.is c.leave_named.ensures.exact
-
-pub returns-in-Leave-clause-named : goal.returns-in-Leave-clause-named
-returns-in-Leave-clause-named g c = c.leave_named.ensures.named
-
-pub returns-in-Publisher-clause-allowed : goal.returns-in-Publisher-clause-allowed
-returns-in-Publisher-clause-allowed g c = rw c.in-Publisher.is c.add_named.ensures.allowed
-
-pub returns-in-Publisher-clause-named : goal.returns-in-Publisher-clause-named
-returns-in-Publisher-clause-named g c = c.add_named.ensures.named
-
-pub returns-in-Retire-clause-allowed : goal.returns-in-Retire-clause-allowed
-returns-in-Retire-clause-allowed g c = rw c.in-Retire.is c.retire_named.ensures.allowed
-
-pub returns-in-Retire-clause-named : goal.returns-in-Retire-clause-named
-returns-in-Retire-clause-named g c = c.retire_named.ensures.named
-
-pub returns-in-TryPublish-clause-allowed : goal.returns-in-TryPublish-clause-allowed
-returns-in-TryPublish-clause-allowed g c = rw c.in-TryPublish.is c.try_publish_named.ensures.allowed
-
-pub returns-in-TryPublish-clause-exact : goal.returns-in-TryPublish-clause-exact
-returns-in-TryPublish-clause-exact g c = rw c.in-TryPublish.is c.try_publish_named.ensures.exact
-
-pub returns-in-Immediate-clause-allowed : goal.returns-in-Immediate-clause-allowed
-returns-in-Immediate-clause-allowed g c = rw c.in-Immediate.is (c.publish_at_once.ensures.allowed, refl)
-
-pub returns-in-Immediate-clause-exact : goal.returns-in-Immediate-clause-exact
-returns-in-Immediate-clause-exact g c = rw c.in-Immediate.is c.publish_at_once.ensures.exact
-
-pub returns-in-Next-clause-allowed : goal.returns-in-Next-clause-allowed
-returns-in-Next-clause-allowed g c = rw c.in-Next.is c.next_named.ensures.allowed
-
-pub returns-in-Next-clause-exact : goal.returns-in-Next-clause-exact
-returns-in-Next-clause-exact g c = rw c.in-Next.is c.next_named.ensures.exact
-
-pub returns-in-NextPure-clause-allowed : goal.returns-in-NextPure-clause-allowed
-returns-in-NextPure-clause-allowed g c = rw c.in-NextPure.is c.next_pure_named.ensures.allowed
-
-pub returns-in-NextPure-clause-exact : goal.returns-in-NextPure-clause-exact
-returns-in-NextPure-clause-exact g c = rw c.in-NextPure.is c.next_pure_named.ensures.exact
-
-pub returns-in-Available-clause-allowed : goal.returns-in-Available-clause-allowed
-returns-in-Available-clause-allowed g c = rw c.in-Available.is c.available_named.ensures
-
-pub returns-in-Available-clause-named : goal.returns-in-Available-clause-named
-returns-in-Available-clause-named g c = c.requires.named
-
-pub returns-in-Clear-clause-allowed : goal.returns-in-Clear-clause-allowed
-returns-in-Clear-clause-allowed g c = rw c.in-Clear.is (refl, ap (λ x. topic_of x c.args.tables.now) c.clear.ensures.state)
-
-pub returns-in-Clear-clause-exact : goal.returns-in-Clear-clause-exact
-returns-in-Clear-clause-exact g c = rw c.in-Clear.is (c.clear.ensures.wakes ∙ ap (λ ws. ws ++ c.args.self.now.lists.publishers) c.requires.empty, ap (λ x. x.lists) c.clear.ensures.state)
-
-pub returns-in-Len-clause-allowed : goal.returns-in-Len-clause-allowed
-returns-in-Len-clause-allowed g c = rw c.in-Len.is (ap (λ n. Gives (Number n)) c.len.ensures.value, refl)
-
-pub returns-in-Len-clause-exact : goal.returns-in-Len-clause-exact
-returns-in-Len-clause-exact g c = rw c.in-Len.is (c.requires.empty, refl)
-
-pub returns-in-Len-clause-named : goal.returns-in-Len-clause-named
-returns-in-Len-clause-named g c = c.requires.named
-
-pub returns-in-FreeCapacity-clause-allowed : goal.returns-in-FreeCapacity-clause-allowed
-returns-in-FreeCapacity-clause-allowed g c = rw c.in-FreeCapacity.is (c.free_capacity.result, refl, c.free_capacity.ensures, refl)
-
-pub returns-in-FreeCapacity-clause-exact : goal.returns-in-FreeCapacity-clause-exact
-returns-in-FreeCapacity-clause-exact g c = rw c.in-FreeCapacity.is (c.requires.empty, refl)
-
-pub returns-in-FreeCapacity-clause-named : goal.returns-in-FreeCapacity-clause-named
-returns-in-FreeCapacity-clause-named g c = c.requires.named
+pub returns-in-FreeCapacity : goal.returns-in-FreeCapacity
+returns-in-FreeCapacity g c = record {
+  exact = rw c.in-FreeCapacity.is (c.requires.empty, refl);
+  allowed = rw c.in-FreeCapacity.is (c.free_capacity.result, refl, c.free_capacity.ensures, refl);
+  named = c.requires.named;
+}
 
 pub join_named-requires : goal.join_named-requires
 join_named-requires g c = (search rules, (search rules, c.requires.named))
