@@ -7,14 +7,18 @@ use Rattle.esync_cells.specs.WatchNews.{TellsOnce}
 use Rattle.esync_cells.proofs.WatchNews.{tells_once}
 use Rattle.esync_cells.proofs.watch.machine.run_watch.Goals as goal
 
-pub returns-clause-news : goal.returns-clause-news
-returns-clause-news g c =
-    let old = c.args.machine.now in
-    let new = c.run.new.machine in
-    let rules = watch_rules g.row.N g.T.Clone.is_clone g.T.Clone.is_infallible g.C.Change.changed g.C.Change.tells g.J.Judge.passes in
-    let wakings = watch_wakings g.W.PartialEq.eq g.row.N g.C.Change.tells in
-    IfOk-weaker c.run.result
-    (λ replies. GoodRun (requests_meaning rules wakings g.W.PartialEq.eq g.row.K) (record { core = watch_of old.state; requests = old.requests }) old.state.state.waiters c.args.commands.items replies.items (record { core = watch_of new.state; requests = new.requests }) new.state.state.waiters)
-    (λ replies. (h : ℕ) → TellsOnce h c.args.commands.items replies.items)
-    (λ replies run h. tells_once g.row.N g.T.Clone.is_clone g.T.Clone.is_infallible g.C.Change.changed g.C.Change.tells g.J.Judge.passes wakings g.W.PartialEq.eq g.row.K h _ _ _ _ c.args.commands.items replies.items run)
-    c.run.ensures.run
+pub returns : goal.returns
+returns g c = record {
+  run = c.run.ensures.run;
+  news = (
+      let old = c.args.machine.now in
+      let new = c.run.new.machine in
+      let rules = watch_rules g.row.N g.T.Clone.is_clone g.T.Clone.is_infallible g.C.Change.changed g.C.Change.tells g.J.Judge.passes in
+      let wakings = watch_wakings g.W.PartialEq.eq g.row.N g.C.Change.tells in
+      IfOk-weaker c.run.result
+      (λ replies. GoodRun (requests_meaning rules wakings g.W.PartialEq.eq g.row.K) (record { core = watch_of old.state; requests = old.requests }) old.state.state.waiters c.args.commands.items replies.items (record { core = watch_of new.state; requests = new.requests }) new.state.state.waiters)
+      (λ replies. (h : ℕ) → TellsOnce h c.args.commands.items replies.items)
+      (λ replies run h. tells_once g.row.N g.T.Clone.is_clone g.T.Clone.is_infallible g.C.Change.changed g.C.Change.tells g.J.Judge.passes wakings g.W.PartialEq.eq g.row.K h _ _ _ _ c.args.commands.items replies.items run)
+      c.run.ensures.run);
+  refused = c.run.ensures.refused;
+}

@@ -19,16 +19,16 @@ put-requires g c =
     let free = ap (λ (s : Followed _ _). is_free c.args.h s.receivers) c.self.view_is ∙ sym c.is_free.ensures ∙ c.if-not-is_free.false in
     (search rules, subst (λ n. c.args.h < n) c.self.invariant.0 (free_place g.row.NAMES c.self.inside.state.receivers c.args.h c.self.inside.receivers c.self.inside.receivers c.self.invariant free).0)
 
-pub returns-clause-allowed : goal.returns-clause-allowed
-returns-clause-allowed g c =
-    let s = c.self.inside.state in
-    let q = c.self.inside.receivers in
-    let free = ap (λ (s : Followed _ _). is_free c.args.h s.receivers) c.self.view_is ∙ sym c.is_free.ensures ∙ c.if-not-is_free.false in
-    let room = sym (c.add_receiver.ensures.answer ∙ ap (λ n. nat_lt n g.row.N) c.self.invariant.1) ∙ c.if-not-add_receiver.false in
-    let old = watch_of (record { state = s; receivers = q }) in
-    let new = watch_of (record { state = c.add_receiver.new.self; receivers = c.put.new.self }) in
-    let object = table_object s c.add_receiver.new.self _ q c.put.new.self _ c.add_receiver.ensures.state c.put.ensures in
-    rw (← c.self.view_is) (subst (λ b. Joins b (nat_lt (count q) g.row.N) c.args.h old (Gives (Counted true)) new) (sym free) (subst (λ b. Joins true b c.args.h old (Gives (Counted true)) new) (sym room) (refl, object)))
-
-pub returns-clause-waiters : goal.returns-clause-waiters
-returns-clause-waiters g c = ap (λ (s : Watching _ _). s.waiters) c.add_receiver.ensures.state ∙ ap (λ (s : Followed _ _). s.state.waiters) c.self.view_is
+pub returns : goal.returns
+returns g c = record {
+  allowed = (
+      let s = c.self.inside.state in
+      let q = c.self.inside.receivers in
+      let free = ap (λ (s : Followed _ _). is_free c.args.h s.receivers) c.self.view_is ∙ sym c.is_free.ensures ∙ c.if-not-is_free.false in
+      let room = sym (c.add_receiver.ensures.answer ∙ ap (λ n. nat_lt n g.row.N) c.self.invariant.1) ∙ c.if-not-add_receiver.false in
+      let old = watch_of (record { state = s; receivers = q }) in
+      let new = watch_of (record { state = c.add_receiver.new.self; receivers = c.put.new.self }) in
+      let object = table_object s c.add_receiver.new.self _ q c.put.new.self _ c.add_receiver.ensures.state c.put.ensures in
+      rw (← c.self.view_is) (subst (λ b. Joins b (nat_lt (count q) g.row.N) c.args.h old (Gives (Counted true)) new) (sym free) (subst (λ b. Joins true b c.args.h old (Gives (Counted true)) new) (sym room) (refl, object))));
+  waiters = ap (λ (s : Watching _ _). s.waiters) c.add_receiver.ensures.state ∙ ap (λ (s : Followed _ _). s.state.waiters) c.self.view_is;
+}

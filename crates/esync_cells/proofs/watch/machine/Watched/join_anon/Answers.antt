@@ -16,13 +16,13 @@ put-requires g c =
     let free = ap (λ (s : Followed _ _). is_free c.args.h s.receivers) c.self.view_is ∙ sym c.is_free.ensures ∙ c.if-not-is_free.false in
     (search rules, subst (λ n. c.args.h < n) c.self.invariant.0 (free_place g.row.NAMES c.self.inside.state.receivers c.args.h c.self.inside.receivers c.self.inside.receivers c.self.invariant free).0)
 
-pub returns-clause-allowed : goal.returns-clause-allowed
-returns-clause-allowed g c =
-    let s = c.self.inside.state in
-    let q = c.self.inside.receivers in
-    let free = ap (λ (s : Followed _ _). is_free c.args.h s.receivers) c.self.view_is ∙ sym c.is_free.ensures ∙ c.if-not-is_free.false in
-    let object = table_object s s s.receivers q c.put.new.self _ refl c.put.ensures in
-    rw (← c.self.view_is) (subst (λ b. JoinsAnon b c.args.h (watch_of (record { state = s; receivers = q })) Done (watch_of (record { state = s; receivers = c.put.new.self }))) (sym free) (refl, object))
-
-pub returns-clause-waiters : goal.returns-clause-waiters
-returns-clause-waiters g c = ap (λ (s : Followed _ _). s.state.waiters) c.self.view_is
+pub returns : goal.returns
+returns g c = record {
+  allowed = (
+      let s = c.self.inside.state in
+      let q = c.self.inside.receivers in
+      let free = ap (λ (s : Followed _ _). is_free c.args.h s.receivers) c.self.view_is ∙ sym c.is_free.ensures ∙ c.if-not-is_free.false in
+      let object = table_object s s s.receivers q c.put.new.self _ refl c.put.ensures in
+      rw (← c.self.view_is) (subst (λ b. JoinsAnon b c.args.h (watch_of (record { state = s; receivers = q })) Done (watch_of (record { state = s; receivers = c.put.new.self }))) (sym free) (refl, object)));
+  waiters = ap (λ (s : Followed _ _). s.state.waiters) c.self.view_is;
+}

@@ -17,9 +17,8 @@ pub put-requires : goal.put-requires
 put-requires g c =
     (search rules, subst (λ n. c.args.h < n) c.self.invariant.0 (in_table c.args.h c.self.inside.receivers c.in-Some.receiver (sym c.get.ensures ∙ c.in-Some.is)))
 
-pub returns-clause-allowed : goal.returns-clause-allowed
-returns-clause-allowed g c =
-    rw (← c.self.view_is, ← c.get.ensures, c.in-Some.is) (refl, table_object c.self.inside.state c.drop_counted.new.state _ c.self.inside.receivers c.put.new.self _ c.drop_counted.ensures.state c.put.ensures)
-
-pub returns-clause-waiters : goal.returns-clause-waiters
-returns-clause-waiters g c = ap (λ (s : Watching _ _). s.waiters) c.drop_counted.ensures.state ∙ ap (λ (s : Followed _ _). s.state.waiters) c.self.view_is
+pub returns : goal.returns
+returns g c = record {
+  allowed = rw (← c.self.view_is, ← c.get.ensures, c.in-Some.is) (refl, table_object c.self.inside.state c.drop_counted.new.state _ c.self.inside.receivers c.put.new.self _ c.drop_counted.ensures.state c.put.ensures);
+  waiters = ap (λ (s : Watching _ _). s.waiters) c.drop_counted.ensures.state ∙ ap (λ (s : Followed _ _). s.state.waiters) c.self.view_is;
+}

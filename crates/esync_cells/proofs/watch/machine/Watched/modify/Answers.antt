@@ -9,18 +9,13 @@ invariant_of-self g c =
     let value = g.C.Change.changed c.args.change.now s.value in
     (c.self.invariant.0, same_count s c.send_modify.new.self value true r (c.send_modify.ensures.state ∙ sent_as s value r) ∙ c.self.invariant.1)
 
-pub returns-clause-allowed : goal.returns-clause-allowed
-returns-clause-allowed g c =
+pub returns : goal.returns
+returns g c =
     let s = c.self.inside.state in
     let r = c.send_modify.result in
     let e = c.send_modify.ensures in
     let value = g.C.Change.changed c.args.change.now s.value in
-    rw (← c.self.view_is) (r, refl, puts s c.send_modify.new.self value c.self.inside.receivers true r e.room e.exhausted (e.state ∙ sent_as s value r))
-
-pub returns-clause-exact : goal.returns-clause-exact
-returns-clause-exact g c =
-    let s = c.self.inside.state in
-    let r = c.send_modify.result in
-    let e = c.send_modify.ensures in
-    let value = g.C.Change.changed c.args.change.now s.value in
-    rw (← c.self.view_is) (hands s c.send_modify.new.self value c.args.wakes.now c.send_modify.new.wakes true r c.requires.empty (e.wakes ∙ ap (λ l. c.args.wakes.now ++ l) (woken_as s value r)) (e.state ∙ sent_as s value r))
+    record {
+      allowed = rw (← c.self.view_is) (r, refl, puts s c.send_modify.new.self value c.self.inside.receivers true r e.room e.exhausted (e.state ∙ sent_as s value r));
+      exact = rw (← c.self.view_is) (hands s c.send_modify.new.self value c.args.wakes.now c.send_modify.new.wakes true r c.requires.empty (e.wakes ∙ ap (λ l. c.args.wakes.now ++ l) (woken_as s value r)) (e.state ∙ sent_as s value r));
+    }

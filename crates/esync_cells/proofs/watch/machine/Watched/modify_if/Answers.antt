@@ -8,14 +8,11 @@ invariant_of-self g c =
     let e = c.send_if_modified.ensures in
     (c.self.invariant.0, same_count s c.send_if_modified.new.self _ (g.C.Change.tells c.args.change.now s.value) c.send_if_modified.result e.state ∙ c.self.invariant.1)
 
-pub returns-clause-allowed : goal.returns-clause-allowed
-returns-clause-allowed g c =
+pub returns : goal.returns
+returns g c =
     let s = c.self.inside.state in
     let e = c.send_if_modified.ensures in
-    rw (← c.self.view_is) (c.send_if_modified.result, refl, puts s c.send_if_modified.new.self _ c.self.inside.receivers (g.C.Change.tells c.args.change.now s.value) c.send_if_modified.result e.room e.exhausted e.state)
-
-pub returns-clause-exact : goal.returns-clause-exact
-returns-clause-exact g c =
-    let s = c.self.inside.state in
-    let e = c.send_if_modified.ensures in
-    rw (← c.self.view_is) (hands s c.send_if_modified.new.self (g.C.Change.changed c.args.change.now s.value) c.args.wakes.now c.send_if_modified.new.wakes (g.C.Change.tells c.args.change.now s.value) c.send_if_modified.result c.requires.empty e.wakes e.state)
+    record {
+      allowed = rw (← c.self.view_is) (c.send_if_modified.result, refl, puts s c.send_if_modified.new.self _ c.self.inside.receivers (g.C.Change.tells c.args.change.now s.value) c.send_if_modified.result e.room e.exhausted e.state);
+      exact = rw (← c.self.view_is) (hands s c.send_if_modified.new.self (g.C.Change.changed c.args.change.now s.value) c.args.wakes.now c.send_if_modified.new.wakes (g.C.Change.tells c.args.change.now s.value) c.send_if_modified.result c.requires.empty e.wakes e.state);
+    }

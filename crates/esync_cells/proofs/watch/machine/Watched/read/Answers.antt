@@ -7,23 +7,23 @@ use Rattle.esync_cells.specs.declared.watch.machine.WatchHeard.TheVariants.{Foun
 use Rattle.esync_cells.proofs.WatchKept.{read_object}
 use Rattle.esync_cells.proofs.watch.machine.Watched.read.Goals as goal
 
-pub returns-in-Ok-clause-allowed : goal.returns-in-Ok-clause-allowed
-returns-in-Ok-clause-allowed g c =
-    let s = c.self.inside.state in
-    let q = c.self.inside.receivers in
-    let there = sym c.get.ensures ∙ c.in-Some.is in
-    let object = read_object c.args.self.now c.mark.new.self s q c.args.h c.try_reading.new.seen _ c.self.view_is c.mark.ensures c.in-Ok.ensures.seen in
-    rw (← c.self.view_is) (subst (λ p. Reads g.T.Clone.is_clone g.T.Clone.is_infallible g.J.Judge.passes p c.args.h c.args.read.now (watch_of (record { state = s; receivers = q })) (Gives (Found c.in-Ok.found)) (watch_of c.mark.new.self)) (sym there) (Ok c.in-Ok.found, c.in-Ok.ensures.answer, (refl, object)))
+pub returns-in-Ok : goal.returns-in-Ok
+returns-in-Ok g c = record {
+  allowed = (
+      let s = c.self.inside.state in
+      let q = c.self.inside.receivers in
+      let there = sym c.get.ensures ∙ c.in-Some.is in
+      let object = read_object c.args.self.now c.mark.new.self s q c.args.h c.try_reading.new.seen _ c.self.view_is c.mark.ensures c.in-Ok.ensures.seen in
+      rw (← c.self.view_is) (subst (λ p. Reads g.T.Clone.is_clone g.T.Clone.is_infallible g.J.Judge.passes p c.args.h c.args.read.now (watch_of (record { state = s; receivers = q })) (Gives (Found c.in-Ok.found)) (watch_of c.mark.new.self)) (sym there) (Ok c.in-Ok.found, c.in-Ok.ensures.answer, (refl, object))));
+  waiters = ap (λ (s : Followed _ _). s.state.waiters) c.mark.ensures;
+}
 
-pub returns-in-Ok-clause-waiters : goal.returns-in-Ok-clause-waiters
-returns-in-Ok-clause-waiters g c = ap (λ (s : Followed _ _). s.state.waiters) c.mark.ensures
-
-pub returns-in-Err-clause-allowed : goal.returns-in-Err-clause-allowed
-returns-in-Err-clause-allowed g c =
-    let s = c.self.inside.state in
-    let q = c.self.inside.receivers in
-    let there = sym c.get.ensures ∙ c.in-Some.is in
-    rw (← c.self.view_is) (subst (λ p. Reads g.T.Clone.is_clone g.T.Clone.is_infallible g.J.Judge.passes p c.args.h c.args.read.now (watch_of (record { state = s; receivers = q })) NoMemory (watch_of (record { state = s; receivers = q }))) (sym there) (Err c.in-Err.field-0, c.in-Err.ensures.answer, (refl, refl)))
-
-pub returns-in-Err-clause-waiters : goal.returns-in-Err-clause-waiters
-returns-in-Err-clause-waiters g c = refl
+pub returns-in-Err : goal.returns-in-Err
+returns-in-Err g c = record {
+  allowed = (
+      let s = c.self.inside.state in
+      let q = c.self.inside.receivers in
+      let there = sym c.get.ensures ∙ c.in-Some.is in
+      rw (← c.self.view_is) (subst (λ p. Reads g.T.Clone.is_clone g.T.Clone.is_infallible g.J.Judge.passes p c.args.h c.args.read.now (watch_of (record { state = s; receivers = q })) NoMemory (watch_of (record { state = s; receivers = q }))) (sym there) (Err c.in-Err.field-0, c.in-Err.ensures.answer, (refl, refl))));
+  waiters = refl;
+}

@@ -9,18 +9,13 @@ invariant_of-self g c =
     let value = Some c.args.value in
     (c.self.invariant.0, same_count s c.send.new.self value true r (c.send.ensures.state ∙ sent_as s value r) ∙ c.self.invariant.1)
 
-pub returns-clause-allowed : goal.returns-clause-allowed
-returns-clause-allowed g c =
+pub returns : goal.returns
+returns g c =
     let s = c.self.inside.state in
     let r = c.send.result in
     let e = c.send.ensures in
     let value = Some c.args.value in
-    rw (← c.self.view_is) (r, refl, puts s c.send.new.self value c.self.inside.receivers true r e.room e.exhausted (e.state ∙ sent_as s value r), e.returned)
-
-pub returns-clause-exact : goal.returns-clause-exact
-returns-clause-exact g c =
-    let s = c.self.inside.state in
-    let r = c.send.result in
-    let e = c.send.ensures in
-    let value = Some c.args.value in
-    rw (← c.self.view_is) (hands s c.send.new.self value c.args.wakes.now c.send.new.wakes true r c.requires.empty (e.wakes ∙ ap (λ l. c.args.wakes.now ++ l) (woken_as s value r)) (e.state ∙ sent_as s value r))
+    record {
+      allowed = rw (← c.self.view_is) (r, refl, puts s c.send.new.self value c.self.inside.receivers true r e.room e.exhausted (e.state ∙ sent_as s value r), e.returned);
+      exact = rw (← c.self.view_is) (hands s c.send.new.self value c.args.wakes.now c.send.new.wakes true r c.requires.empty (e.wakes ∙ ap (λ l. c.args.wakes.now ++ l) (woken_as s value r)) (e.state ∙ sent_as s value r));
+    }

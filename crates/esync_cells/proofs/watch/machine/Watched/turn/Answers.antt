@@ -11,51 +11,51 @@ poll_reading-requires g c =
     let place = c.has_place.ensures in
     (search rules, (search rules, (place, subst (λ l. length l + g.row.N ≤ g.row.K) (sym c.requires.empty) (omega (arith, c.requires.room)))))
 
-pub returns-in-Ok-Ready-clause-allowed : goal.returns-in-Ok-Ready-clause-allowed
-returns-in-Ok-Ready-clause-allowed g c =
-    let s = c.self.inside.state in
-    let is = c.in-Ok-Ready.is ∙ ap Ok c.in-Ok-Ready.field-0-is in
-    let seen = rw (← c.self.view_is) at c.seen_at-seen.ensures in
-    let answer = rw (seen, is) at c.poll_reading.ensures.answer in
-    let marked = rw is at c.poll_reading.ensures.seen in
-    let object = marked_object s c.poll_reading.new.state c.self.inside.receivers c.args.held.receiver c.poll_reading.new.seen _ c.mark.new.self c.poll_reading.ensures.state marked c.mark.ensures in
-    rw (← c.self.view_is) (Ok (Some c.in-Ok-Ready.value), answer, (c.over.ensures.answer, object, c.over.ensures.place))
+pub returns-in-Ok-Ready : goal.returns-in-Ok-Ready
+returns-in-Ok-Ready g c = record {
+  allowed = (
+      let s = c.self.inside.state in
+      let is = c.in-Ok-Ready.is ∙ ap Ok c.in-Ok-Ready.field-0-is in
+      let seen = rw (← c.self.view_is) at c.seen_at-seen.ensures in
+      let answer = rw (seen, is) at c.poll_reading.ensures.answer in
+      let marked = rw is at c.poll_reading.ensures.seen in
+      let object = marked_object s c.poll_reading.new.state c.self.inside.receivers c.args.held.receiver c.poll_reading.new.seen _ c.mark.new.self c.poll_reading.ensures.state marked c.mark.ensures in
+      rw (← c.self.view_is) (Ok (Some c.in-Ok-Ready.value), answer, (c.over.ensures.answer, object, c.over.ensures.place)));
+  exact = (
+      let is = c.in-Ok-Ready.is ∙ ap Ok c.in-Ok-Ready.field-0-is in
+      let wakes = rw is at c.poll_reading.ensures.wakes in
+      let state = rw is at c.poll_reading.ensures.state in
+      rw (← c.self.view_is, c.over.ensures.answer) (wakes ∙ ap (λ l. l ++ []) c.requires.empty, ap (λ (m : Followed _ _). m.state.waiters) c.mark.ensures ∙ ap (λ (s : Watching _ _). s.waiters) state));
+}
 
-pub returns-in-Ok-Pending-clause-allowed : goal.returns-in-Ok-Pending-clause-allowed
-returns-in-Ok-Pending-clause-allowed g c =
-    let s = c.self.inside.state in
-    let is = c.in-Ok-Pending.is ∙ ap Ok c.in-Ok-Pending.field-0-is in
-    let seen = rw (← c.self.view_is) at c.seen_at-seen.ensures in
-    let answer = rw (seen, is) at c.poll_reading.ensures.answer in
-    let object = waiting_object s c.poll_reading.new.state c.self.inside.receivers _ c.poll_reading.ensures.state in
-    rw (← c.self.view_is) (Ok None, answer, (c.waits.ensures.answer, object, c.waits.ensures.place))
+pub returns-in-Ok-Pending : goal.returns-in-Ok-Pending
+returns-in-Ok-Pending g c = record {
+  allowed = (
+      let s = c.self.inside.state in
+      let is = c.in-Ok-Pending.is ∙ ap Ok c.in-Ok-Pending.field-0-is in
+      let seen = rw (← c.self.view_is) at c.seen_at-seen.ensures in
+      let answer = rw (seen, is) at c.poll_reading.ensures.answer in
+      let object = waiting_object s c.poll_reading.new.state c.self.inside.receivers _ c.poll_reading.ensures.state in
+      rw (← c.self.view_is) (Ok None, answer, (c.waits.ensures.answer, object, c.waits.ensures.place)));
+  exact = (
+      let is = c.in-Ok-Pending.is ∙ ap Ok c.in-Ok-Pending.field-0-is in
+      let wakes = rw is at c.poll_reading.ensures.wakes in
+      let state = rw is at c.poll_reading.ensures.state in
+      rw (← c.self.view_is, c.waits.ensures.answer) (wakes ∙ ap (λ l. l ++ displaced g.W.PartialEq.eq g.row.N c.self.inside.state.waiters c.args.cx.now) c.requires.empty, ap (λ (s : Watching _ _). s.waiters) state));
+}
 
-pub returns-in-Err-clause-allowed : goal.returns-in-Err-clause-allowed
-returns-in-Err-clause-allowed g c =
-    let s = c.self.inside.state in
-    let is = c.in-Err.is in
-    let seen = rw (← c.self.view_is) at c.seen_at-seen.ensures in
-    let answer = rw (seen, is) at c.poll_reading.ensures.answer in
-    let object = waiting_object s c.poll_reading.new.state c.self.inside.receivers _ c.poll_reading.ensures.state in
-    rw (← c.self.view_is) (Err _, answer, (refl, object, refl))
-
-pub returns-in-Ok-Ready-clause-exact : goal.returns-in-Ok-Ready-clause-exact
-returns-in-Ok-Ready-clause-exact g c =
-    let is = c.in-Ok-Ready.is ∙ ap Ok c.in-Ok-Ready.field-0-is in
-    let wakes = rw is at c.poll_reading.ensures.wakes in
-    let state = rw is at c.poll_reading.ensures.state in
-    rw (← c.self.view_is, c.over.ensures.answer) (wakes ∙ ap (λ l. l ++ []) c.requires.empty, ap (λ (m : Followed _ _). m.state.waiters) c.mark.ensures ∙ ap (λ (s : Watching _ _). s.waiters) state)
-
-pub returns-in-Ok-Pending-clause-exact : goal.returns-in-Ok-Pending-clause-exact
-returns-in-Ok-Pending-clause-exact g c =
-    let is = c.in-Ok-Pending.is ∙ ap Ok c.in-Ok-Pending.field-0-is in
-    let wakes = rw is at c.poll_reading.ensures.wakes in
-    let state = rw is at c.poll_reading.ensures.state in
-    rw (← c.self.view_is, c.waits.ensures.answer) (wakes ∙ ap (λ l. l ++ displaced g.W.PartialEq.eq g.row.N c.self.inside.state.waiters c.args.cx.now) c.requires.empty, ap (λ (s : Watching _ _). s.waiters) state)
-
-pub returns-in-Err-clause-exact : goal.returns-in-Err-clause-exact
-returns-in-Err-clause-exact g c =
-    let is = c.in-Err.is in
-    let wakes = rw is at c.poll_reading.ensures.wakes in
-    let state = rw is at c.poll_reading.ensures.state in
-    rw (← c.self.view_is) (wakes ∙ ap (λ l. l ++ []) c.requires.empty, ap (λ (s : Watching _ _). s.waiters) state)
+pub returns-in-Err : goal.returns-in-Err
+returns-in-Err g c = record {
+  allowed = (
+      let s = c.self.inside.state in
+      let is = c.in-Err.is in
+      let seen = rw (← c.self.view_is) at c.seen_at-seen.ensures in
+      let answer = rw (seen, is) at c.poll_reading.ensures.answer in
+      let object = waiting_object s c.poll_reading.new.state c.self.inside.receivers _ c.poll_reading.ensures.state in
+      rw (← c.self.view_is) (Err _, answer, (refl, object, refl)));
+  exact = (
+      let is = c.in-Err.is in
+      let wakes = rw is at c.poll_reading.ensures.wakes in
+      let state = rw is at c.poll_reading.ensures.state in
+      rw (← c.self.view_is) (wakes ∙ ap (λ l. l ++ []) c.requires.empty, ap (λ (s : Watching _ _). s.waiters) state));
+}
