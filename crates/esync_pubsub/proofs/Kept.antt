@@ -9,15 +9,15 @@ use Rattle.esync_base.specs.RegistrationLaws.{kept_or_displaced_if}
 use Rattle.esync_base.specs.ListedLaws.{true_or_false, same_or_not}
 use Rattle.esync_base.specs.declared.waitqueue.Poll.{Poll}
 use Rattle.esync_base.specs.declared.waitqueue.Poll.TheVariants.{Pending as NotYet, Ready}
-use Rattle.esync_pubsub.specs.Log.{Log, oldest, is_read, trimmed, number_of, has_subscribers, is_live, position, published, with_room, moved, settled, left, without, cleared, lags, caught, caught_if, found, gap, Joins, Accepts, Publishes, PublishesAtOnce, Reads, ReadsOn, Streams}
+use Rattle.esync_log.specs.Log.{Log, oldest, is_read, trimmed, number_of, has_subscribers, is_live, position, published, with_room, moved, settled, left, without, cleared, lags, caught, caught_if, found, gap, Joins, Accepts, Publishes, PublishesAtOnce, Reads, ReadsOn, Streams}
 use Rattle.esync_pubsub.specs.PubSub.{Lists, frees, lists_after_news, wakes_of_news, lists_after_room, wakes_of_room, lists_after_immediate, wakes_of_immediate, lists_after_publish, wakes_of_publish, lists_after_read, wakes_of_read, lists_after_stream, wakes_of_stream}
 use Rattle.esync_pubsub.specs.PubSubRules.{OwesNews, OwesRoom, IsBelow, read_log}
-use Rattle.esync_pubsub.proofs.Logged.{place_below, free_below}
-use Rattle.esync_pubsub.specs.declared.pubsub.TryPublishError.{TryPublishError}
-use Rattle.esync_pubsub.specs.declared.pubsub.TryPublishError.TheVariants.{Full, Exhausted}
-use Rattle.esync_pubsub.specs.declared.pubsub.Exhausted.{Exhausted as NoNumber}
-use Rattle.esync_pubsub.specs.declared.pubsub.WaitResult.{WaitResult}
-use Rattle.esync_pubsub.specs.declared.pubsub.WaitResult.TheVariants.{Lagged, Message as Given}
+use Rattle.esync_log.specs.LogLaws.{place_below, free_below}
+use Rattle.esync_log.specs.declared.log.TryPublishError.{TryPublishError}
+use Rattle.esync_log.specs.declared.log.TryPublishError.TheVariants.{Full, Exhausted}
+use Rattle.esync_log.specs.declared.log.Exhausted.{Exhausted as NoNumber}
+use Rattle.esync_log.specs.declared.log.WaitResult.{WaitResult}
+use Rattle.esync_log.specs.declared.log.WaitResult.TheVariants.{Lagged, Message as Given}
 
 -- another position at one place
 pub some_set : (ps : List (Option ℕ)) (i p : ℕ) → list_any is_some ps ≡ true → list_any is_some (slice_set ps i (Some p)) ≡ true

@@ -1,7 +1,3 @@
-pub mod Beside
-pub mod Counted
-pub mod Logged
-pub mod Lagging
 pub mod Shared
 pub mod Kept
 pub mod Turns

@@ -10,7 +10,7 @@ use Rattle.esync_pubsub.specs.Events.{Tables, AreNamed}
 use Rattle.esync_pubsub.specs.PubSub.{PubSub}
 use Rattle.esync_pubsub.specs.PubSubRules.{Topic, topic_of, names_it, place_at, is_subscriber, reach, Polls, Calls, poll_hands, call_hands, pubsub_rules, OwesFor}
 use Rattle.esync_pubsub.proofs.Calls.{Stays, stays_called}
-use Rattle.esync_pubsub.proofs.Logged.{some_number}
+use Rattle.esync_log.specs.LogLaws.{some_number}
 use Rattle.esync_pubsub.proofs.Turns.{AreHere, here_by, polled_kept, polled_registered}
 use Rattle.esync_pubsub.specs.declared.pubsub.machine.PubSubAsk.{PubSubAsk}
 use Rattle.esync_pubsub.specs.declared.pubsub.machine.PubSubCall.{PubSubCall}

@@ -7,7 +7,7 @@ use Rattle.esync_base.specs.ListedLaws.{same_or_not}
 use Rattle.esync_machine.specs.Numbers.{at_number}
 use Rattle.esync_machine.specs.NumbersLaws.{there_of, at_of, at_set, at_set_here, at_set_other, nothing_there}
 use Rattle.esync_pubsub.specs.Events.{Tables, AreNamed, used}
-use Rattle.esync_pubsub.specs.Log.{Log, is_live, left, Joins}
+use Rattle.esync_log.specs.Log.{Log, is_live, left, Joins}
 use Rattle.esync_pubsub.specs.PubSub.{PubSub, fresh, Subscribes, Adds}
 use Rattle.esync_pubsub.specs.PubSubRules.{topic_of, Counts, is_place, is_free}
 use Rattle.esync_machine.specs.declared.primitive.Answer.TheVariants.{Gives}
@@ -15,7 +15,7 @@ use Rattle.esync_pubsub.specs.declared.pubsub.Error.{Error}
 use Rattle.esync_pubsub.specs.declared.pubsub.Error.TheVariants.{MaximumSubscribersReached, MaximumPublishersReached}
 use Rattle.esync_pubsub.specs.declared.pubsub.machine.PubSubHeard.TheVariants.{Came}
 use Rattle.esync_pubsub.proofs.Kept.{left_live, gone_live, join_here, join_live}
-use Rattle.esync_pubsub.proofs.Logged.{free_there}
+use Rattle.esync_log.specs.LogLaws.{free_there}
 
 -- who stands at a free number, and at one that isn't
 pub free_is : {N : Type 0} (p : Option (Option N)) → is_place p ≡ true → p ≡ Some None

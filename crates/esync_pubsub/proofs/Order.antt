@@ -20,14 +20,14 @@ use Rattle.esync_machine.specs.declared.primitive.Reach.TheVariants.{Number as A
 use Rattle.esync_machine.specs.declared.primitive.Command.{Command}
 use Rattle.esync_machine.specs.declared.primitive.Command.TheVariants.{Start, Poll, End, Call}
 use Rattle.esync_pubsub.specs.Events.{Eventing, AreNamed}
-use Rattle.esync_pubsub.specs.Log.{Log, oldest, number_of, has_subscribers, is_live, position, published, with_room, moved, without, left, cleared, lags, caught, gap, Accepts, Joins, Publishes, PublishesAtOnce, Reads, ReadsOn}
+use Rattle.esync_log.specs.Log.{Log, oldest, number_of, has_subscribers, is_live, position, published, with_room, moved, without, left, cleared, lags, caught, gap, Accepts, Joins, Publishes, PublishesAtOnce, Reads, ReadsOn}
 use Rattle.esync_pubsub.specs.PubSub.{PubSub}
 use Rattle.esync_pubsub.specs.PubSubRules.{Topic, topic_of, place_at, is_subscriber, is_free, is_publisher, names_it, reach, rest_of, departed, WithLog, Begins, IsBelow, PollsLog, Polls, Comes, Counts, TriesPublish, AtOnce, Tries, TriesPure, Calls, pubsub_rules}
 use Rattle.esync_pubsub.specs.Order.{Reading, Told, Account, and, published_by_poll, published_by_call, reading_of, pure_reading_of, read_by_poll, read_by_call, more, told_by_call, after, AreUnread, Follow, HasRead, ReadsInOrder, unread_by_poll, unread_by_call, unread_told, HasUnread, CountsUnread}
-use Rattle.esync_pubsub.specs.declared.pubsub.TryPublishError.TheVariants.{Full, Exhausted}
+use Rattle.esync_log.specs.declared.log.TryPublishError.TheVariants.{Full, Exhausted}
 use Rattle.esync_pubsub.specs.declared.pubsub.Error.TheVariants.{MaximumSubscribersReached, MaximumPublishersReached}
-use Rattle.esync_pubsub.specs.declared.pubsub.WaitResult.{WaitResult}
-use Rattle.esync_pubsub.specs.declared.pubsub.WaitResult.TheVariants.{Message as Given}
+use Rattle.esync_log.specs.declared.log.WaitResult.{WaitResult}
+use Rattle.esync_log.specs.declared.log.WaitResult.TheVariants.{Message as Given}
 use Rattle.esync_pubsub.specs.declared.pubsub.machine.PubSubAsk.{PubSubAsk}
 use Rattle.esync_pubsub.specs.declared.pubsub.machine.PubSubAsk.TheVariants.{Publish, Message, MessagePure, Stream}
 use Rattle.esync_pubsub.specs.declared.pubsub.machine.PubSubCall.{PubSubCall}
@@ -36,7 +36,7 @@ use Rattle.esync_pubsub.specs.declared.pubsub.machine.PubSubHeard.{PubSubHeard}
 use Rattle.esync_pubsub.specs.declared.pubsub.machine.PubSubHeard.TheVariants.{Published, Read, ReadPure, Streamed, Came, TriedPublish, PublishedAtOnce, Tried, TriedPure, Unread}
 use Rattle.esync_pubsub.proofs.Calls.{where_done}
 use Rattle.esync_pubsub.proofs.Kept.{GoesOn, read_goes, pure_goes}
-use Rattle.esync_pubsub.proofs.Logged.{free_below, free_there, some_number}
+use Rattle.esync_log.specs.LogLaws.{free_below, free_there, some_number}
 use Rattle.esync_pubsub.proofs.Named.{free_is, named_new, named_same, named_join, named_leave}
 use Rattle.esync_pubsub.proofs.Unread.{IsEnd, end_same, end_none, end_settled, end_room, IsNumbered, numbered_end, unread_end, unread_published, Tells, read_tells, pure_tells, stream_tells, read_end, pure_end, follow_published, follow_reading}
 

@@ -1,15 +1,16 @@
 -- What a read tells of where its subscriber stood, and what it hands out.
 use Rattle.std.proofs.Common.{◌≡◌, ℕ, zero, suc, ◌-◌, ◌<◌, ◌≤◌, Bool, true, false, List, [], ◌∷◌, ◌++◌, length, Option, Some, None, refl, ap, arith, ◌∙◌}
-use Rattle.std.specs.Prelude.{slice_get}
+use Rattle.std.specs.Prelude.{nat_lt, slice_get}
+use Rattle.std.proofs.lemmas.Bool.Decides.{nat_tests}
 use Rattle.esync_base.specs.declared.waitqueue.Poll.{Poll}
 use Rattle.esync_base.specs.declared.waitqueue.Poll.TheVariants.{Pending as NotYet, Ready}
 use Rattle.esync_machine.specs.Wakings.{IsHanded}
-use Rattle.esync_pubsub.specs.Log.{Log, oldest, position, lags, caught, caught_if, found, Gives, Reads, ReadsOn, Streams, IsRefused}
+use Rattle.esync_log.specs.Log.{Log, oldest, position, lags, caught, caught_if, found, Gives, Reads, ReadsOn, Streams, IsRefused}
 use Rattle.esync_pubsub.specs.PubSub.{Lists, frees, lists_after_read, wakes_of_read, lists_after_stream, wakes_of_stream}
 use Rattle.esync_pubsub.specs.PubSubRules.{IsBelow, read_hands, pure_hands, stream_hands}
 use Rattle.esync_pubsub.proofs.Kept.{read_is}
-use Rattle.esync_pubsub.specs.declared.pubsub.WaitResult.{WaitResult}
-use Rattle.esync_pubsub.specs.declared.pubsub.WaitResult.TheVariants.{Lagged, Message as Given}
+use Rattle.esync_log.specs.declared.log.WaitResult.{WaitResult}
+use Rattle.esync_log.specs.declared.log.WaitResult.TheVariants.{Lagged, Message as Given}
 
 got_below : {T : Type 0} (xs : List T) (k : ℕ) (x : T) → slice_get xs k ≡ Some x → k < length xs
 got_below [] k x e = absurd cc
@@ -25,6 +26,10 @@ module _ {T : Type 0} where
   read_below C place log log2 None n h = tt
   read_below C place log log2 (Some (Lagged k)) n h = omega (arith, h.0)
   read_below C place log log2 (Some (Given v)) n h = (let k = given_below C _ (position place log - oldest log) log.held v h.gives in omega (arith, k, h.from, n))
+
+  -- a lag that was read frees nothing
+  pub lag_frees : (place : ℕ) (log : Log T) (C : T → T → Type 0) (log2 : Log T) (k : ℕ) → Reads C place log (Some (Lagged k)) log2 → frees log log2 ≡ false
+  lag_frees place log C log2 k r = rw r.2 (let e : nat_lt (length log.held) (length log.held) ≡ false = grind (arith, nat_tests) in e)
 
   pub refused_below : (I : T → Type 0) (place n : ℕ) (log : Log T) → length log.held ≤ log.next → IsRefused I place n log → n < log.next
   refused_below I place n log m h = (let k = got_below log.held (n - oldest log) h.fails.message h.fails.here in omega (arith, k, h.from, m))

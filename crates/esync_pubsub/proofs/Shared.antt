@@ -4,11 +4,11 @@ use Rattle.std.specs.Prelude.{max, Option, Some, None, Result, Ok, Err, IfSome, 
 use Rattle.std.proofs.lemmas.Bool.Decides.{nat_tests}
 use Rattle.esync_base.specs.declared.waitqueue.Poll.{Poll}
 use Rattle.esync_base.specs.declared.waitqueue.Poll.TheVariants.{Pending}
-use Rattle.esync_pubsub.specs.Log.{Log, has_subscribers, is_live, position, lags, caught, Publishes, Reads, ReadsOn, Streams, IsRefused}
+use Rattle.esync_log.specs.Log.{Log, has_subscribers, is_live, position, lags, caught, Publishes, Reads, ReadsOn, Streams, IsRefused}
 use Rattle.esync_pubsub.specs.PubSub.{PubSub, Lists, frees, heard, tried, still, lists_after_publish, wakes_of_publish, lists_after_read, wakes_of_read, lists_after_stream, wakes_of_stream}
 use Rattle.esync_pubsub.specs.Steps.{IfThere, answered, Reading, PollingPublish, ReadingNext, ReadingOn, Streaming}
-use Rattle.esync_pubsub.specs.declared.pubsub.Exhausted.{Exhausted as NoNumber}
-use Rattle.esync_pubsub.specs.declared.pubsub.WaitResult.{WaitResult}
+use Rattle.esync_log.specs.declared.log.Exhausted.{Exhausted as NoNumber}
+use Rattle.esync_log.specs.declared.log.WaitResult.{WaitResult}
 use Rattle.esync_pubsub.proofs.Reading.{alone}
 
 module _ {W : Type 0} (subs pubs k : ℕ) (wakes : List W) where

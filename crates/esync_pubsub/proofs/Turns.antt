@@ -10,11 +10,11 @@ use Rattle.esync_machine.specs.declared.primitive.Answer.TheVariants.{Pending, N
 use Rattle.esync_machine.specs.Numbers.{at_number}
 use Rattle.esync_machine.specs.Rules.{IsApart, IsOwed}
 use Rattle.esync_machine.specs.Wakings.{Handed, IsHanded, unless_refused}
-use Rattle.esync_pubsub.specs.Log.{Log, is_live, position, oldest, moved, lags, gap, settled, Reads, number_of}
+use Rattle.esync_log.specs.Log.{Log, is_live, position, oldest, moved, lags, gap, settled, Reads, number_of}
 use Rattle.esync_pubsub.specs.PubSub.{Lists, tried, frees, lists_after_stream, wakes_of_stream}
 use Rattle.esync_pubsub.specs.PubSubRules.{Topic, IsBelow, Where, WithLog, PollsLog, Polls, names_it, place_at, is_subscriber, rest_of, poll_hands, OwesNews, OwesRoom, OwesFor, most_wakes, PollsMessage, PollsPure, PollsStream, read_hands, pure_hands, stream_hands, read_of, pure_of, stream_of}
 use Rattle.esync_pubsub.proofs.Kept.{Keeps, keeps_same, keeps_publish, keeps_read, keeps_pure, keeps_stream}
-use Rattle.esync_pubsub.proofs.Logged.{place_below, some_number}
+use Rattle.esync_log.specs.LogLaws.{place_below, some_number}
 use Rattle.esync_pubsub.specs.declared.pubsub.machine.PubSubAsk.{PubSubAsk}
 use Rattle.esync_pubsub.specs.declared.pubsub.machine.PubSubAsk.TheVariants.{Publish, Message, MessagePure, Stream}
 use Rattle.esync_pubsub.specs.declared.pubsub.machine.PubSubHeard.{PubSubHeard}

@@ -4,13 +4,13 @@ use Rattle.std.specs.Prelude.{nat_lt, slice_get, if◌then◌else◌}
 use Rattle.std.proofs.lemmas.Bool.Decides.{nat_tests}
 use Rattle.std.proofs.lemmas.List.{length_push, length-drop, drop-drop, drop-append-le, drop_all}
 use Rattle.esync_base.specs.ListedLaws.{true_or_false}
-use Rattle.esync_pubsub.specs.Log.{Log, oldest, is_read, trimmed, is_live, position, published, moved, settled, lags, caught, found, gap, Gives, Takes, Reads, ReadsOn, Streams}
+use Rattle.esync_log.specs.Log.{Log, oldest, is_read, trimmed, is_live, position, published, moved, settled, lags, caught, found, gap, Gives, Takes, Reads, ReadsOn, Streams}
 use Rattle.esync_pubsub.specs.Order.{Reading, reading_of, pure_reading_of, Skips, behind, AreUnread, IsGiven, Follow}
 use Rattle.esync_pubsub.proofs.Kept.{caught_held}
-use Rattle.esync_pubsub.proofs.Lagging.{caught_lagging, caught_up, moved_live, moved_position}
+use Rattle.esync_log.specs.LogLaws.{caught_lagging, caught_up, moved_live, moved_position}
 use Rattle.esync_base.specs.declared.waitqueue.Poll.TheVariants.{Pending as NotYet}
-use Rattle.esync_pubsub.specs.declared.pubsub.WaitResult.{WaitResult}
-use Rattle.esync_pubsub.specs.declared.pubsub.WaitResult.TheVariants.{Lagged, Message as Given}
+use Rattle.esync_log.specs.declared.log.WaitResult.{WaitResult}
+use Rattle.esync_log.specs.declared.log.WaitResult.TheVariants.{Lagged, Message as Given}
 
 module _ {T : Type 0} where
   -- those that are held, the oldest of which has the number o, and those from the number p on are the same, as far as both go

@@ -4,7 +4,7 @@ use Rattle.std.specs.List.{count_by}
 use Rattle.std.specs.Coded.{Coded, code_by, coded×, coded_ℕ, coded_list, coded_option}
 use base.Stored.{coded_unit}
 use Rattle.esync_machine.specs.Numbers.{at_number}
-use Rattle.esync_pubsub.specs.Log.{is_live}
+use Rattle.esync_log.specs.Log.{is_live}
 use Rattle.esync_pubsub.specs.PubSub.{PubSub}
 
 -- the place of each subscriber that has a number, and the numbers of the publishers

@@ -1,5 +1,3 @@
-pub mod Log
-pub mod Counts
 pub mod PubSub
 pub mod Steps
 pub mod Events

@@ -2,12 +2,12 @@
 use Rattle.std.specs.Prelude.{◌≡◌, ℕ, ◌+◌, ◌<◌, Bool, true, false, List, [], ◌∷◌, length, Option, Some, None, Result, Ok, Err, nat_lt, replicate, refl}
 use Rattle.std.specs.Coded.{Coded, code_by, coded×, coded_ℕ, coded_list}
 use Rattle.esync_base.specs.Registration.{registered, displaced, registered_if, displaced_if}
-use Rattle.esync_pubsub.specs.Log.{Log, log_code, Joins}
+use Rattle.esync_log.specs.Log.{Log, log_code, Joins}
 use Rattle.esync_base.specs.declared.waitqueue.Poll.{Poll}
 use Rattle.esync_base.specs.declared.waitqueue.Poll.TheVariants.{Pending, Ready}
-use Rattle.esync_pubsub.specs.declared.pubsub.TryPublishError.{TryPublishError}
-use Rattle.esync_pubsub.specs.declared.pubsub.TryPublishError.TheVariants.{Full, Exhausted}
-use Rattle.esync_pubsub.specs.declared.pubsub.Exhausted.{Exhausted as NoNumber}
+use Rattle.esync_log.specs.declared.log.TryPublishError.{TryPublishError}
+use Rattle.esync_log.specs.declared.log.TryPublishError.TheVariants.{Full, Exhausted}
+use Rattle.esync_log.specs.declared.log.Exhausted.{Exhausted as NoNumber}
 use Rattle.esync_pubsub.specs.declared.pubsub.Error.{Error}
 use Rattle.esync_pubsub.specs.declared.pubsub.Error.TheVariants.{MaximumSubscribersReached, MaximumPublishersReached}
 

@@ -6,10 +6,10 @@ use Rattle.esync_base.specs.declared.waitqueue.Poll.TheVariants.{Ready}
 use Rattle.esync_machine.specs.Rules.{IsIdle, IdleIsPending}
 use Rattle.esync_machine.specs.declared.primitive.Answer.{Answer}
 use Rattle.esync_machine.specs.declared.primitive.Answer.TheVariants.{Pending, NoMemory, Gives}
-use Rattle.esync_pubsub.specs.Log.{Log, oldest, position, lags, caught_if, gap, Publishes, Reads}
+use Rattle.esync_log.specs.Log.{Log, oldest, position, lags, caught_if, gap, Publishes, Reads}
 use Rattle.esync_pubsub.specs.PubSub.{Lists, tried}
 use Rattle.esync_pubsub.specs.PubSubRules.{Topic, pubsub_rules, place_at, names_it, Where, WithLog, PollsLog, PollsMessage, PollsPure, PollsStream, PollsPublish, OwesFor, rest_of}
-use Rattle.esync_pubsub.specs.declared.pubsub.TryPublishError.TheVariants.{Full, Exhausted}
+use Rattle.esync_log.specs.declared.log.TryPublishError.TheVariants.{Full, Exhausted}
 use Rattle.esync_pubsub.specs.declared.pubsub.machine.PubSubAsk.{PubSubAsk}
 use Rattle.esync_pubsub.specs.declared.pubsub.machine.PubSubAsk.TheVariants.{Publish, Message, MessagePure, Stream}
 use Rattle.esync_pubsub.specs.declared.pubsub.machine.PubSubHeard.{PubSubHeard}

@@ -11,13 +11,13 @@ use Rattle.esync_machine.specs.Numbers.{at_number}
 use Rattle.esync_machine.specs.Rules.{Rules, Alone}
 use Rattle.esync_machine.specs.Wakings.{Wakings, Handed, nothing}
 use Rattle.esync_pubsub.specs.Events.{Tables, used}
-use Rattle.esync_pubsub.specs.Log.{Log, oldest, has_subscribers, position, number_of, moved, settled, left, cleared, lags, caught, found, Publishes, PublishesAtOnce, Reads, ReadsOn, Streams, IsRefused}
+use Rattle.esync_log.specs.Log.{Log, oldest, has_subscribers, position, number_of, moved, settled, left, cleared, lags, caught, found, Publishes, PublishesAtOnce, Reads, ReadsOn, Streams, IsRefused}
 use Rattle.esync_pubsub.specs.PubSub.{PubSub, Lists, Subscribes, frees, tried, lists_after_room, wakes_of_room, lists_after_publish, wakes_of_publish, lists_after_immediate, wakes_of_immediate, lists_after_read, wakes_of_read, lists_after_stream, wakes_of_stream}
 use Rattle.esync_pubsub.specs.declared.pubsub.Error.TheVariants.{MaximumPublishersReached}
-use Rattle.esync_pubsub.specs.declared.pubsub.TryPublishError.{TryPublishError}
-use Rattle.esync_pubsub.specs.declared.pubsub.Exhausted.{Exhausted as NoNumber}
-use Rattle.esync_pubsub.specs.declared.pubsub.WaitResult.{WaitResult}
-use Rattle.esync_pubsub.specs.declared.pubsub.WaitResult.TheVariants.{Lagged, Message as Given}
+use Rattle.esync_log.specs.declared.log.TryPublishError.{TryPublishError}
+use Rattle.esync_log.specs.declared.log.Exhausted.{Exhausted as NoNumber}
+use Rattle.esync_log.specs.declared.log.WaitResult.{WaitResult}
+use Rattle.esync_log.specs.declared.log.WaitResult.TheVariants.{Lagged, Message as Given}
 use Rattle.esync_pubsub.specs.declared.pubsub.machine.PubSubAsk.{PubSubAsk}
 use Rattle.esync_pubsub.specs.declared.pubsub.machine.PubSubAsk.TheVariants.{Publish, Message, MessagePure, Stream}
 use Rattle.esync_pubsub.specs.declared.pubsub.machine.PubSubCall.{PubSubCall}

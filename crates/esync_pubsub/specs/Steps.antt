@@ -3,11 +3,11 @@
 use Rattle.std.specs.Prelude.{◌≡◌, ℕ, ◌-◌, Bool, true, false, List, [], Option, Some, None, Result, Ok, Err, if◌then◌else◌, nat_eq, not}
 use Rattle.esync_base.specs.declared.waitqueue.Poll.{Poll}
 use Rattle.esync_base.specs.declared.waitqueue.Poll.TheVariants.{Pending}
-use Rattle.esync_pubsub.specs.Log.{Log, has_subscribers, is_live, position, left, cleared, Publishes, PublishesAtOnce, lags, caught, Reads, ReadsOn, Streams, IsRefused}
+use Rattle.esync_log.specs.Log.{Log, has_subscribers, is_live, position, left, cleared, Publishes, PublishesAtOnce, lags, caught, Reads, ReadsOn, Streams, IsRefused}
 use Rattle.esync_pubsub.specs.PubSub.{PubSub, Lists, frees, lists_after_room, wakes_of_room, tried, heard, lists_after_publish, wakes_of_publish, lists_after_immediate, wakes_of_immediate, lists_after_read, wakes_of_read, lists_after_stream, wakes_of_stream}
-use Rattle.esync_pubsub.specs.declared.pubsub.Exhausted.{Exhausted as NoNumber}
-use Rattle.esync_pubsub.specs.declared.pubsub.TryPublishError.{TryPublishError}
-use Rattle.esync_pubsub.specs.declared.pubsub.WaitResult.{WaitResult}
+use Rattle.esync_log.specs.declared.log.Exhausted.{Exhausted as NoNumber}
+use Rattle.esync_log.specs.declared.log.TryPublishError.{TryPublishError}
+use Rattle.esync_log.specs.declared.log.WaitResult.{WaitResult}
 
 -- the first of who is there, and the second of who isn't
 abbrev pub IfThere : Bool → Type 0 → Type 0 → Type 0

@@ -1,12 +1,13 @@
 //! A channel for many: whoever publishes reaches all who subscribed before.
 ghost use Rattle.std.specs.Prelude.{◌≡◌, ◌+◌, ◌-◌, ◌<◌, ◌≤◌, ◌++◌, ◌↔◌, IsTrue, [], None, Some, IsSome, IfSome, IfOk, OnErr, is_none, length, not, nat_lt};
-ghost use Rattle.esync_pubsub.specs.Log.{has_subscribers, is_live, position, left, cleared, Publishes, PublishesAtOnce, lags, caught, Reads, ReadsOn, Streams, IsRefused};
+ghost use Rattle.esync_log.specs.Log.{has_subscribers, is_live, position, left, cleared, Publishes, PublishesAtOnce, lags, caught, Reads, ReadsOn, Streams, IsRefused};
 ghost use Rattle.esync_pubsub.specs.PubSub.{fresh, Subscribes, Adds, frees, lists_after_news, wakes_of_news, lists_after_room, wakes_of_room, lists_after_publish, wakes_of_publish, tried, still, lists_after_immediate, wakes_of_immediate, heard, lists_after_read, wakes_of_read, lists_after_stream, wakes_of_stream};
 
 pub mod machine;
 
-use crate::log::Log;
 use esync_base::waitqueue::{Context, MultiWakerRegistration, Poll, Registered, Wakes};
+use esync_log::log::Log;
+pub use esync_log::log::{Exhausted, TryPublishError, WaitResult};
 pub use handles::{
     DynImmediatePublisher, DynPublisher, DynSubscriber, ImmediatePub, ImmediatePublisher,
     NextMessagePure, Pub, PubSink, Publisher, PublisherWaitFuture, Sub, Subscriber,
@@ -31,33 +32,6 @@ pub enum Error {
     /// As many publishers are counted as may be.
     #[error("the maximum of publishers is reached")]
     MaximumPublishersReached,
-}
-
-/// Why a message was not published. It comes back.
-#[derive(Clone, Copy, Debug, PartialEq, Eq, Error)]
-#[error_bound(T: Debug)]
-pub enum TryPublishError<T> {
-    /// As many messages are held as there is room for.
-    #[error("the channel is full")]
-    Full(T),
-    /// The numbers of messages have run out.
-    #[error("the numbers have run out")]
-    Exhausted(T),
-}
-
-/// The numbers have run out: nothing was published, and the message comes back.
-#[derive(Clone, Copy, Debug, PartialEq, Eq, Error)]
-#[error_bound(T: Debug)]
-#[error("the numbers have run out")]
-pub struct Exhausted<T>(pub T);
-
-/// What a subscriber reads.
-#[derive(Clone, Copy, Debug, PartialEq, Eq)]
-pub enum WaitResult<T> {
-    /// So many messages left before the subscriber read them.
-    Lagged(u64),
-    /// The next message.
-    Message(T),
 }
 
 /// Names a subscriber: its place.

@@ -2,9 +2,9 @@
 use Rattle.std.specs.Prelude.{ℕ, List, ◌++◌, codes, decimal, Option, Some, None, Ok, Err, if◌then◌else◌}
 use Rattle.std.specs.Option.{option_map}
 use Rattle.esync_pubsub.specs.declared.pubsub.Error.TheVariants.{MaximumSubscribersReached, MaximumPublishersReached}
-use Rattle.esync_pubsub.specs.declared.pubsub.TryPublishError.TheVariants.{Full, Exhausted}
-use Rattle.esync_pubsub.specs.declared.pubsub.WaitResult.{WaitResult}
-use Rattle.esync_pubsub.specs.declared.pubsub.WaitResult.TheVariants.{Lagged, Message as Given}
+use Rattle.esync_log.specs.declared.log.TryPublishError.TheVariants.{Full, Exhausted}
+use Rattle.esync_log.specs.declared.log.WaitResult.{WaitResult}
+use Rattle.esync_log.specs.declared.log.WaitResult.TheVariants.{Lagged, Message as Given}
 use Rattle.esync_pubsub.specs.declared.pubsub.machine.PubSubAsk.{PubSubAsk}
 use Rattle.esync_pubsub.specs.declared.pubsub.machine.PubSubAsk.TheVariants.{Publish, Message, MessagePure, Stream}
 use Rattle.esync_pubsub.specs.declared.pubsub.machine.PubSubCall.{PubSubCall}

@@ -4,7 +4,7 @@ use Rattle.std.specs.Prelude.{Option, Some, None, Result, Ok, Err, OnOk}
 use Rattle.esync_base.specs.declared.waitqueue.Poll.{Poll}
 use Rattle.esync_base.specs.declared.waitqueue.Poll.TheVariants.{Pending, Ready}
 use Rattle.esync_pubsub.specs.PubSub.{Flushes}
-use Rattle.esync_pubsub.specs.declared.pubsub.Exhausted.{Exhausted as NoNumber}
+use Rattle.esync_log.specs.declared.log.Exhausted.{Exhausted as NoNumber}
 use Rattle.esync_streams.specs.Told.{told}
 use Rattle.futures.specs.Poll.{IfReady}
 use Rattle.futures.specs.declared.task.Poll.{Poll as TaskPoll}

@@ -6,7 +6,7 @@ ghost use Rattle.esync_machine.specs.Object.{requests_meaning};
 ghost use Rattle.esync_machine.specs.Runs.{GoodRun};
 ghost use Rattle.esync_machine.specs.Wakings.{IsHanded, unless_refused};
 ghost use Rattle.esync_pubsub.specs.Events.{AreNamed};
-ghost use Rattle.esync_pubsub.specs.Log.{Log, is_live, position, left};
+ghost use Rattle.esync_log.specs.Log.{Log, is_live, position, left};
 ghost use Rattle.esync_pubsub.specs.Order.{ReadsInOrder, CountsUnread};
 ghost use Rattle.esync_pubsub.specs.PubSub.{PubSub, fresh, frees};
 ghost use Rattle.esync_pubsub.specs.PubSubRules.{topic_of, is_free, is_subscriber, is_publisher, is_of_subscriber, is_of_publisher, leaves, place_at, names_it, departed, most_wakes, Where, WithLog, Comes, Counts, TriesPublish, AtOnce, Tries, TriesPure, Calls, Polls, room_hands, immediate_of, immediate_hands, call_hands, reach, rest_of, publish_of, read_of, pure_of, stream_of, publish_hands, read_hands, pure_hands, stream_hands, poll_hands, pubsub_rules, pubsub_wakings, PollsPublish, PollsMessage, PollsPure, PollsStream, PollsLog};

@@ -1,5 +1,5 @@
 use Rattle.std.proofs.Common.{rules, sym, ap, ◌∙◌}
-use Rattle.esync_pubsub.specs.Log.{is_live}
+use Rattle.esync_log.specs.Log.{is_live}
 use Rattle.esync_pubsub.specs.PubSubRules.{topic_of}
 use Rattle.esync_pubsub.proofs.Named.{subscriber_free_below, refused_same, named_same, named_join}
 use Rattle.esync_pubsub.proofs.Turns.{where_true}

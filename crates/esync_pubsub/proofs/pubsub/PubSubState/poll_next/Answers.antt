@@ -1,8 +1,9 @@
 use Rattle.std.proofs.Common.{rules, arith, ◌++◌, ◌∙◌, ap}
 use Rattle.std.proofs.lemmas.List.{append-nil}
-use Rattle.esync_pubsub.specs.Log.{Log}
+use Rattle.esync_log.specs.Log.{Log}
 use Rattle.esync_pubsub.specs.PubSub.{PubSub, Lists, lists_after_room, wakes_of_room}
-use Rattle.esync_pubsub.proofs.Lagging.{lag_read, lag_frees, lag_gap, end_read, end_gap}
+use Rattle.esync_log.specs.LogLaws.{lag_read, lag_gap, end_read, end_gap}
+use Rattle.esync_pubsub.proofs.Reading.{lag_frees}
 use Rattle.esync_pubsub.proofs.pubsub.PubSubState.poll_next.Goals as goal
 
 -- with these lists and this log

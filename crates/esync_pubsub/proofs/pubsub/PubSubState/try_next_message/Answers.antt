@@ -1,6 +1,6 @@
 use Rattle.std.proofs.Common.{Some, rules, refl, sym, subst}
 use Rattle.std.proofs.lemmas.List.{append-nil}
-use Rattle.esync_pubsub.specs.Log.{Reads}
+use Rattle.esync_log.specs.Log.{Reads}
 use Rattle.esync_pubsub.proofs.pubsub.PubSubState.try_next_message.Goals as goal
 
 pub read-requires : goal.read-requires

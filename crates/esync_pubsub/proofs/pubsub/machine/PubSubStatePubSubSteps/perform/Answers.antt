@@ -1,6 +1,6 @@
 use Rattle.std.proofs.Common.{◌++◌, rules, refl, ap, ◌∙◌}
 use Rattle.esync_machine.specs.declared.primitive.Answer.TheVariants.{Gives}
-use Rattle.esync_pubsub.specs.Log.{is_live}
+use Rattle.esync_log.specs.Log.{is_live}
 use Rattle.esync_pubsub.specs.PubSubRules.{topic_of}
 use Rattle.esync_pubsub.specs.declared.pubsub.machine.PubSubHeard.TheVariants.{Number}
 use Rattle.esync_pubsub.proofs.Calls.{nobody_handed, at_once_live, tried_named_live, next_named_live, next_pure_named_live}

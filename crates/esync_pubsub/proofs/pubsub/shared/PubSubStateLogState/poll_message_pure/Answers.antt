@@ -1,5 +1,5 @@
 use Rattle.std.proofs.Common.{◌≡◌, true, rules}
-use Rattle.esync_pubsub.specs.Log.{is_live}
+use Rattle.esync_log.specs.Log.{is_live}
 use Rattle.esync_pubsub.proofs.Shared.{polls_on, room_subscribers, room_publishers}
 use Rattle.esync_pubsub.proofs.pubsub.shared.PubSubStateLogState.poll_message_pure.Goals as goal
 

@@ -1,5 +1,5 @@
 use Rattle.std.proofs.Common.{◌≡◌, true, None, rules}
-use Rattle.esync_pubsub.specs.Log.{is_live}
+use Rattle.esync_log.specs.Log.{is_live}
 use Rattle.esync_pubsub.proofs.Shared.{reads_on, room_publishers}
 use Rattle.esync_pubsub.proofs.pubsub.shared.PubSubStateLogState.try_next_message_pure.Goals as goal
 

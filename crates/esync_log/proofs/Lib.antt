@@ -1,0 +1,3 @@
+pub mod Beside
+pub mod Counted
+pub mod Logged

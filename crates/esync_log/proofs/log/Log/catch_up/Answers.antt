@@ -1,0 +1,13 @@
+use Rattle.std.proofs.Common.{◌≡◌, ◌<◌, sym, arith}
+use Rattle.esync_log.specs.Log.{position, oldest, caught}
+use Rattle.esync_log.specs.LogLaws.{moved_live, moved_up, caught_up}
+use Rattle.esync_log.proofs.log.Log.catch_up.Goals as goal
+
+pub returns-then-position-oldest-clause-live : goal.returns-then-position-oldest-clause-live
+returns-then-position-oldest-clause-live g c = rw c.lag_at.ensures (moved_live c.args.place c.args.self.now c.requires c.oldest-oldest.result)
+
+pub returns-then-position-oldest-clause-from : goal.returns-then-position-oldest-clause-from
+returns-then-position-oldest-clause-from g c = rw c.lag_at.ensures (moved_up c.args.place c.args.self.now c.requires c.oldest-oldest.result c.oldest-oldest.ensures)
+
+pub returns-else-position-oldest-clause-state : goal.returns-else-position-oldest-clause-state
+returns-else-position-oldest-clause-state g c = sym (caught_up c.args.place c.args.self.now (omega (arith, c.if-position-oldest.false, c.oldest-oldest.ensures, c.position.ensures.value)))

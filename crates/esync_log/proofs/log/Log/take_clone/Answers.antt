@@ -1,0 +1,56 @@
+use Rattle.std.proofs.Common.{◌<◌, ◌-◌, arith, length, rules, subst, sym}
+use Rattle.std.specs.Prelude.{slice_index}
+use Rattle.esync_log.proofs.Logged.{shared_more, log_take, log_took}
+use Rattle.esync_log.proofs.log.Log.take_clone.Goals as goal
+
+pub lower-requires : goal.lower-requires
+lower-requires g c =
+    let a = c.self.inside in
+    let at = rw (← c.self.view_is) at c.requires.live in
+    let from = rw (← c.self.view_is) at c.requires.from in
+    let held = rw (← c.self.view_is) at c.requires.held in
+    let o = rw (← c.self.view_is) at c.oldest.ensures in
+    let shared = rw (← c.self.view_is) at c.requires.shared in
+    let more = shared_more g.row.CAP g.row.SUBS a.held.messages a.held.counts a.next a.positions.row a.subscribers c.self.invariant c.args.place c.args.position at from held shared in
+    let some : 0 < slice_index a.held.counts (c.args.position - (a.next - length a.held.messages)) = omega (arith, more) in
+    (search rules, (omega (arith, o, held, from, c.self.invariant.numbered), subst (λ n. 0 < slice_index a.held.counts (c.args.position - n)) (sym o) some))
+
+pub invariant_of-self : goal.invariant_of-self
+invariant_of-self g c =
+    let a = c.self.inside in
+    let at = rw (← c.self.view_is) at c.requires.live in
+    let from = rw (← c.self.view_is) at c.requires.from in
+    let held = rw (← c.self.view_is) at c.requires.held in
+    let o = rw (← c.self.view_is) at c.oldest.ensures in
+    let shared = rw (← c.self.view_is) at c.requires.shared in
+    rw (c.lower.ensures.messages, c.lower.ensures.counts, c.put.ensures, o) (log_take g.row.CAP g.row.SUBS a.held.messages a.held.counts a.next a.positions.row a.subscribers c.self.invariant c.args.place c.args.position at from held (shared_more g.row.CAP g.row.SUBS a.held.messages a.held.counts a.next a.positions.row a.subscribers c.self.invariant c.args.place c.args.position at from held shared))
+
+pub returns : goal.returns
+returns g c = record {
+  ok = search rules;
+  state = (
+      let a = c.self.inside in
+      let at = rw (← c.self.view_is) at c.requires.live in
+      let from = rw (← c.self.view_is) at c.requires.from in
+      let held = rw (← c.self.view_is) at c.requires.held in
+      let o = rw (← c.self.view_is) at c.oldest.ensures in
+      let shared = rw (← c.self.view_is) at c.requires.shared in
+      rw (c.lower.ensures.messages, c.put.ensures, ← c.self.view_is) (log_took g.row.CAP g.row.SUBS a.held.messages a.held.counts a.next a.positions.row a.subscribers c.self.invariant c.args.place c.args.position at from held (shared_more g.row.CAP g.row.SUBS a.held.messages a.held.counts a.next a.positions.row a.subscribers c.self.invariant c.args.place c.args.position at from held shared)));
+  refused = search rules;
+  err = search rules;
+}
+
+pub oldest-requires : goal.oldest-requires
+oldest-requires g c = search rules
+
+pub message-requires : goal.message-requires
+message-requires g c = search rules
+
+pub clone-requires : goal.clone-requires
+clone-requires g c = search rules
+
+pub branch-message-requires : goal.branch-message-requires
+branch-message-requires g c = search rules
+
+pub from_residual-requires : goal.from_residual-requires
+from_residual-requires g c = search rules

@@ -1,0 +1,34 @@
+use Rattle.std.proofs.Common.{rules, ◌≡◌, ◌-◌, ◌∙◌, ap, length, arith}
+use Rattle.std.specs.Prelude.{slice_get}
+use Rattle.esync_log.proofs.Logged.{last_one, log_front, log_take_last, log_took_last}
+use Rattle.esync_log.proofs.log.Log.take_last.Goals as goal
+
+pub invariant_of-self : goal.invariant_of-self
+invariant_of-self g c =
+    let a = c.self.inside in
+    let at = rw (← c.self.view_is) at c.requires.live in
+    let from = rw (← c.self.view_is) at c.requires.from in
+    let held = rw (← c.self.view_is) at c.requires.held in
+    let last = rw (← c.self.view_is) at c.requires.last in
+    let one = last_one g.row.CAP g.row.SUBS a.held.messages a.held.counts a.next a.positions.row a.subscribers c.self.invariant c.args.place c.args.position at from held last in
+    rw (c.take_front.ensures.messages, c.take_front.ensures.counts, c.put.ensures) (log_take_last g.row.CAP g.row.SUBS a.held.messages a.held.counts a.next a.positions.row a.subscribers c.self.invariant c.args.place c.args.position at from held one)
+
+pub returns : goal.returns
+returns g c =
+    let a = c.self.inside in
+    let at = rw (← c.self.view_is) at c.requires.live in
+    let from = rw (← c.self.view_is) at c.requires.from in
+    let held = rw (← c.self.view_is) at c.requires.held in
+    let last = rw (← c.self.view_is) at c.requires.last in
+    record {
+      message = (
+          let front = log_front g.row.CAP g.row.SUBS a.held.messages a.held.counts a.next a.positions.row a.subscribers c.self.invariant c.args.place c.args.position at from held (last_one g.row.CAP g.row.SUBS a.held.messages a.held.counts a.next a.positions.row a.subscribers c.self.invariant c.args.place c.args.position at from held last) in
+          let zero : c.args.position - (a.next - length a.held.messages) ≡ 0 = omega (arith, front) in
+          rw (← c.self.view_is) (ap (λ k. slice_get a.held.messages k) zero ∙ c.in-Some.ensures.item));
+      state = (
+          let one = last_one g.row.CAP g.row.SUBS a.held.messages a.held.counts a.next a.positions.row a.subscribers c.self.invariant c.args.place c.args.position at from held last in
+          rw (c.take_front.ensures.messages, c.put.ensures, ← c.self.view_is) (log_took_last g.row.CAP g.row.SUBS a.held.messages a.held.counts a.next a.positions.row a.subscribers c.self.invariant c.args.place c.args.position at from held one));
+    }
+
+pub take_front-requires : goal.take_front-requires
+take_front-requires g c = search rules

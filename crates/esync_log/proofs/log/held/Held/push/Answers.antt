@@ -1,0 +1,30 @@
+use Rattle.std.proofs.Common.{rules, ◌<◌, length, arith}
+use Rattle.esync_log.proofs.Beside.{count_push}
+use Rattle.esync_log.proofs.log.held.Held.push.Goals as goal
+
+pub returns : goal.returns
+returns g c = record {
+  messages = search rules;
+  counts = (
+      let a = c.self.inside in
+      let room : length a.messages.items < g.row.N = rw (← c.self.view_is) at c.requires in
+      let pushed = c.in-Ok.ensures in
+      let next = c.slot_of_next-place in
+      let below : next.result < g.row.N = omega (arith, next.ensures.within) in
+      rw (c.put.ensures, ← c.self.view_is) (count_push g.row.N a.counts.row a.messages.front c.push_back.new.self.front a.messages.items c.push_back.new.self.items c.args.message next.result c.args.count c.self.invariant.0 room pushed.ok pushed.front next.ensures.place below));
+}
+
+pub slot_of_next-place-requires : goal.slot_of_next-place-requires
+slot_of_next-place-requires g c = search rules
+
+pub push_back-requires : goal.push_back-requires
+push_back-requires g c = search rules
+
+pub drop-requires : goal.drop-requires
+drop-requires g c = search rules
+
+pub unreachable-requires : goal.unreachable-requires
+unreachable-requires g c = search rules
+
+pub put-requires : goal.put-requires
+put-requires g c = search rules

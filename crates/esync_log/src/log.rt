@@ -1,0 +1,434 @@
+//! Messages with consecutive numbers, and how far each subscriber has read.
+ghost use Rattle.std.specs.Prelude.{◌≡◌, ℕ, true, false, not, nat_lt, ◌+◌, ◌-◌, ◌<◌, ◌≤◌, ◌↔◌, [], Some, None, length, is_some, IsTrue, replicate, slice_get, slice_set, slice_index_or, IfOk, OnOk, OnErr, IfSome, IfNone};
+ghost use Rattle.std.specs.List.{list_all};
+ghost use Rattle.esync_log.specs.Log.{IsLeastFree, oldest, has_subscribers, last_number, published, with_room, is_last, settled, moved, is_live, position, left, cleared, Joins, Publishes, PublishesAtOnce, ClonesAt, MayFailAt, Takes, IsRefused, Reads, ReadsOn, caught, found};
+
+use held::Held;
+use std::alloc::AllocError;
+use std::fmt::{self, Debug};
+use std::marker::Model;
+use thiserror::Error;
+
+mod held;
+mod kept;
+
+/// Why a message was not published. It comes back.
+#[derive(Clone, Copy, Debug, PartialEq, Eq, Error)]
+#[error_bound(T: Debug)]
+pub enum TryPublishError<T> {
+    /// As many messages are held as there is room for.
+    #[error("the channel is full")]
+    Full(T),
+    /// The numbers of messages have run out.
+    #[error("the numbers have run out")]
+    Exhausted(T),
+}
+
+/// The numbers have run out: nothing was published, and the message comes back.
+#[derive(Clone, Copy, Debug, PartialEq, Eq, Error)]
+#[error_bound(T: Debug)]
+#[error("the numbers have run out")]
+pub struct Exhausted<T>(pub T);
+
+/// What a subscriber reads.
+#[derive(Clone, Copy, Debug, PartialEq, Eq)]
+pub enum WaitResult<T> {
+    /// So many messages left before the subscriber read them.
+    Lagged(u64),
+    /// The next message.
+    Message(T),
+}
+
+// The number that each subscriber reads next, at its place.
+#[derive(Debug, Drop)]
+struct Positions<const SUBS: usize> {
+    row: [Option<u64>; SUBS],
+}
+
+impl<const SUBS: usize> Positions<SUBS> {
+    fn new() -> Self
+        ensures { result.row ≡ replicate SUBS None }
+    {
+        Positions { row: [None; SUBS] }
+    }
+
+    fn get(&self, place: usize) -> Option<u64>
+        requires { length self.now.row ≡ SUBS }
+        ensures { result ≡ slice_index_or self.now.row place None }
+    {
+        if place < SUBS { self.row[place] } else { None }
+    }
+
+    fn put(&mut self, place: usize, position: Option<u64>)
+        requires { place < SUBS }
+        ensures { self.new.row ≡ slice_set self.old.row place position }
+    {
+        self.row[place] = position;
+    }
+
+    // The least place where nobody is.
+    fn free_place(&self) -> Option<usize>
+        requires { length self.now.row ≡ SUBS }
+        ensures found { IfSome result (λ place. IsLeastFree place self.now.row) }
+        ensures none { IfNone result (list_all is_some self.now.row ≡ true) }
+    {
+        for place in 0..SUBS {
+            if self.row[place].is_none() {
+                return Some(place);
+            }
+        }
+        None
+    }
+}
+
+/// At most `CAP` messages, and at most `SUBS` subscribers, known by their places.
+#[derive_where(Debug; T: fmt::Debug + Drop)]
+#[derive(Drop)]
+pub struct Log<T, const CAP: usize, const SUBS: usize> {
+    held: Held<T, CAP>,
+    next: u64,
+    positions: Positions<SUBS>,
+    subscribers: usize,
+}
+
+impl<T, const CAP: usize, const SUBS: usize> Model for Log<T, CAP, SUBS> {
+    ghost use Rattle.esync_log.specs.Log.{Log as Logged, log_code};
+    ghost use Rattle.esync_log.specs.Counts.{IsLog};
+
+    ghost Value = { Logged T };
+
+    ghost coded = { log_code T.code };
+
+    ghost view = { λ a. record { held = a.held.messages; next = a.next; positions = a.positions.row } };
+
+    ghost invariant = { λ a. IsLog CAP SUBS a.held.messages a.held.counts a.next a.positions.row a.subscribers };
+}
+
+impl<T: Drop, const CAP: usize, const SUBS: usize> Log<T, CAP, SUBS> {
+    /// No messages and no subscribers; the first message has the number `next`.
+    pub fn new_at(next: u64) -> Self
+        requires { 1 ≤ CAP }
+        ensures { result ≡ record { held = []; next = next; positions = replicate SUBS None } }
+    {
+        Log {
+            held: Held::new(),
+            next,
+            positions: Positions::new(),
+            subscribers: 0,
+        }
+    }
+
+    /// How many messages are held.
+    pub fn len(&self) -> usize
+        ensures value { result ≡ length self.now.held }
+        ensures within { result ≤ CAP }
+        ensures numbered { length self.now.held ≤ self.now.next }
+    {
+        self.held.len()
+    }
+
+    /// No message is held.
+    pub fn is_empty(&self) -> bool
+        ensures { IsTrue result ↔ (self.now.held ≡ []) }
+    {
+        self.held.is_empty()
+    }
+
+    /// As many messages are held as there is room for.
+    pub fn is_full(&self) -> bool
+        ensures answer { result ≡ not (nat_lt (length self.now.held) CAP) }
+        ensures within { length self.now.held ≤ CAP }
+    {
+        self.held.is_full()
+    }
+
+    /// A subscriber is at this place.
+    pub fn is_live(&self, place: usize) -> bool
+        ensures { result ≡ is_live place self.now }
+    {
+        self.positions.get(place).is_some()
+    }
+
+    /// How many messages were published that the subscriber at this place has not read, held or not.
+    pub fn available(&self, place: usize) -> u64
+        requires { IsTrue (is_live place self.now) }
+        ensures { result ≡ self.now.next - position place self.now }
+    {
+        match self.positions.get(place) {
+            Some(position) => self.next - position,
+            None => 0,
+        }
+    }
+
+    // The number of the oldest held message, or the next number where none is held.
+    fn oldest(&self) -> u64
+        ensures { result ≡ oldest self.now }
+    {
+        self.next - self.held.len() as u64
+    }
+
+    // The number of the next message.
+    fn next(&self) -> u64
+        ensures { result ≡ self.now.next }
+    {
+        self.next
+    }
+
+    // The number that the subscriber at this place reads next.
+    fn position(&self, place: usize) -> u64
+        requires { IsTrue (is_live place self.now) }
+        ensures value { result ≡ position place self.now }
+        ensures live { slice_index_or self.now.positions place None ≡ Some result }
+        ensures within { result ≤ self.now.next }
+        ensures place { place < SUBS }
+    {
+        let Some(position) = self.positions.get(place) else {
+            unreachable!()
+        };
+        position
+    }
+
+    // Moves a subscriber that reads all that is held to another position where it does.
+    fn lag_at(&mut self, place: usize, number: u64)
+        requires live { IsTrue (is_live place self.old) }
+        requires lags { position place self.old ≤ oldest self.old }
+        requires within { number ≤ oldest self.old }
+        ensures { self.new ≡ moved place number self.old }
+    {
+        self.positions.put(place, Some(number));
+    }
+
+    // Where the subscriber at this place lags, it goes on from the oldest message.
+    fn catch_up(&mut self, place: usize)
+        requires { IsTrue (is_live place self.old) }
+        ensures state { self.new ≡ caught place self.old }
+        ensures live { IsTrue (is_live place self.new) }
+        ensures from { oldest self.new ≤ position place self.new }
+    {
+        let oldest = self.oldest();
+        if self.position(place) < oldest {
+            self.lag_at(place, oldest);
+        }
+    }
+
+    /// There are subscribers.
+    pub fn has_subscribers(&self) -> bool
+        ensures { result ≡ has_subscribers self.now }
+    {
+        self.subscribers > 0
+    }
+
+    // The first held message that is not below the number: all are not, where the number lags.
+    fn first_unread(&self, number: u64) -> usize
+        ensures { result ≡ number - oldest self.now }
+    {
+        number.saturating_sub(self.oldest()) as usize
+    }
+
+    /// A subscriber comes to the least free place, and reads what is published from now on. `None`: all places are taken.
+    pub fn join(&mut self) -> Option<usize>
+        ensures { Joins self.old result self.new }
+    {
+        let Some(place) = self.positions.free_place() else {
+            return None;
+        };
+        self.positions.put(place, Some(self.next));
+        self.subscribers += 1;
+        Some(place)
+    }
+
+    /// The subscriber at this place leaves. What nobody reads any more leaves with it.
+    pub fn leave(&mut self, place: usize)
+        requires { IsTrue (is_live place self.old) }
+        ensures { self.new ≡ left place self.old }
+    {
+        let Some(position) = self.positions.get(place) else {
+            unreachable!()
+        };
+        let from = self.first_unread(position);
+        self.positions.put(place, None);
+        self.subscribers -= 1;
+        self.held.lower_from(from);
+        self.held.free();
+    }
+
+    // Puts a message behind the others, for all who are live.
+    fn hold(&mut self, message: T)
+        requires room { length self.old.held < CAP }
+        requires number { self.old.next < last_number }
+        requires live { has_subscribers self.old ≡ true }
+        ensures { self.new ≡ published message self.old }
+    {
+        self.held.push(message, self.subscribers);
+        self.next += 1;
+    }
+
+    /// Publishes a message for all who are live. Refused, it comes back, and nothing has changed. Without subscribers it is let go.
+    pub fn publish(&mut self, message: T) -> Result<(), TryPublishError<T>>
+        ensures { Publishes CAP message self.old result self.new }
+    {
+        if !self.has_subscribers() {
+            return Ok(());
+        }
+        if self.is_full() {
+            return Err(TryPublishError::Full(message));
+        }
+        if self.next == u64::MAX {
+            return Err(TryPublishError::Exhausted(message));
+        }
+        self.hold(message);
+        Ok(())
+    }
+
+    // The oldest message leaves where there is no room.
+    fn make_room(&mut self)
+        ensures state { self.new ≡ with_room CAP self.old }
+        ensures room { length self.new.held < CAP }
+    {
+        if self.is_full() {
+            self.held.pop();
+        }
+    }
+
+    /// Publishes a message at once: a full log drops its oldest message. Refused, the message comes back, and nothing has changed.
+    pub fn publish_immediate(&mut self, message: T) -> Result<(), Exhausted<T>>
+        ensures { PublishesAtOnce CAP message self.old result self.new }
+    {
+        if !self.has_subscribers() {
+            return Ok(());
+        }
+        if self.next == u64::MAX {
+            return Err(Exhausted(message));
+        }
+        self.make_room();
+        self.hold(message);
+        Ok(())
+    }
+
+    /// Drops all messages. Who had not read them lags.
+    pub fn clear(&mut self)
+        ensures { self.new ≡ cleared self.old }
+    {
+        self.held.clear();
+    }
+}
+
+impl<T: Clone, const CAP: usize, const SUBS: usize> Log<T, CAP, SUBS> {
+    // Nobody but the subscriber at this place still reads the message at its position.
+    fn is_last(&self, place: usize, position: u64) -> bool
+        requires live { slice_index_or self.now.positions place None ≡ Some position }
+        requires from { oldest self.now ≤ position }
+        requires held { position < self.now.next }
+        ensures { result ≡ is_last place position self.now }
+    {
+        self.held.count((position - self.oldest()) as usize) == 1
+    }
+
+    // Reads the message itself, which is the oldest, and leaves.
+    fn take_last(&mut self, place: usize, position: u64) -> T
+        requires live { slice_index_or self.old.positions place None ≡ Some position }
+        requires from { oldest self.old ≤ position }
+        requires held { position < self.old.next }
+        requires last { IsTrue (is_last place position self.old) }
+        ensures message { slice_get self.old.held (position - oldest self.old) ≡ Some result }
+        ensures state { self.new ≡ settled (moved place (position + 1) self.old) }
+    {
+        let Some(message) = self.held.take_front() else {
+            unreachable!()
+        };
+        self.positions.put(place, Some(position + 1));
+        message
+    }
+
+    // Reads a clone of the message, which stays for others.
+    fn take_clone(&mut self, place: usize, position: u64) -> Result<T, AllocError>
+        requires live { slice_index_or self.old.positions place None ≡ Some position }
+        requires from { oldest self.old ≤ position }
+        requires held { position < self.old.next }
+        requires shared { is_last place position self.old ≡ false }
+        ensures ok { IfOk result (λ given. ClonesAt T.is_clone (position - oldest self.old) self.old.held given) }
+        ensures state { OnOk result (self.new ≡ settled (moved place (position + 1) self.old)) }
+        ensures refused { OnErr result (MayFailAt T.is_infallible (position - oldest self.old) self.old.held) }
+        ensures err { OnErr result (self.new ≡ self.old) }
+    {
+        let index = (position - self.oldest()) as usize;
+        let message = self.held.message(index).clone()?;
+        self.held.lower(index);
+        self.positions.put(place, Some(position + 1));
+        Ok(message)
+    }
+
+    // Reads the message at the position of the subscriber at this place.
+    fn take(&mut self, place: usize, position: u64) -> Result<T, AllocError>
+        requires live { slice_index_or self.old.positions place None ≡ Some position }
+        requires from { oldest self.old ≤ position }
+        requires held { position < self.old.next }
+        ensures ok { IfOk result (λ given. Takes T.is_clone place position self.old given self.new) }
+        ensures refused { OnErr result (IsRefused T.is_infallible place position self.old) }
+        ensures err { OnErr result (self.new ≡ self.old) }
+    {
+        if self.is_last(place, position) {
+            Ok(self.take_last(place, position))
+        } else {
+            self.take_clone(place, position)
+        }
+    }
+
+    // Reads what the subscriber at this place, which does not lag, reads next.
+    fn take_next(&mut self, place: usize) -> Result<Option<T>, AllocError>
+        requires live { IsTrue (is_live place self.old) }
+        requires from { oldest self.old ≤ position place self.old }
+        ensures ok { IfOk result (λ answer. Reads T.is_clone place self.old (found answer) self.new) }
+        ensures refused { OnErr result (IsRefused T.is_infallible place (position place self.old) self.old) }
+        ensures err { OnErr result (self.new ≡ self.old) }
+    {
+        let position = self.position(place);
+        if position == self.next() {
+            return Ok(None);
+        }
+        let message = self.take(place, position)?;
+        Ok(Some(message))
+    }
+
+    /// What the subscriber at this place reads next; `None` where it has read all. A refused clone changes nothing.
+    pub fn read(&mut self, place: usize) -> Result<Option<WaitResult<T>>, AllocError>
+        requires { IsTrue (is_live place self.old) }
+        ensures ok { IfOk result (λ answer. Reads T.is_clone place self.old answer self.new) }
+        ensures refused { OnErr result (IsRefused T.is_infallible place (position place self.old) self.old) }
+        ensures err { OnErr result (self.new ≡ self.old) }
+        ensures place { place < SUBS }
+    {
+        let position = self.position(place);
+        let oldest = self.oldest();
+        if position < oldest {
+            self.lag_at(place, oldest);
+            return Ok(Some(WaitResult::Lagged(oldest - position)));
+        }
+        match self.take_next(place)? {
+            Some(message) => Ok(Some(WaitResult::Message(message))),
+            None => Ok(None),
+        }
+    }
+
+    /// The same, where a subscriber that lags goes on from the oldest message at once. A refused clone leaves it where it was.
+    pub fn read_on(&mut self, place: usize) -> Result<Option<T>, AllocError>
+        requires { IsTrue (is_live place self.old) }
+        ensures ok { IfOk result (λ answer. ReadsOn T.is_clone place self.old answer self.new) }
+        ensures refused { OnErr result (IsRefused T.is_infallible place (position place (caught place self.old)) self.old) }
+        ensures err { OnErr result (self.new ≡ self.old) }
+        ensures place { place < SUBS }
+    {
+        let position = self.position(place);
+        let oldest = self.oldest();
+        self.catch_up(place);
+        match self.take_next(place) {
+            Ok(answer) => Ok(answer),
+            Err(error) => {
+                if position < oldest {
+                    self.lag_at(place, position);
+                }
+                Err(error)
+            }
+        }
+    }
+}

@@ -1,7 +1,0 @@
-use Rattle.esync_pubsub.proofs.Logged.{log_clear}
-use Rattle.esync_pubsub.proofs.log.Log.clear.Goals as goal
-
-pub invariant_of-self : goal.invariant_of-self
-invariant_of-self g c =
-    let a = c.self.inside in
-    rw c.clear.ensures (log_clear g.row.CAP g.row.SUBS a.held.messages a.held.counts a.next a.positions.row a.subscribers c.self.invariant)

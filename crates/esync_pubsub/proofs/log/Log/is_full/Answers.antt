@@ -1,4 +1,0 @@
-use Rattle.esync_pubsub.proofs.log.Log.is_full.Goals as goal
-
-pub returns : goal.returns
-returns g c = rw (← c.self.view_is) c.is_full.ensures

@@ -1,8 +1,0 @@
-use Rattle.std.proofs.Common.{rules}
-use Rattle.esync_pubsub.proofs.log.held.Held.is_unread.Goals as goal
-
-pub len-requires : goal.len-requires
-len-requires g c = search rules
-
-pub count-requires : goal.count-requires
-count-requires g c = search rules

@@ -1,8 +1,0 @@
-use Rattle.std.proofs.Common.{length}
-use Rattle.esync_pubsub.proofs.Beside.{length_beside}
-use Rattle.esync_pubsub.proofs.log.held.Held.len.Goals as goal
-
-pub returns-clause-paired : goal.returns-clause-paired
-returns-clause-paired g c =
-    let a = c.self.inside in
-    rw (← c.self.view_is) (length_beside g.row.N a.messages.front a.counts.row (length a.messages.items))
