@@ -96,6 +96,8 @@ fn two_seats_take_turns(rt: HostRuntime) -> Result<(), Fail> {
 
 #[test]
 fn two_books_are_settled_with_their_own_seats(rt: HostRuntime) -> Result<(), Fail> {
-    holds!(rt; settle_two(rt.alloc())? == (Some(1), Some(0)));
+    let one: Channel = Requests::new(ChannelState::new());
+    let other: Channel = Requests::new(ChannelState::new());
+    holds!(rt; settle_two(rt.alloc(), one, other, SEND)? == (Some(1), Some(0)));
     Ok(())
 }

@@ -1,7 +1,7 @@
 use Rattle.esync_journal_tests.proofs.seats.settle_two.Given as goal
 
 abbrev pub ghosts-settle_one : goal.ghosts-settle_one
-ghosts-settle_one a = record { name = a.blank.name; parts = a.blank.parts }
+ghosts-settle_one g a = record { name = a.blank.name; parts = a.blank.parts }
 
 abbrev pub ghosts-settle_none : goal.ghosts-settle_none
-ghosts-settle_none a = record { name = a.blank.name; parts = a.blank.parts }
+ghosts-settle_none g a = record { name = a.blank.name; parts = a.blank.parts }
