@@ -1,5 +1,4 @@
 //! What a shared watch does where a clone of its value has no memory.
-use crate::reads::receives;
 use esync_base::waitqueue::Context;
 use esync_cells::watch::Watch;
 use esync_notes::{Notes, holds, same, woken};
@@ -32,7 +31,9 @@ impl Clone for Scarce {
 fn a_refused_clone_marks_nothing(rt: HostRuntime) {
     let notes = Notes::new(&rt);
     let watch: Watch<Scarce, u64, _, 1, 1> = Watch::new(&notes);
-    let mut receiver = receives(&rt, watch.receiver());
+    let Some(mut receiver) = watch.receiver() else {
+        rt.abort()
+    };
     let first = Scarce {
         refusals: Cell::new(3),
         value: 3,

@@ -14,4 +14,6 @@ mod receivers;
 #[cfg(test)]
 mod sends;
 #[cfg(test)]
+mod story;
+#[cfg(test)]
 mod waits;

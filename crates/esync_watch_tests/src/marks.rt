@@ -1,61 +1,59 @@
 //! Which version a read of a shared watch marks as seen: that of the value that it finds. What was marked shows in what has news
 //! afterwards.
-use crate::reads::{Places, receives, sends};
-use esync_base::waitqueue::{Context, Poll};
-use esync_cells::watch::Watch;
-use esync_notes::{Notes, holds};
+use crate::story::Watched;
+use esync_base::waitqueue::Poll;
+use esync_notes::Notes;
 
 #[test]
 fn what_a_try_finds_is_marked_with_its_version(rt: HostRuntime) {
     let notes = Notes::new(&rt);
-    let watch: Places<_, 1> = Watch::new(&notes);
-    let mut receiver = receives(&rt, watch.receiver());
-    sends(&rt, &watch.sender(), 10);
-    holds!(rt; receiver.try_get() == Ok(Some(10)));
-    holds!(rt; receiver.try_changed() == Ok(None));
-    sends(&rt, &watch.sender(), 20);
-    holds!(rt; receiver.try_changed_and(|x| *x > 5) == Ok(Some(20)));
-    holds!(rt; receiver.try_changed() == Ok(None));
-    sends(&rt, &watch.sender(), 30);
-    holds!(rt; receiver.try_get_and(|x| *x > 5) == Ok(Some(30)));
-    holds!(rt; receiver.try_changed() == Ok(None));
-    sends(&rt, &watch.sender(), 40);
-    holds!(rt; receiver.try_changed() == Ok(Some(40)));
+    let watch = Watched::new(&rt, &notes);
+    let mut receiver = watch.receiver();
+    watch.send(10);
+    receiver.try_get(Some(10));
+    receiver.try_changed(None);
+    watch.send(20);
+    receiver.try_changed_and(|x| *x > 5, Some(20));
+    receiver.try_changed(None);
+    watch.send(30);
+    receiver.try_get_and(|x| *x > 5, Some(30));
+    receiver.try_changed(None);
+    watch.send(40);
+    receiver.try_changed(Some(40));
 }
 
 #[test]
 fn what_a_poll_finds_is_marked_with_its_version(rt: HostRuntime) {
     let notes = Notes::new(&rt);
-    let watch: Places<_, 1> = Watch::new(&notes);
-    let mut receiver = receives(&rt, watch.receiver());
-    let context = Context::from_waker(1);
-    sends(&rt, &watch.sender(), 10);
-    holds!(rt; receiver.get().poll(&context) == Ok(Poll::Ready(10)));
-    holds!(rt; receiver.try_changed() == Ok(None));
-    sends(&rt, &watch.sender(), 20);
-    holds!(rt; receiver.changed_and(|x| *x > 5).poll(&context) == Ok(Poll::Ready(20)));
-    holds!(rt; receiver.try_changed() == Ok(None));
-    sends(&rt, &watch.sender(), 30);
-    holds!(rt; receiver.get_and(|x| *x > 5).poll(&context) == Ok(Poll::Ready(30)));
-    holds!(rt; receiver.try_changed() == Ok(None));
-    sends(&rt, &watch.sender(), 40);
-    holds!(rt; receiver.changed().poll(&context) == Ok(Poll::Ready(40)));
-    holds!(rt; receiver.try_changed() == Ok(None));
+    let watch = Watched::new(&rt, &notes);
+    let mut receiver = watch.receiver();
+    watch.send(10);
+    receiver.poll_get(1, Poll::Ready(10));
+    receiver.try_changed(None);
+    watch.send(20);
+    receiver.changed_and(|x| *x > 5).poll(1, Poll::Ready(20));
+    receiver.try_changed(None);
+    watch.send(30);
+    receiver.get_and(|x| *x > 5).poll(1, Poll::Ready(30));
+    receiver.try_changed(None);
+    watch.send(40);
+    receiver.changed().poll(1, Poll::Ready(40));
+    receiver.try_changed(None);
 }
 
 #[test]
 fn what_an_anonymous_receiver_finds_is_marked_with_its_version(rt: HostRuntime) {
     let notes = Notes::new(&rt);
-    let watch: Places<_, 0> = Watch::new(&notes);
+    let watch = Watched::new(&rt, &notes);
     let mut anonymous = watch.anon_receiver();
-    sends(&rt, &watch.sender(), 10);
-    holds!(rt; anonymous.try_get_and(|x| *x > 5) == Ok(Some(10)));
-    holds!(rt; anonymous.try_changed() == Ok(None));
-    sends(&rt, &watch.sender(), 20);
-    holds!(rt; anonymous.try_changed_and(|x| *x > 5) == Ok(Some(20)));
-    sends(&rt, &watch.sender(), 30);
-    holds!(rt; anonymous.try_get() == Ok(Some(30)));
-    holds!(rt; anonymous.try_changed() == Ok(None));
-    sends(&rt, &watch.sender(), 40);
-    holds!(rt; anonymous.try_changed() == Ok(Some(40)));
+    watch.send(10);
+    anonymous.try_get_and(|x| *x > 5, Some(10));
+    anonymous.try_changed(None);
+    watch.send(20);
+    anonymous.try_changed_and(|x| *x > 5, Some(20));
+    watch.send(30);
+    anonymous.try_get(Some(30));
+    anonymous.try_changed(None);
+    watch.send(40);
+    anonymous.try_changed(Some(40));
 }

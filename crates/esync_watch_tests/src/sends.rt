@@ -1,7 +1,7 @@
-use crate::reads::{Places, receives, sends};
-use esync_base::waitqueue::{Context, Poll, Wakes};
-use esync_cells::watch::{Change, Watch, WatchState};
-use esync_notes::{Notes, holds, same, woken};
+use crate::story::Watched;
+use esync_base::waitqueue::{Poll, Wakes};
+use esync_cells::watch::{Change, WatchState};
+use esync_notes::{Notes, same};
 use std::process::Abort;
 
 // Adds this much to a value, modulo 2^32.
@@ -47,60 +47,58 @@ impl Change<u32> for Leaves {
 #[test]
 fn multiple_sends(rt: HostRuntime) {
     let notes = Notes::new(&rt);
-    let watch: Places<_, 1> = Watch::new(&notes);
-    let mut receiver = receives(&rt, watch.receiver());
-    holds!(rt; receiver.try_changed() == Ok(None));
-    sends(&rt, &watch.sender(), 10);
-    holds!(rt; receiver.changed().poll(&Context::from_waker(1)) == Ok(Poll::Ready(10)));
-    sends(&rt, &watch.sender(), 20);
-    holds!(rt; receiver.try_changed() == Ok(Some(20)));
-    holds!(rt; receiver.try_changed() == Ok(None));
+    let watch = Watched::new(&rt, &notes);
+    let mut receiver = watch.receiver();
+    receiver.try_changed(None);
+    watch.send(10);
+    receiver.changed().poll(1, Poll::Ready(10));
+    watch.send(20);
+    receiver.try_changed(Some(20));
+    receiver.try_changed(None);
 }
 
 #[test]
 fn sender_modify(rt: HostRuntime) {
     let notes = Notes::new(&rt);
-    let watch: Places<_, 1> = Watch::new(&notes);
-    let mut receiver = receives(&rt, watch.receiver());
-    sends(&rt, &watch.sender(), 10);
-    holds!(rt; receiver.try_changed() == Ok(Some(10)));
-    holds!(rt; watch.sender().send_modify(&Adds(5)) == Ok(()));
-    holds!(rt; receiver.try_changed() == Ok(Some(15)));
-    holds!(rt; receiver.try_changed() == Ok(None));
+    let watch = Watched::new(&rt, &notes);
+    let mut receiver = watch.receiver();
+    watch.send(10);
+    receiver.try_changed(Some(10));
+    watch.sender().send_modify(&Adds(5));
+    receiver.try_changed(Some(15));
+    receiver.try_changed(None);
 }
 
 #[test]
 fn a_change_wakes_where_it_tells(rt: HostRuntime) {
     let notes = Notes::new(&rt);
-    let watch: Places<_, 1> = Watch::new_with(10, &notes);
-    let mut receiver = receives(&rt, watch.receiver());
+    let watch = Watched::new_with(&rt, 10, &notes);
+    let mut receiver = watch.receiver();
     let mut changed = receiver.changed();
-    let context = Context::from_waker(1);
-    holds!(rt; changed.poll(&context) == Ok(Poll::Pending));
-    holds!(rt; watch.sender().send_if_modified(&Leaves {}) == Ok(()));
-    woken!(&rt, &notes, &[]);
-    holds!(rt; changed.poll(&context) == Ok(Poll::Pending));
-    holds!(rt; watch.sender().send_if_modified(&Adds(5)) == Ok(()));
-    woken!(&rt, &notes, &[1]);
-    holds!(rt; changed.poll(&context) == Ok(Poll::Ready(15)));
-    same!(rt; watch.get_msg_id(), 1);
+    changed.poll(1, Poll::Pending);
+    watch.sender().send_if_modified(&Leaves {});
+    watch.woken(&[]);
+    changed.poll(1, Poll::Pending);
+    watch.sender().send_if_modified(&Adds(5));
+    watch.woken(&[1]);
+    changed.poll(1, Poll::Ready(15));
+    watch.get_msg_id(1);
 }
 
 #[test]
 fn a_change_that_is_sent_wakes_whether_or_not_it_tells(rt: HostRuntime) {
     let notes = Notes::new(&rt);
-    let watch: Places<_, 1> = Watch::new_with(10, &notes);
-    let mut receiver = receives(&rt, watch.receiver());
+    let watch = Watched::new_with(&rt, 10, &notes);
+    let mut receiver = watch.receiver();
     let mut changed = receiver.changed();
-    let context = Context::from_waker(1);
-    holds!(rt; changed.poll(&context) == Ok(Poll::Pending));
-    holds!(rt; watch.sender().send_modify(&Leaves {}) == Ok(()));
-    woken!(&rt, &notes, &[1]);
-    holds!(rt; changed.poll(&context) == Ok(Poll::Ready(10)));
-    holds!(rt; changed.poll(&context) == Ok(Poll::Pending));
-    holds!(rt; watch.sender().send_modify(&Adds(5)) == Ok(()));
-    woken!(&rt, &notes, &[1]);
-    same!(rt; watch.get_msg_id(), 2);
+    changed.poll(1, Poll::Pending);
+    watch.sender().send_modify(&Leaves {});
+    watch.woken(&[1]);
+    changed.poll(1, Poll::Ready(10));
+    changed.poll(1, Poll::Pending);
+    watch.sender().send_modify(&Adds(5));
+    watch.woken(&[1]);
+    watch.get_msg_id(2);
 }
 
 // Sends where no version is left.
