@@ -410,7 +410,7 @@ impl<T: Clone, const CAP: usize, const SUBS: usize> Log<T, CAP, SUBS> {
         }
     }
 
-    /// The same, where a subscriber that lags goes on from the oldest message at once. A refused clone leaves it where it was.
+    /// The message that the subscriber at this place reads next, from the oldest on where it lags; `None` where it has read all. A refused clone leaves it where it was.
     pub fn read_on(&mut self, place: usize) -> Result<Option<T>, AllocError>
         requires { IsTrue (is_live place self.old) }
         ensures ok { IfOk result (λ answer. ReadsOn T.is_clone place self.old answer self.new) }
