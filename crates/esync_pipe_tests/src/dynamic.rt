@@ -32,6 +32,12 @@ impl<R: Wait + Abort> Hand<TaskId> for Turns<R> {
     }
 }
 
+// No byte, and nobody who waits.
+fn pipe<R: Wait + Abort, const N: usize>(rt: R) -> Pipe<TaskId, Turns<R>, N> {
+    let next = Cell::new(1);
+    Pipe::new(Turns { rt, next })
+}
+
 // A fill that shows these bytes, or finds none.
 fn fills<P: DynamicPipe + Drop>(rt: &impl Abort, reader: &mut DynamicReader<P>, bytes: &[u8]) {
     match reader.try_fill_buf() {
@@ -46,31 +52,46 @@ fn consumes<P: DynamicPipe + Drop>(rt: &impl Abort, reader: &mut DynamicReader<P
     reader.consume(count);
 }
 
+// Two bytes are filled twice, and consumed one by one.
+fn fills_twice<P: DynamicPipe + Drop>(
+    rt: &impl Abort,
+    reader: &mut DynamicReader<P>,
+    writer: &DynamicWriter<P>,
+) {
+    holds!(*rt; writer.try_write(&[42, 43]) == Ok(2));
+    fills(rt, reader, &[42, 43]);
+    fills(rt, reader, &[42, 43]);
+    consumes(rt, reader, 1);
+    same!(*rt; reader.filled(), [43].as_slice());
+    fills(rt, reader, &[43]);
+    consumes(rt, reader, 1);
+    fills(rt, reader, &[]);
+}
+
+// Three bytes are filled in two runs, and then with one byte more.
+fn fills_in_runs<P: DynamicPipe + Drop>(
+    rt: &impl Abort,
+    reader: &mut DynamicReader<P>,
+    writer: &DynamicWriter<P>,
+) {
+    holds!(*rt; writer.try_write(&[44, 45, 46]) == Ok(3));
+    holds!(*rt; writer.try_write(&[45, 46]) == Err(TryWriteError::Full));
+    fills(rt, reader, &[44]);
+    consumes(rt, reader, 1);
+    fills(rt, reader, &[45, 46]);
+    holds!(*rt; writer.try_write(&[47]) == Ok(1));
+    fills(rt, reader, &[45, 46, 47]);
+    consumes(rt, reader, 3);
+}
+
 #[test]
 fn dynamic_dispatch_pipe(rt: HostRuntime) -> Result<(), AllocError> {
-    let shared: Pipe<TaskId, _, 3> = Pipe::new(Turns {
-        rt,
-        next: Cell::new(1),
-    });
+    let shared: Pipe<TaskId, _, 3> = pipe(rt);
     let pipe: &dyn DynamicPipe = &shared;
     let mut reader: DynamicReader<&dyn DynamicPipe> = DynamicReader::new(rt.alloc(), pipe)?;
     let writer: DynamicWriter<&dyn DynamicPipe> = DynamicWriter::new(pipe);
-    holds!(rt; writer.try_write(&[42, 43]) == Ok(2));
-    fills(&rt, &mut reader, &[42, 43]);
-    fills(&rt, &mut reader, &[42, 43]);
-    consumes(&rt, &mut reader, 1);
-    same!(rt; reader.filled(), [43].as_slice());
-    fills(&rt, &mut reader, &[43]);
-    consumes(&rt, &mut reader, 1);
-    fills(&rt, &mut reader, &[]);
-    holds!(rt; writer.try_write(&[44, 45, 46]) == Ok(3));
-    holds!(rt; writer.try_write(&[45, 46]) == Err(TryWriteError::Full));
-    fills(&rt, &mut reader, &[44]);
-    consumes(&rt, &mut reader, 1);
-    fills(&rt, &mut reader, &[45, 46]);
-    holds!(rt; writer.try_write(&[47]) == Ok(1));
-    fills(&rt, &mut reader, &[45, 46, 47]);
-    consumes(&rt, &mut reader, 3);
+    fills_twice(&rt, &mut reader, &writer);
+    fills_in_runs(&rt, &mut reader, &writer);
     holds!(rt; shared.is_empty());
     Ok(())
 }
@@ -79,10 +100,7 @@ fn dynamic_dispatch_pipe(rt: HostRuntime) -> Result<(), AllocError> {
 // --fail-alloc 1` refuses it.
 #[test]
 fn a_refused_reader_is_made_again(rt: HostRuntime) -> Result<(), AllocError> {
-    let shared: Pipe<TaskId, _, 3> = Pipe::new(Turns {
-        rt,
-        next: Cell::new(1),
-    });
+    let shared: Pipe<TaskId, _, 3> = pipe(rt);
     let pipe: &dyn DynamicPipe = &shared;
     let writer: DynamicWriter<&dyn DynamicPipe> = DynamicWriter::new(pipe);
     holds!(rt; writer.try_write(&[42, 43]) == Ok(2));
@@ -127,40 +145,52 @@ fn reads_some<'a, P: DynamicPipe + Drop>(
     }
 }
 
-#[test]
-fn the_futures_of_any_pipe_wait(rt: HostRuntime) -> Result<(), AllocError> {
-    let shared: Pipe<TaskId, _, 2> = Pipe::new(Turns {
-        rt,
-        next: Cell::new(1),
-    });
-    let pipe: &dyn DynamicPipe = &shared;
-    let mut reader: DynamicReader<&dyn DynamicPipe> = DynamicReader::new(rt.alloc(), pipe)?;
-    let writer: DynamicWriter<&dyn DynamicPipe> = DynamicWriter::new(pipe);
-    let copied = writer;
+// Each end waits until the other one was polled. The pipe holds two bytes.
+fn waits_by_turns<P: DynamicPipe + Drop>(
+    rt: &impl Abort,
+    reader: &mut DynamicReader<P>,
+    writer: &DynamicWriter<P>,
+    copied: &DynamicWriter<P>,
+) {
     let (one, two) = (
         Context::from_waker(TaskId(1)),
         Context::from_waker(TaskId(2)),
     );
     let mut to = [0; 4];
-    holds!(rt; reads_some(&mut reader, &mut to[..], &one).is_none());
-    match writes_some(&writer, &[1, 2, 3], &two) {
-        Some(rest) => same!(rt; rest, [3].as_slice()),
-        None => rt.abort(),
-    }
-    holds!(rt; writes_some(&copied, &[3], &two).is_none());
-    match reads_some(&mut reader, &mut to[..], &one) {
-        Some(bytes) => same!(rt; bytes, [1, 2].as_slice()),
-        None => rt.abort(),
-    }
+    holds!(*rt; reads_some(reader, &mut to, &one).is_none());
+    holds!(*rt; writes_some(writer, &[1, 2, 3], &two) == Some(&[3]));
+    holds!(*rt; writes_some(copied, &[3], &two).is_none());
+    holds!(*rt; reads_some(reader, &mut to, &one) == Some(&[1, 2]));
+}
+
+// A future that fills waits for a byte and acts anew, and a read forgets the byte.
+fn fills_anew<P: DynamicPipe + Drop>(
+    rt: &impl Abort,
+    reader: &mut DynamicReader<P>,
+    writer: &DynamicWriter<P>,
+    to: &mut [u8],
+) {
+    let one = Context::from_waker(TaskId(1));
     let mut fill = reader.fill_buf();
-    holds!(rt; fill.poll(&one) == Poll::Pending);
-    holds!(rt; writer.try_write(&[4]) == Ok(1));
-    holds!(rt; fill.poll(&one) == Poll::Ready(()));
-    holds!(rt; fill.poll(&one) == Poll::Ready(()));
+    holds!(*rt; fill.poll(&one) == Poll::Pending);
+    holds!(*rt; writer.try_write(&[4]) == Ok(1));
+    holds!(*rt; fill.poll(&one) == Poll::Ready(()));
+    holds!(*rt; fill.poll(&one) == Poll::Ready(()));
     drop(fill);
-    same!(rt; reader.filled(), [4].as_slice());
-    holds!(rt; reader.try_read(&mut to[..]) == Ok(1));
-    same!(rt; reader.filled().len(), 0);
+    same!(*rt; reader.filled(), [4].as_slice());
+    holds!(*rt; reader.try_read(to) == Ok(1));
+    same!(*rt; reader.filled().len(), 0);
+}
+
+#[test]
+fn the_futures_of_any_pipe_wait(rt: HostRuntime) -> Result<(), AllocError> {
+    let shared: Pipe<TaskId, _, 2> = pipe(rt);
+    let pipe: &dyn DynamicPipe = &shared;
+    let mut reader: DynamicReader<&dyn DynamicPipe> = DynamicReader::new(rt.alloc(), pipe)?;
+    let writer: DynamicWriter<&dyn DynamicPipe> = DynamicWriter::new(pipe);
+    let copied = writer;
+    waits_by_turns(&rt, &mut reader, &writer, &copied);
+    fills_anew(&rt, &mut reader, &writer, &mut [0; 4]);
     holds!(rt; pipe.capacity() == 2);
     Ok(())
 }

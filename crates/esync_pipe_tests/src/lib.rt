@@ -6,4 +6,6 @@ mod dynamic;
 #[cfg(test)]
 mod futures;
 #[cfg(test)]
+mod noted;
+#[cfg(test)]
 mod pipes;
