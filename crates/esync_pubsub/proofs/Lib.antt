@@ -4,6 +4,7 @@ pub mod Turns
 pub mod Named
 pub mod Calls
 pub mod Reading
+pub mod Told
 pub mod Machine
 pub mod Unread
 pub mod Order

@@ -240,9 +240,6 @@ module _ {T W : Type 0} (cap pubs names : ℕ) (s : PubSub T W) (t : Tables) (m 
   pub one_counted : 1 ≤ s.publishers
   one_counted = (let k = some_there (at_number t.publishers p) e in omega (arith, used_some t.publishers p k.0 k.1, m.counted))
 
-  pub one_may_be : 1 ≤ pubs
-  one_may_be = omega (arith, one_counted, m.at_most)
-
   pub publisher_below : p < names
   publisher_below = (let k = some_there (at_number t.publishers p) e in omega (arith, number_below t.publishers p k.0 k.1, m.publishers))
 

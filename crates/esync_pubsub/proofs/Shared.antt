@@ -1,5 +1,5 @@
 -- Steps of the shared form: an empty list has room for their wakers, a request that waits stays, and who is there takes the state's step.
-use Rattle.std.proofs.Common.{◌≡◌, ℕ, zero, suc, ◌+◌, ◌-◌, ◌<◌, ◌≤◌, Bool, true, false, not, List, [], ◌++◌, length, refl, sym, subst, ◌∙◌, ap, arith}
+use Rattle.std.proofs.Common.{◌≡◌, ℕ, ◌+◌, ◌<◌, ◌≤◌, Bool, true, false, not, List, [], ◌++◌, length, refl, sym, subst, ◌∙◌, ap, arith}
 use Rattle.std.specs.Prelude.{max, Option, Some, None, Result, Ok, Err, IfSome, IfOk, OnErr, nat_eq}
 use Rattle.std.proofs.lemmas.Bool.Decides.{nat_tests}
 use Rattle.esync_base.specs.declared.waitqueue.Poll.{Poll}

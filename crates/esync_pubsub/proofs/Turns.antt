@@ -1,5 +1,5 @@
 -- What a poll of a request and a call of a channel for many leave, from what its log allows and what they hand out.
-use Rattle.std.proofs.Common.{length, ◌≡◌, ℕ, ◌+◌, ◌-◌, ◌≤◌, Bool, true, false, List, [], Option, Some, None, refl, sym, ap, subst, arith, ◌∙◌, ◌⊎◌, inl, inr}
+use Rattle.std.proofs.Common.{◌≡◌, ℕ, ◌+◌, ◌-◌, Bool, true, false, List, [], Option, Some, None, refl, sym, ap, subst, arith, ◌∙◌, ◌⊎◌, inl, inr}
 use Rattle.std.specs.Prelude.{is_some, IfSome}
 use Rattle.std.proofs.lemmas.List.{get_or-set_same}
 use Rattle.esync_base.specs.Registration.{IsAmong, registered}
@@ -12,23 +12,13 @@ use Rattle.esync_machine.specs.Rules.{IsApart, IsOwed}
 use Rattle.esync_machine.specs.Wakings.{Handed, IsHanded, unless_refused}
 use Rattle.esync_log.specs.Log.{Log, is_live, position, oldest, moved, lags, gap, settled, Reads, number_of}
 use Rattle.esync_pubsub.specs.PubSub.{Lists, tried, frees, lists_after_stream, wakes_of_stream}
-use Rattle.esync_pubsub.specs.PubSubRules.{Topic, IsBelow, Where, WithLog, PollsLog, Polls, names_it, place_at, is_subscriber, rest_of, poll_hands, OwesNews, OwesRoom, OwesFor, most_wakes, PollsMessage, PollsPure, PollsStream, read_hands, pure_hands, stream_hands, read_of, pure_of, stream_of}
+use Rattle.esync_pubsub.specs.PubSubRules.{Topic, IsBelow, Where, WithLog, PollsLog, Polls, names_it, place_at, is_subscriber, rest_of, poll_hands, OwesNews, OwesRoom, OwesFor, PollsMessage, PollsPure, PollsStream, read_hands, pure_hands, stream_hands, read_of, pure_of, stream_of}
 use Rattle.esync_pubsub.proofs.Kept.{Keeps, keeps_same, keeps_publish, keeps_read, keeps_pure, keeps_stream}
 use Rattle.esync_log.specs.LogLaws.{place_below, some_number}
 use Rattle.esync_pubsub.specs.declared.pubsub.machine.PubSubAsk.{PubSubAsk}
 use Rattle.esync_pubsub.specs.declared.pubsub.machine.PubSubAsk.TheVariants.{Publish, Message, MessagePure, Stream}
 use Rattle.esync_pubsub.specs.declared.pubsub.machine.PubSubHeard.{PubSubHeard}
 use Rattle.esync_pubsub.specs.declared.pubsub.machine.PubSubHeard.TheVariants.{Published, Read, ReadPure, Streamed}
-
--- a room for the greatest number of wakers is one for each list, and for one
-pub room_for_subs : (subs pubs k : ℕ) → most_wakes subs pubs ≤ k → subs ≤ k
-room_for_subs subs pubs k h = omega arith
-
-pub room_for_pubs : (subs pubs k : ℕ) → most_wakes subs pubs ≤ k → pubs ≤ k
-room_for_pubs subs pubs k h = omega arith
-
-pub room_for_one : (subs pubs k : ℕ) → most_wakes subs pubs ≤ k → 1 ≤ k
-room_for_one subs pubs k h = omega arith
 
 -- nothing has to be told of any two requests
 pub all_apart : {H : Type 0} (p : Option H) (other : H) → IsApart (λ h k. Unit {0}) p other
@@ -191,17 +181,3 @@ where_named o o2 a s place D e d = subst (λ q. Where (is_some q) o (D (number_o
 
 pub where_true : {T : Type 0} (b : Bool) (o o2 : Topic T) (a : Answer (PubSubHeard T)) (D : Type 0) → b ≡ true → D → Where b o D a o2
 where_true b o o2 a D e d = subst (λ x. Where x o D a o2) (sym e) d
-
--- the room of a step whose list of wakers is empty at first
-module _ {W : Type 0} (subs pubs k : ℕ) (xs : List W) (empty : xs ≡ []) (room : most_wakes subs pubs ≤ k) where
-  none : length xs ≡ 0
-  none = ap (λ l. length l) empty
-
-  pub subs_room : length xs + subs ≤ k
-  subs_room = omega (arith, none, room_for_subs subs pubs k room)
-
-  pub pubs_room : length xs + pubs ≤ k
-  pubs_room = omega (arith, none, room_for_pubs subs pubs k room)
-
-  pub one_room : length xs + 1 ≤ k
-  one_room = omega (arith, none, room_for_one subs pubs k room)

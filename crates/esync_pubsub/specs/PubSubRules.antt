@@ -1,5 +1,5 @@
 -- What a channel for many allows, and which wakers it hands out: for each request and each call.
-use Rattle.std.specs.Prelude.{◌≡◌, ℕ, ◌+◌, ◌-◌, ◌<◌, ◌==◌, ◌&&◌, max, Bool, true, false, List, length, Option, Some, None, is_some, Result, Ok, Err, slice_get, slice_set}
+use Rattle.std.specs.Prelude.{◌≡◌, ℕ, ◌+◌, ◌-◌, ◌<◌, ◌==◌, ◌&&◌, Bool, true, false, List, length, Option, Some, None, is_some, Result, Ok, Err, slice_get, slice_set}
 use Rattle.esync_base.specs.Registration.{IsAmong}
 use Rattle.esync_base.specs.declared.waitqueue.Poll.{Poll}
 use Rattle.esync_base.specs.declared.waitqueue.Poll.TheVariants.{Pending as NotYet, Ready}
@@ -42,10 +42,6 @@ is_place _ = false
 -- the number is one of the table, and free
 abbrev pub is_free : {N : Type 0} → ℕ → List (Option N) → Bool
 is_free r names = is_place (slice_get names r)
-
--- the greatest number of wakers that a step hands out
-abbrev pub most_wakes : ℕ → ℕ → ℕ
-most_wakes subs pubs = max subs (max pubs 1)
 
 -- which numbers a call concerns
 abbrev pub reach : {T : Type 0} → PubSubCall T → Reach

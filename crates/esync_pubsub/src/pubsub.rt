@@ -338,10 +338,11 @@ impl<T: Drop, W: Copy + Eq, const CAP: usize, const SUBS: usize, const PUBS: usi
         self.publisher_wakers.wake(wakes);
     }
 
-    /// How many messages are held.
+    /// How many messages are held, which are no more than were published.
     pub fn len(&self) -> usize
         ensures value { result ≡ length self.now.log.held }
         ensures within { result ≤ CAP }
+        ensures numbered { length self.now.log.held ≤ self.now.log.next }
     {
         self.log.len()
     }

@@ -3,7 +3,6 @@ ghost use Rattle.std.specs.Prelude.{◌≡◌, ◌<◌, ◌≤◌, ℕ, [], IfOk
 ghost use Rattle.std.proofs.Math.ListN.{replicate};
 ghost use Rattle.esync_base.specs.Keeping.{BoundedList};
 ghost use Rattle.esync_priority.specs.Prio.{Bag};
-ghost use Rattle.esync_pubsub.specs.PubSubRules.{most_wakes};
 ghost use Rattle.esync_script.specs.Opening.{places, capacity, opening, new_object, nobody_waits, no_slot, an_empty_pipe, not_made, a_free_lock, a_new_watch, a_new_topic, no_lists, zero_slots, no_side_waits, Closes, Plays, PlaysMessages, PlaysFair, PlaysPipe, PlaysSlots, PlaysWatch, PlaysPubSub, PlaysScript};
 ghost use Rattle.esync_words.specs.Commands.{says, command};
 ghost use Rattle.esync_words.specs.Played.{Played};
@@ -42,8 +41,8 @@ use esync_permits::semaphore::{FairState, GreedyState};
 use esync_pipe::pipe::PipeState;
 use esync_pipe::pipe::machine::PipeRun;
 use esync_priority::prio::{Kind, Max, Min, PrioQueue};
-use esync_pubsub::pubsub::PubSubState;
-use esync_pubsub::pubsub::machine::{Events, PubSubSteps};
+use esync_pubsub::pubsub::machine::Events;
+use esync_pubsub::pubsub::{LogState, PubSubState};
 use esync_words::fault::Fault;
 use esync_words::lines::Lines;
 use esync_words::play::{Opens, Parts, Telling, open, play};
@@ -207,12 +206,12 @@ fn pipe<const N: usize>() -> PipeRun<u64, N, REQS, 2>
 }
 
 // A channel for many in which nobody is, with four places for subscribers, of which the first message has this number, with no request.
-fn pubsub<S: PubSubSteps<REQS, 4, Message = u32, Waker = u64>>(
+fn pubsub<S: LogState<4, Message = u32, Waker = u64>>(
     first: u64,
 ) -> Requests<Events<S, REQS, 4>, REQS, 4>
-    requires messages { 1 ≤ S.messages }
+    requires messages { 1 ≤ S.places }
     requires subscribers { S.subscribers ≡ 4 }
-    requires wakes { most_wakes S.subscribers S.publishers ≤ 4 }
+    requires wakes { S.most ≤ 4 }
     ensures object { ⟦<Requests<Events<S, REQS, 4>, REQS, 4> as Machine>⟧.semantics.object result ≡ new_object (a_new_topic first) }
     ensures registrations { ⟦<Requests<Events<S, REQS, 4>, REQS, 4> as Machine>⟧.semantics.registrations result ≡ no_lists }
 {

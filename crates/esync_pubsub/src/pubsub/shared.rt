@@ -13,7 +13,7 @@ use esync_base::waitqueue::{Context, Hand, Poll, Wakes};
 use std::alloc::AllocError;
 use std::sync::Wait;
 
-/// What a shared channel takes of its state, whatever its capacities. Who isn't a subscriber hears what one hears that has read all.
+/// What a shared channel and a machine take of their state, whatever its capacities. Who isn't a subscriber hears what one hears that has read all.
 pub trait LogState<const K: usize>: Drop {
     type Message: Clone;
 
@@ -37,19 +37,20 @@ pub trait LogState<const K: usize>: Drop {
     /// The log, how many publishers are counted, and who waits.
     ghost channel: { Self → PubSub Self.Message Self.Waker };
 
-    /// No message, no subscriber, no publisher, and nobody who waits. The first message has the number 0.
-    fn new() -> Self
+    /// No message, no subscriber, no publisher, and nobody who waits. The first message has the number `next`.
+    fn new_at(next: u64) -> Self
         requires { 1 ≤ places }
-        ensures { channel result ≡ fresh subscribers 0 };
+        ensures { channel result ≡ fresh subscribers next };
 
     /// How many messages can be held.
     fn capacity() -> usize
         ensures { result ≡ places };
 
-    /// How many messages are held.
+    /// How many messages are held, which are no more than were published.
     fn len(&self) -> usize
         ensures value { result ≡ length (channel self.now).log.held }
-        ensures within { result ≤ places };
+        ensures within { result ≤ places }
+        ensures numbered { length (channel self.now).log.held ≤ (channel self.now).log.next };
 
     /// A subscriber comes to the least free place.
     fn subscribe(&mut self) -> Result<SubId, Error>
@@ -190,8 +191,8 @@ impl<
 
     ghost channel = { λ state. state };
 
-    fn new() -> Self {
-        PubSubState::new()
+    fn new_at(next: u64) -> Self {
+        PubSubState::new_at(next)
     }
 
     fn capacity() -> usize {
@@ -442,7 +443,7 @@ impl<S: LogState<K, Waker = W>, W: Copy + Eq, H: Hand<W>, const K: usize> Shared
         requires small { K < 65536 }
     {
         SharedPubSub {
-            inner: Shared::new(S::new(), hand),
+            inner: Shared::new(S::new_at(0), hand),
         }
     }
 

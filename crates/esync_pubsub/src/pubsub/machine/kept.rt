@@ -1,5 +1,5 @@
 //! A channel for many whose numbers are kept with it.
-use super::{Events, PubSubSteps, Tables};
+use super::{Events, LogState, Tables};
 use esync_base::kept::Kept;
 use std::alloc::AllocError;
 
@@ -12,8 +12,7 @@ impl<const NAMES: usize> Kept for Tables<NAMES> {
     }
 }
 
-impl<S: PubSubSteps<NAMES, K> + Kept, const NAMES: usize, const K: usize> Kept
-    for Events<S, NAMES, K> {
+impl<S: LogState<K> + Kept, const NAMES: usize, const K: usize> Kept for Events<S, NAMES, K> {
     fn kept(&self) -> Result<Self, AllocError> {
         Ok(Events {
             state: self.state.kept()?,

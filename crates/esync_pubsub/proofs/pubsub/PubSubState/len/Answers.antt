@@ -4,4 +4,5 @@ pub returns : goal.returns
 returns g c = record {
   value = rw (← c.self.view_is) c.len.ensures.value;
   within = c.len.ensures.within;
+  numbered = rw (← c.self.view_is) c.len.ensures.numbered;
 }

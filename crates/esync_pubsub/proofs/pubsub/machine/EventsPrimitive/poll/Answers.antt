@@ -7,11 +7,11 @@ use Rattle.esync_pubsub.proofs.pubsub.machine.EventsPrimitive.poll.Goals as goal
 pub returns-clause-registered : goal.returns-clause-registered
 returns-clause-registered g c a =
     let fits = rw (← c.self.view_is) at c.requires.fits in
-    let owes : Eventing g.row.S.Denot → PubSubAsk g.row.S-Message.Denot → g.row.S-Waker.Denot → Type 0 = λ m k v. OwesFor g.S.Waker.PartialEq.eq g.S.PubSubSteps.messages (topic_of (g.S.PubSubSteps.value m.state) m.tables) (g.S.PubSubSteps.value m.state).lists k v in
-    turn_registered g.S.Message.Clone.is_clone g.S.Message.Clone.is_infallible g.S.PubSubSteps.messages g.S.PubSubSteps.subscribers g.S.PubSubSteps.publishers g.row.NAMES g.S.Waker.PartialEq.eq (g.S.PubSubSteps.value c.self.inside.state) (g.S.PubSubSteps.value c.turn.new.self) c.self.inside.tables c.self.invariant c.turn.new.wakes c.args.held c.args.waker c.turn.result.answer c.turn.result.place fits c.turn.ensures.allowed c.turn.ensures.exact owes (record { state = c.turn.new.self; tables = c.self.inside.tables }) (λ k x. x) g.met.S.Waker.Eq.laws.refl a
+    let owes : Eventing g.row.S.Denot → PubSubAsk g.row.S-Message.Denot → g.row.S-Waker.Denot → Type 0 = λ m k v. OwesFor g.S.Waker.PartialEq.eq g.S.LogState.places (topic_of (g.S.LogState.channel m.state) m.tables) (g.S.LogState.channel m.state).lists k v in
+    turn_registered g.S.Message.Clone.is_clone g.S.Message.Clone.is_infallible g.S.LogState.places g.S.LogState.subscribers g.S.LogState.publishers g.row.NAMES g.S.Waker.PartialEq.eq (g.S.LogState.channel c.self.inside.state) (g.S.LogState.channel c.turn.new.state) c.self.inside.tables c.self.invariant c.turn.new.wakes c.args.held c.args.waker c.turn.result.answer c.turn.result.place fits c.turn.ensures.allowed c.turn.ensures.exact owes (record { state = c.turn.new.state; tables = c.self.inside.tables }) (λ k x. x) g.met.S.Waker.Eq.laws.refl a
 
 pub returns-clause-kept : goal.returns-clause-kept
 returns-clause-kept g c other v f apart o =
     let fits = rw (← c.self.view_is) at c.requires.fits in
     let owed = rw (← c.self.view_is) at o in
-    turn_kept g.S.Message.Clone.is_clone g.S.Message.Clone.is_infallible g.S.PubSubSteps.messages g.S.PubSubSteps.subscribers g.S.PubSubSteps.publishers g.row.NAMES g.S.Waker.PartialEq.eq (g.S.PubSubSteps.value c.self.inside.state) (g.S.PubSubSteps.value c.turn.new.self) c.self.inside.tables c.self.invariant c.turn.new.wakes c.args.held c.args.waker c.turn.result.answer c.turn.result.place fits c.turn.ensures.allowed c.turn.ensures.exact other v owed
+    turn_kept g.S.Message.Clone.is_clone g.S.Message.Clone.is_infallible g.S.LogState.places g.S.LogState.subscribers g.S.LogState.publishers g.row.NAMES g.S.Waker.PartialEq.eq (g.S.LogState.channel c.self.inside.state) (g.S.LogState.channel c.turn.new.state) c.self.inside.tables c.self.invariant c.turn.new.wakes c.args.held c.args.waker c.turn.result.answer c.turn.result.place fits c.turn.ensures.allowed c.turn.ensures.exact other v owed
