@@ -1,5 +1,5 @@
 -- The words of a watch, the text of what it tells, and what its changes and tests mean.
-use Rattle.std.specs.Prelude.{◌≡◌, ℕ, ◌+◌, ◌%◌, ◌^◌, ◌==◌, Bool, true, false, not, List, ◌++◌, codes, decimal, Option, Some, None, Ok, Err, if◌then◌else◌, refl}
+use Rattle.std.specs.Prelude.{◌≡◌, ℕ, ◌+◌, ◌%◌, ◌^◌, ◌==◌, Bool, true, false, List, ◌++◌, codes, decimal, Option, Some, None, Ok, Err, if◌then◌else◌, refl}
 use Rattle.std.specs.Option.{option_map}
 use Rattle.esync_cells.specs.declared.watch.machine.Await.{Await}
 use Rattle.esync_cells.specs.declared.watch.machine.Reading.TheVariants.{Get, Changed, GetAnd, ChangedAnd}
