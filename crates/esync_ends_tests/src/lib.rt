@@ -1,4 +1,4 @@
-//! Ends at every point of the scripts that the documents show.
+//! Ends at every point, by a player that keeps a waker back, and where streams fail. Whole scripts are cases of `syncrun_cases`.
 #![tactic(auto)]
 
 #[cfg(test)]

@@ -1,4 +1,4 @@
-//! Whole scripts: what is printed, how a line is explained, which lines are no commands, and what a stream that fails leaves.
+//! Scripts whose streams fail or come in pieces, and what is printed of a reply. Whole scripts are cases of `syncrun_cases`.
 #![tactic(auto)]
 
 #[cfg(test)]
