@@ -26,10 +26,15 @@ impl<'a, R: Wait> Notes<'a, R> {
         }
     }
 
+    /// The wakers that it was given, in order, since it was last asked: the first 8 of them.
+    pub fn given(&self) -> Wakes<u64, 8> {
+        self.given.replace(Wakes::new())
+    }
+
     /// Whether it was given just these wakers, in this order, since it was last asked. It wasn't where it was given more than it
     /// has room for.
     pub fn are(&self, wakers: &[u64]) -> bool {
-        let given = self.given.replace(Wakes::new());
+        let given = self.given();
         if self.has_lost.replace(false) || given.len() != wakers.len() {
             return false;
         }

@@ -1,0 +1,266 @@
+//! The channel and the priority channel, by their own calls, by their handles, and by handles whose type doesn't say how messages are kept.
+use crate::form::{Door, Doors, Form, over};
+use crate::play::{Script, Stage, serve};
+use esync_base::deque::Deque;
+use esync_base::store::Store;
+use esync_base::waitqueue::{Context, Hand, Poll};
+use esync_channel::channel::machine::{ChannelAsk, ChannelCall, ChannelHeard};
+use esync_channel::channel::{
+    DynamicReceiveFuture, DynamicReceiver, DynamicSendFuture, DynamicSender, MailboxReceiver,
+    MailboxSender, ReceiveFuture, SendFuture, SharedMailbox, TryReceiveError, TrySendError,
+};
+use esync_machine::primitive::{Answer, Turn};
+use esync_notes::Notes;
+use esync_priority::prio::{Kind, PrioQueue};
+use esync_script::channel::ChannelWords;
+use esync_script::opening::Capacity;
+use esync_words::fault::Fault;
+use std::io::Write;
+use std::sync::Wait;
+
+// A channel, whose calls are made by each of its ways in turn: its own, its handles, and those whose type doesn't say how it keeps its messages.
+#[derive(Drop)]
+struct Channel<'c, S, H> {
+    channel: &'c SharedMailbox<S, u64, H>,
+    sender: MailboxSender<'c, S, u64, H>,
+    receiver: MailboxReceiver<'c, S, u64, H>,
+    dyn_sender: DynamicSender<'c, SharedMailbox<S, u64, H>>,
+    dyn_receiver: DynamicReceiver<'c, SharedMailbox<S, u64, H>>,
+    doors: Doors,
+}
+
+#[derive(Drop)]
+enum Held<'c, S: Store, H: Hand<u64>> {
+    Send(SendFuture<'c, SharedMailbox<S, u64, H>>),
+    DynSend(DynamicSendFuture<'c, SharedMailbox<S, u64, H>>),
+    Receive(ReceiveFuture<'c, SharedMailbox<S, u64, H>>),
+    DynReceive(DynamicReceiveFuture<'c, SharedMailbox<S, u64, H>>),
+    SendReady,
+    ReceiveReady,
+}
+
+impl<'c, S: Store<Message = u32>, H: Hand<u64>> Form for Channel<'c, S, H> {
+    type Words = ChannelWords;
+
+    type Held = Held<'c, S, H>;
+
+    fn begin(&mut self, ask: ChannelAsk<u32>) -> Option<Self::Held> {
+        Some(match ask {
+            ChannelAsk::Send(message) => self.send(message),
+            ChannelAsk::Receive => self.receive(),
+            ChannelAsk::SendReady => Held::SendReady,
+            ChannelAsk::ReceiveReady => Held::ReceiveReady,
+        })
+    }
+
+    fn poll(&mut self, held: Self::Held, cx: &Context<u64>) -> Turn<ChannelHeard<u32>, Self::Held> {
+        match held {
+            Held::Send(future) => send(future, cx),
+            Held::DynSend(future) => dyn_send(future, cx),
+            Held::Receive(future) => receive(future, cx),
+            Held::DynReceive(future) => dyn_receive(future, cx),
+            Held::SendReady => is_ready(self.poll_ready_to_send(cx), Held::SendReady),
+            Held::ReceiveReady => is_ready(self.poll_ready_to_receive(cx), Held::ReceiveReady),
+        }
+    }
+
+    fn call(
+        &mut self,
+        call: ChannelCall<u32>,
+        _place: &mut Option<Self::Held>,
+    ) -> Answer<ChannelHeard<u32>> {
+        match call {
+            ChannelCall::TrySend(message) => {
+                Answer::Gives(ChannelHeard::TrySent(self.try_send(message)))
+            }
+            ChannelCall::TryReceive => {
+                Answer::Gives(ChannelHeard::TryReceived(self.try_receive()))
+            }
+            ChannelCall::Clear => {
+                self.clear();
+                Answer::Done
+            }
+            ChannelCall::Len => Answer::Gives(ChannelHeard::Number(self.len())),
+            ChannelCall::FreeCapacity => Answer::Gives(ChannelHeard::Number(self.free_capacity())),
+        }
+    }
+}
+
+impl<'c, S: Store<Message = u32>, H: Hand<u64>> Channel<'c, S, H> {
+    fn send(&mut self, message: u32) -> Held<'c, S, H> {
+        match self.doors.next() {
+            Door::Own => Held::Send(self.channel.send(message)),
+            Door::Handle => Held::Send(self.sender.send(message)),
+            Door::Dynamic => Held::DynSend(self.dyn_sender.send(message)),
+        }
+    }
+
+    fn receive(&mut self) -> Held<'c, S, H> {
+        match self.doors.next() {
+            Door::Own => Held::Receive(self.channel.receive()),
+            Door::Handle => Held::Receive(self.receiver.receive()),
+            Door::Dynamic => Held::DynReceive(self.dyn_receiver.receive()),
+        }
+    }
+
+    fn poll_ready_to_send(&mut self, cx: &Context<u64>) -> Poll<()> {
+        match self.doors.next() {
+            Door::Own => self.channel.poll_ready_to_send(cx),
+            Door::Handle => self.sender.poll_ready_to_send(cx),
+            Door::Dynamic => self.dyn_sender.poll_ready_to_send(cx),
+        }
+    }
+
+    fn poll_ready_to_receive(&mut self, cx: &Context<u64>) -> Poll<()> {
+        match self.doors.next() {
+            Door::Own => self.channel.poll_ready_to_receive(cx),
+            Door::Handle => self.receiver.poll_ready_to_receive(cx),
+            Door::Dynamic => self.dyn_receiver.poll_ready_to_receive(cx),
+        }
+    }
+
+    fn try_send(&mut self, message: u32) -> Result<(), TrySendError<u32>> {
+        match self.doors.next() {
+            Door::Own => self.channel.try_send(message),
+            Door::Handle => self.sender.try_send(message),
+            Door::Dynamic => self.dyn_sender.try_send(message),
+        }
+    }
+
+    fn try_receive(&mut self) -> Result<u32, TryReceiveError> {
+        match self.doors.next() {
+            Door::Own => self.channel.try_receive(),
+            Door::Handle => self.receiver.try_receive(),
+            Door::Dynamic => self.dyn_receiver.try_receive(),
+        }
+    }
+
+    fn clear(&mut self) {
+        match self.doors.next() {
+            Door::Own => self.channel.clear(),
+            Door::Handle => self.sender.clear(),
+            Door::Dynamic => self.receiver.clear(),
+        }
+    }
+
+    fn len(&mut self) -> usize {
+        match self.doors.next() {
+            Door::Own => self.channel.len(),
+            Door::Handle => self.sender.len(),
+            Door::Dynamic => self.receiver.len(),
+        }
+    }
+
+    fn free_capacity(&mut self) -> usize {
+        match self.doors.next() {
+            Door::Own => self.channel.free_capacity(),
+            Door::Handle => self.sender.free_capacity(),
+            Door::Dynamic => self.receiver.free_capacity(),
+        }
+    }
+}
+
+fn send<'c, S: Store<Message = u32>, H: Hand<u64>>(
+    mut future: SendFuture<'c, SharedMailbox<S, u64, H>>,
+    cx: &Context<u64>,
+) -> Turn<ChannelHeard<u32>, Held<'c, S, H>> {
+    if future.is_finished() {
+        return over();
+    }
+    let polled = future.poll(cx);
+    is_ready(polled, Held::Send(future))
+}
+
+fn dyn_send<'c, S: Store<Message = u32>, H: Hand<u64>>(
+    mut future: DynamicSendFuture<'c, SharedMailbox<S, u64, H>>,
+    cx: &Context<u64>,
+) -> Turn<ChannelHeard<u32>, Held<'c, S, H>> {
+    if future.is_finished() {
+        return over();
+    }
+    let polled = future.poll(cx);
+    is_ready(polled, Held::DynSend(future))
+}
+
+fn receive<'c, S: Store<Message = u32>, H: Hand<u64>>(
+    mut future: ReceiveFuture<'c, SharedMailbox<S, u64, H>>,
+    cx: &Context<u64>,
+) -> Turn<ChannelHeard<u32>, Held<'c, S, H>> {
+    let polled = future.poll(cx);
+    is_received(polled, Held::Receive(future))
+}
+
+fn dyn_receive<'c, S: Store<Message = u32>, H: Hand<u64>>(
+    mut future: DynamicReceiveFuture<'c, SharedMailbox<S, u64, H>>,
+    cx: &Context<u64>,
+) -> Turn<ChannelHeard<u32>, Held<'c, S, H>> {
+    let polled = future.poll(cx);
+    is_received(polled, Held::DynReceive(future))
+}
+
+// What a poll leaves of a request for a message.
+fn is_received<H: Drop>(polled: Poll<u32>, held: H) -> Turn<ChannelHeard<u32>, H> {
+    match polled {
+        Poll::Ready(message) => Turn::over(ChannelHeard::Received(message)),
+        Poll::Pending => Turn::waits(held),
+    }
+}
+
+// What a poll leaves of a request that tells nothing but that it is over.
+fn is_ready<H: Drop>(polled: Poll<()>, held: H) -> Turn<ChannelHeard<u32>, H> {
+    match polled {
+        Poll::Ready(()) => Turn::over(ChannelHeard::Ready),
+        Poll::Pending => Turn::waits(held),
+    }
+}
+
+// Plays the lines behind line 1 over a channel that keeps its messages so.
+fn play_over<S: Store<Message = u32>, R: Wait, W: Write>(
+    stage: Stage<'_, '_, R>,
+    script: &mut Script<'_>,
+    output: &mut W,
+) -> Result<(), Fault> {
+    let channel: SharedMailbox<S, u64, &Notes<'_, R>> = SharedMailbox::new(stage.notes);
+    let (sender, receiver) = (channel.sender(), channel.receiver());
+    let form = Channel {
+        channel: &channel,
+        sender,
+        receiver,
+        dyn_sender: sender.into(),
+        dyn_receiver: receiver.into(),
+        doors: stage.doors,
+    };
+    serve(stage, form, script, output)
+}
+
+/// Plays the lines behind line 1 over a channel.
+pub fn play<R: Wait, W: Write>(
+    stage: Stage<'_, '_, R>,
+    capacity: Capacity,
+    script: &mut Script<'_>,
+    output: &mut W,
+) -> Result<(), Fault> {
+    match capacity {
+        Capacity::One => play_over::<Deque<u32, 1>, R, W>(stage, script, output),
+        Capacity::Two => play_over::<Deque<u32, 2>, R, W>(stage, script, output),
+        Capacity::Three => play_over::<Deque<u32, 3>, R, W>(stage, script, output),
+        Capacity::Four => play_over::<Deque<u32, 4>, R, W>(stage, script, output),
+        Capacity::Eight => play_over::<Deque<u32, 8>, R, W>(stage, script, output),
+    }
+}
+
+/// Plays the lines behind line 1 over a priority channel of this kind.
+pub fn play_by<K: Kind<u32>, R: Wait, W: Write>(
+    stage: Stage<'_, '_, R>,
+    capacity: Capacity,
+    script: &mut Script<'_>,
+    output: &mut W,
+) -> Result<(), Fault> {
+    match capacity {
+        Capacity::One => play_over::<PrioQueue<u32, K, 1>, R, W>(stage, script, output),
+        Capacity::Two => play_over::<PrioQueue<u32, K, 2>, R, W>(stage, script, output),
+        Capacity::Three => play_over::<PrioQueue<u32, K, 3>, R, W>(stage, script, output),
+        Capacity::Four => play_over::<PrioQueue<u32, K, 4>, R, W>(stage, script, output),
+        Capacity::Eight => play_over::<PrioQueue<u32, K, 8>, R, W>(stage, script, output),
+    }
+}

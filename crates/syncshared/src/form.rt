@@ -1,0 +1,188 @@
+//! Shared forms that scripts play, and the table of what stands at a script's numbers.
+use esync_base::waitqueue::Context;
+use esync_machine::primitive::{Answer, Command, Turn};
+use esync_words::vocabulary::{REQS, Vocabulary};
+use std::alloc::{AllocError, Global};
+
+/// What a request of these words asks for.
+pub type AskOf<F> = <<F as Form>::Words as Vocabulary>::Ask;
+
+/// A call of these words.
+pub type CallOf<F> = <<F as Form>::Words as Vocabulary>::Call;
+
+/// What is answered in these words.
+pub type HeardOf<F> = <<F as Form>::Words as Vocabulary>::Heard;
+
+/// A shared form with its handles: what a script does to it is what its user would write.
+pub trait Form: Drop {
+    type Words: Vocabulary;
+
+    /// A future, or what it left at its number: a releaser, or a guard.
+    type Held: Drop;
+
+    /// A future for this, if whom it names is there.
+    fn begin(&mut self, ask: AskOf<Self>) -> Option<Self::Held>;
+
+    /// Polls what stands at a number.
+    fn poll(&mut self, held: Self::Held, cx: &Context<u64>) -> Turn<HeardOf<Self>, Self::Held>;
+
+    /// Makes a call, which is lent the place of the number that it concerns.
+    fn call(&mut self, call: CallOf<Self>, place: &mut Option<Self::Held>) -> Answer<HeardOf<Self>>;
+
+    /// The number that the call concerns, if it does one.
+    fn number(_call: &CallOf<Self>) -> Option<usize> {
+        None
+    }
+
+    /// The call ends what stands at a number.
+    fn leaves(&self, _call: &CallOf<Self>, _held: &Self::Held) -> bool {
+        false
+    }
+}
+
+/// What stands at the numbers of a script.
+#[derive(Drop)]
+pub struct Places<H> {
+    places: Vec<Option<H>>,
+}
+
+impl<H: Drop> Places<H> {
+    /// All numbers are free.
+    pub fn new(alloc: Global) -> Result<Self, AllocError> {
+        let mut places = Vec::with_capacity(alloc, REQS)?;
+        for _ in 0..REQS {
+            places.push(None)?;
+        }
+        Ok(Places { places })
+    }
+}
+
+/// Does what the command says to the shared form.
+pub fn turn<F: Form>(
+    form: &mut F,
+    places: &mut Places<F::Held>,
+    command: Command<AskOf<F>, u64, CallOf<F>>,
+) -> Answer<HeardOf<F>> {
+    match command {
+        Command::Start(r, ask) => start(form, places.places.get_mut(r), ask),
+        Command::Poll(r, waker) => poll(form, places.places.get_mut(r), waker),
+        Command::End(r) => end(places.places.get_mut(r)),
+        Command::Call(call) => make(form, places, call),
+    }
+}
+
+fn start<F: Form>(
+    form: &mut F,
+    place: Option<&mut Option<F::Held>>,
+    ask: AskOf<F>,
+) -> Answer<HeardOf<F>> {
+    let Some(place) = place else {
+        return Answer::NoSuch;
+    };
+    if place.is_some() {
+        return Answer::NoSuch;
+    }
+    *place = form.begin(ask);
+    if place.is_some() {
+        Answer::Done
+    } else {
+        Answer::NoSuch
+    }
+}
+
+fn poll<F: Form>(
+    form: &mut F,
+    place: Option<&mut Option<F::Held>>,
+    waker: u64,
+) -> Answer<HeardOf<F>> {
+    let Some(place) = place else {
+        return Answer::NoSuch;
+    };
+    let Some(held) = place.take() else {
+        return Answer::NoSuch;
+    };
+    let turn = form.poll(held, &Context::from_waker(waker));
+    *place = turn.place;
+    turn.answer
+}
+
+fn end<H: Drop, A>(place: Option<&mut Option<H>>) -> Answer<A> {
+    let Some(place) = place else {
+        return Answer::NoSuch;
+    };
+    let Some(held) = place.take() else {
+        return Answer::NoSuch;
+    };
+    drop(held);
+    Answer::Done
+}
+
+fn make<F: Form>(
+    form: &mut F,
+    places: &mut Places<F::Held>,
+    call: CallOf<F>,
+) -> Answer<HeardOf<F>> {
+    for place in places.places.iter_mut() {
+        sweep(form, place, &call);
+    }
+    let mut nobody = None;
+    let Some(r) = F::number(&call) else {
+        return form.call(call, &mut nobody);
+    };
+    match places.places.get_mut(r) {
+        Some(place) => form.call(call, place),
+        None => Answer::NoSuch,
+    }
+}
+
+// Frees the number where the call ends what stands there.
+fn sweep<F: Form>(form: &F, place: &mut Option<F::Held>, call: &CallOf<F>) {
+    if let Some(held) = place.take() {
+        if !form.leaves(call, &held) {
+            *place = Some(held);
+        }
+    }
+}
+
+/// By what a shared form is called.
+#[derive(Clone, Copy)]
+pub enum Door {
+    /// Its own calls.
+    Own,
+    /// Its handles.
+    Handle,
+    /// Handles whose type doesn't say what they are of.
+    Dynamic,
+}
+
+/// The ways to a shared form, one after another.
+#[derive(Clone, Copy)]
+pub struct Doors {
+    next: Door,
+}
+
+impl Doors {
+    /// This one first.
+    pub fn from(first: Door) -> Self {
+        Doors { next: first }
+    }
+
+    /// The next one.
+    pub fn next(&mut self) -> Door {
+        let door = self.next;
+        self.next = match door {
+            Door::Own => Door::Handle,
+            Door::Handle => Door::Dynamic,
+            Door::Dynamic => Door::Own,
+        };
+        door
+    }
+}
+
+/// What a poll leaves of a future that was ready before.
+pub fn over<A, H>() -> Turn<A, H> {
+    Turn {
+        answer: Answer::NoSuch,
+        place: None,
+    }
+}

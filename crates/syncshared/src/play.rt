@@ -1,0 +1,130 @@
+//! Plays a script over the shared form of the primitive that its first line names.
+use crate::form::{Doors, Form, Places, turn};
+use crate::{channel, lazy, mutex, once, pipe, pubsub, semaphore, signal, watch, zerocopy};
+use esync_notes::Notes;
+use esync_priority::prio::{Max, Min};
+use esync_script::opening::Opening;
+use esync_words::fault::Fault;
+use esync_words::play::Opens;
+use esync_words::printing::print_reply;
+use esync_words::vocabulary::read_command;
+use esync_words::words::Words;
+use std::alloc::Global;
+use std::io::Write;
+use std::str::Lines;
+use std::sync::Wait;
+
+/// The lines of a script that are left, with their numbers.
+#[derive(Drop)]
+pub struct Script<'t> {
+    lines: Lines<'t>,
+    number: u64,
+}
+
+impl<'t> Script<'t> {
+    /// The whole text.
+    pub fn new(text: &'t str) -> Self {
+        Script {
+            lines: text.lines(),
+            number: 0,
+        }
+    }
+
+    // The next line.
+    fn next(&mut self) -> Option<&'t str> {
+        self.number = self.number.saturating_add(1);
+        self.lines.next()
+    }
+
+    // The line that was taken last is no command.
+    fn not_a_command(&self) -> Fault {
+        Fault::NotACommand(self.number)
+    }
+}
+
+/// Plays the script over the shared form by these ways, and prints its replies as `syncrun` does.
+pub fn play<R: Wait, W: Write>(
+    rt: &R,
+    alloc: Global,
+    doors: Doors,
+    script: &str,
+    output: &mut W,
+) -> Result<(), Fault> {
+    let mut script = Script::new(script);
+    let Some(opening) = script.next().and_then(opening_of) else {
+        return Err(script.not_a_command());
+    };
+    let notes = Notes::new(rt);
+    let stage = Stage {
+        alloc,
+        notes: &notes,
+        doors,
+    };
+    match opening {
+        Opening::Channel(capacity) => channel::play(stage, capacity, &mut script, output),
+        Opening::Max(capacity) => channel::play_by::<Max, R, W>(
+            stage,
+            capacity,
+            &mut script,
+            output,
+        ),
+        Opening::Min(capacity) => channel::play_by::<Min, R, W>(
+            stage,
+            capacity,
+            &mut script,
+            output,
+        ),
+        Opening::Signal => signal::play(stage, &mut script, output),
+        Opening::Greedy(permits) => semaphore::play_greedy(stage, permits, &mut script, output),
+        Opening::Fair(capacity, permits) => {
+            semaphore::play_fair(stage, capacity, permits, &mut script, output)
+        }
+        Opening::Pipe(capacity) => pipe::play(stage, capacity, &mut script, output),
+        Opening::PubSub(capacity, first) => {
+            pubsub::play(stage, capacity, first, &mut script, output)
+        }
+        Opening::Once => once::play(stage, &mut script, output),
+        Opening::Lazy(value) => lazy::play(stage, value, &mut script, output),
+        Opening::Mutex(value, part) => mutex::play(stage, value, part, &mut script, output),
+        Opening::Watch(capacity, value) => watch::play(stage, capacity, value, &mut script, output),
+        Opening::Zerocopy(capacity) => zerocopy::play(stage, capacity, &mut script, output),
+    }
+}
+
+/// What every shared form is played with.
+#[derive(Clone, Copy)]
+pub struct Stage<'n, 'r, R> {
+    pub alloc: Global,
+    /// What its hand is given.
+    pub notes: &'n Notes<'r, R>,
+    /// By which ways it is called.
+    pub doors: Doors,
+}
+
+fn opening_of(line: &str) -> Option<Opening> {
+    let mut words = Words::of(line);
+    let name = words.word()?;
+    Opening::opening(name, words)
+}
+
+/// Gives each line that is left to the shared form, and prints what it answers and the wakers that its hand was given.
+pub fn serve<F: Form, R: Wait, W: Write>(
+    stage: Stage<'_, '_, R>,
+    mut form: F,
+    script: &mut Script<'_>,
+    output: &mut W,
+) -> Result<(), Fault> {
+    let mut places = Places::new(stage.alloc).map_err(|_| Fault::OutOfMemory)?;
+    for _ in 0..u64::MAX {
+        let Some(line) = script.next() else {
+            return Ok(());
+        };
+        let Some(command) = read_command::<F::Words>(Words::of(line)) else {
+            return Err(script.not_a_command());
+        };
+        let answer = turn(&mut form, &mut places, command);
+        print_reply::<F::Words, W>(&answer, stage.notes.given().as_slice(), output)?;
+    }
+    // No script has so many lines.
+    Err(Fault::InputOutput)
+}

@@ -1,0 +1,16 @@
+use crate::play::{Script, Stage};
+use esync_script::opening::Capacity;
+use esync_words::fault::Fault;
+use std::io::Write;
+use std::sync::Wait;
+
+/// Plays the lines behind line 1.
+pub fn play<R: Wait, W: Write>(
+    _stage: Stage<'_, '_, R>,
+    _capacity: Capacity,
+    _value: Option<u32>,
+    _script: &mut Script<'_>,
+    _output: &mut W,
+) -> Result<(), Fault> {
+    Ok(())
+}
