@@ -1,5 +1,5 @@
 //! The channel and the priority channel, by their own calls, by their handles, and by handles whose type doesn't say how messages are kept.
-use crate::form::{Door, Doors, Form, over};
+use crate::form::{Door, Doors, Form, Sizes, over, sizes};
 use crate::play::{Script, Stage, serve};
 use esync_base::deque::Deque;
 use esync_base::store::Store;
@@ -32,9 +32,11 @@ struct Channel<'c, S, H> {
 #[derive(Drop)]
 enum Held<'c, S: Store, H: Hand<u64>> {
     Send(SendFuture<'c, SharedMailbox<S, u64, H>>),
+    TrySend(u32),
     DynSend(DynamicSendFuture<'c, SharedMailbox<S, u64, H>>),
     Receive(ReceiveFuture<'c, SharedMailbox<S, u64, H>>),
     DynReceive(DynamicReceiveFuture<'c, SharedMailbox<S, u64, H>>),
+    TryReceive,
     SendReady,
     ReceiveReady,
 }
@@ -57,8 +59,12 @@ impl<'c, S: Store<Message = u32>, H: Hand<u64>> Form for Channel<'c, S, H> {
         match held {
             Held::Send(future) => send(future, cx),
             Held::DynSend(future) => dyn_send(future, cx),
+            Held::TrySend(message) => {
+                is_sent(self.channel.try_send_with_context(message, Some(cx)))
+            }
             Held::Receive(future) => receive(future, cx),
             Held::DynReceive(future) => dyn_receive(future, cx),
+            Held::TryReceive => is_received(self.poll_receive(cx), Held::TryReceive),
             Held::SendReady => is_ready(self.poll_ready_to_send(cx), Held::SendReady),
             Held::ReceiveReady => is_ready(self.poll_ready_to_receive(cx), Held::ReceiveReady),
         }
@@ -80,14 +86,23 @@ impl<'c, S: Store<Message = u32>, H: Hand<u64>> Form for Channel<'c, S, H> {
                 self.clear();
                 Answer::Done
             }
-            ChannelCall::Len => Answer::Gives(ChannelHeard::Number(self.len())),
-            ChannelCall::FreeCapacity => Answer::Gives(ChannelHeard::Number(self.free_capacity())),
+            ChannelCall::Len => {
+                let sizes = self.sizes();
+                sizes.checked(ChannelHeard::Number(sizes.len))
+            }
+            ChannelCall::FreeCapacity => {
+                let sizes = self.sizes();
+                sizes.checked(ChannelHeard::Number(sizes.free))
+            }
         }
     }
 }
 
 impl<'c, S: Store<Message = u32>, H: Hand<u64>> Channel<'c, S, H> {
     fn send(&mut self, message: u32) -> Held<'c, S, H> {
+        if !self.doors.is_future() {
+            return Held::TrySend(message);
+        }
         match self.doors.next() {
             Door::Own => Held::Send(self.channel.send(message)),
             Door::Handle => Held::Send(self.sender.send(message)),
@@ -96,10 +111,24 @@ impl<'c, S: Store<Message = u32>, H: Hand<u64>> Channel<'c, S, H> {
     }
 
     fn receive(&mut self) -> Held<'c, S, H> {
+        if !self.doors.is_future() {
+            return Held::TryReceive;
+        }
         match self.doors.next() {
             Door::Own => Held::Receive(self.channel.receive()),
             Door::Handle => Held::Receive(self.receiver.receive()),
             Door::Dynamic => Held::DynReceive(self.dyn_receiver.receive()),
+        }
+    }
+
+    fn poll_receive(&mut self, cx: &Context<u64>) -> Poll<u32> {
+        match self.doors.next() {
+            Door::Own => match self.channel.try_receive_with_context(Some(cx)) {
+                Ok(message) => Poll::Ready(message),
+                Err(TryReceiveError::Empty) => Poll::Pending,
+            },
+            Door::Handle => self.receiver.poll_receive(cx),
+            Door::Dynamic => self.dyn_receiver.poll_receive(cx),
         }
     }
 
@@ -143,19 +172,11 @@ impl<'c, S: Store<Message = u32>, H: Hand<u64>> Channel<'c, S, H> {
         }
     }
 
-    fn len(&mut self) -> usize {
+    fn sizes(&mut self) -> Sizes {
         match self.doors.next() {
-            Door::Own => self.channel.len(),
-            Door::Handle => self.sender.len(),
-            Door::Dynamic => self.receiver.len(),
-        }
-    }
-
-    fn free_capacity(&mut self) -> usize {
-        match self.doors.next() {
-            Door::Own => self.channel.free_capacity(),
-            Door::Handle => self.sender.free_capacity(),
-            Door::Dynamic => self.receiver.free_capacity(),
+            Door::Own => sizes!(self.channel),
+            Door::Handle => sizes!(self.sender),
+            Door::Dynamic => sizes!(self.receiver),
         }
     }
 }
@@ -196,6 +217,16 @@ fn dyn_receive<'c, S: Store<Message = u32>, H: Hand<u64>>(
 ) -> Turn<ChannelHeard<u32>, Held<'c, S, H>> {
     let polled = future.poll(cx);
     is_received(polled, Held::DynReceive(future))
+}
+
+// What a try to send leaves of its request.
+fn is_sent<'c, S: Store<Message = u32>, H: Hand<u64>>(
+    tried: Result<(), TrySendError<u32>>,
+) -> Turn<ChannelHeard<u32>, Held<'c, S, H>> {
+    match tried {
+        Ok(()) => Turn::over(ChannelHeard::Ready),
+        Err(TrySendError::Full(message)) => Turn::waits(Held::TrySend(message)),
+    }
 }
 
 // What a poll leaves of a request for a message.

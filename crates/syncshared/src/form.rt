@@ -159,12 +159,22 @@ pub enum Door {
 #[derive(Clone, Copy)]
 pub struct Doors {
     next: Door,
+    by_future: bool,
 }
 
 impl Doors {
     /// This one first.
     pub fn from(first: Door) -> Self {
-        Doors { next: first }
+        Doors {
+            next: first,
+            by_future: false,
+        }
+    }
+
+    /// Whether the next request is a future, in turn with one that is polled by calls that take a context.
+    pub fn is_future(&mut self) -> bool {
+        self.by_future = !self.by_future;
+        self.by_future
     }
 
     /// The next one.
@@ -186,3 +196,40 @@ pub fn over<A, H>() -> Turn<A, H> {
         place: None,
     }
 }
+
+/// What a shared form tells of its sizes.
+#[derive(Clone, Copy)]
+pub struct Sizes {
+    pub capacity: usize,
+    pub len: usize,
+    pub free: usize,
+    pub is_empty: bool,
+    pub is_full: bool,
+}
+
+impl Sizes {
+    /// What was asked for, where what is told goes together. No machine answers as it is answered otherwise.
+    pub fn checked<A: Drop>(&self, heard: A) -> Answer<A> {
+        let adds_up = self.len.checked_add(self.free) == Some(self.capacity);
+        if adds_up && self.is_empty == (self.len == 0) && self.is_full == (self.free == 0) {
+            Answer::Gives(heard)
+        } else {
+            Answer::NoSuch
+        }
+    }
+}
+
+/// What is told by something that has the five calls of sizes.
+macro_rules! sizes {
+    ($form:expr) => {
+        $crate::form::Sizes {
+            capacity: $form.capacity(),
+            len: $form.len(),
+            free: $form.free_capacity(),
+            is_empty: $form.is_empty(),
+            is_full: $form.is_full(),
+        }
+    };
+}
+
+pub(crate) use sizes;
