@@ -1,45 +1,65 @@
 //! Whether a shared form answers and wakes as the machine does.
-use crate::form::Doors;
+use crate::form::{Door, Doors};
 use crate::play::play;
 use esync_script::play_text;
 use esync_words::fault::Fault;
 use esync_words::play::Replies;
 use std::alloc::Global;
+use std::fmt::{self, Display, Formatter};
 use std::sync::Wait;
 
-/// What the machine and the shared form print of a script.
-#[derive(Drop)]
-pub struct Printed {
-    machine: String,
-    shared: String,
+/// How a shared form's replies go with those of the machine.
+#[derive(Clone, Copy)]
+pub enum Found {
+    /// So many replies, all alike.
+    Alike(usize),
+    /// So many are alike, and then comes another, where this way was taken first.
+    Another(usize, Door),
 }
 
-impl Printed {
-    /// Plays the script over the machine, and over the shared form by these ways.
-    ///
-    /// # Errors
-    ///
-    /// That of the script, where one of the two doesn't come to its end.
-    pub fn new<R: Wait>(rt: &R, alloc: Global, doors: Doors, script: &str) -> Result<Self, Fault> {
-        let (mut machine, mut shared) = (Vec::new(alloc), Vec::new(alloc));
-        play_text(alloc, &mut Replies {}, script, &mut machine)?;
-        play(rt, alloc, doors, script, &mut shared)?;
-        Ok(Printed {
-            machine: text(machine)?,
-            shared: text(shared)?,
-        })
+impl Found {
+    pub fn is_alike(self) -> bool {
+        matches!(self, Found::Alike(_))
     }
+}
 
-    /// How many replies they have in common before the first in which they differ, if they do.
-    pub fn alike(&self) -> (usize, bool) {
-        let count = self
-            .machine
-            .lines()
-            .zip(self.shared.lines())
-            .take_while(|(one, other)| one == other)
-            .count();
-        (count, self.machine == self.shared)
+impl Display for Found {
+    fn fmt<W: fmt::Write>(&self, f: &mut Formatter<W>) -> fmt::Result {
+        match self {
+            Found::Alike(count) => write!(f, "{count} replies, as the machine's"),
+            Found::Another(count, first) => {
+                write!(f, "another reply after {count}, where {first} comes first")
+            }
+        }
     }
+}
+
+/// Plays the script over the machine, and over the shared form, three times, each time with another way first.
+///
+/// # Errors
+///
+/// That of the script, where the machine doesn't come to its end.
+pub fn compare<R: Wait>(rt: &R, alloc: Global, script: &str) -> Result<Found, Fault> {
+    let mut machine = Vec::new(alloc);
+    play_text(alloc, &mut Replies {}, script, &mut machine)?;
+    let machine = text(machine)?;
+    for first in [Door::Own, Door::Handle, Door::Dynamic] {
+        let mut shared = Vec::new(alloc);
+        play(rt, alloc, Doors::from(first), script, &mut shared)?;
+        let shared = text(shared)?;
+        if machine != shared {
+            return Ok(Found::Another(alike(&machine, &shared), first));
+        }
+    }
+    Ok(Found::Alike(machine.lines().count()))
+}
+
+// How many lines are alike before the first that isn't.
+fn alike(one: &str, other: &str) -> usize {
+    one.lines()
+        .zip(other.lines())
+        .take_while(|(one, other)| one == other)
+        .count()
 }
 
 fn text(bytes: Vec<u8>) -> Result<String, Fault> {

@@ -3,6 +3,7 @@ use esync_base::waitqueue::Context;
 use esync_machine::primitive::{Answer, Command, Turn};
 use esync_words::vocabulary::{REQS, Vocabulary};
 use std::alloc::{AllocError, Global};
+use std::fmt::{self, Display, Formatter};
 
 /// What a request of these words asks for.
 pub type AskOf<F> = <<F as Form>::Words as Vocabulary>::Ask;
@@ -153,6 +154,16 @@ pub enum Door {
     Handle,
     /// Handles whose type doesn't say what they are of.
     Dynamic,
+}
+
+impl Display for Door {
+    fn fmt<W: fmt::Write>(&self, f: &mut Formatter<W>) -> fmt::Result {
+        f.write_str(match self {
+            Door::Own => "its own call",
+            Door::Handle => "a handle",
+            Door::Dynamic => "a dynamic handle",
+        })
+    }
 }
 
 /// The ways to a shared form, one after another.

@@ -3,8 +3,9 @@
 //!     syncshared
 //!     syncshared FILE..
 //!
-//! The first reads a script on standard input and prints what `syncrun` prints of it. The second plays each script that is
-//! named, by all ways to the shared form, and says whether it answers and wakes as the machine does, or how many lines it does.
+//! The first reads a script on standard input, and prints what `syncrun` prints of it. The second plays each script that is
+//! named, three times, each time beginning with another of the ways to the shared form, and says whether its replies are those
+//! of the machine, or after how many one is another.
 #![tactic(auto)]
 
 mod channel;
@@ -21,13 +22,11 @@ mod signal;
 mod watch;
 mod zerocopy;
 
-use crate::compare::Printed;
+use crate::compare::compare;
 use crate::form::{Door, Doors};
 use crate::play::play;
 use std::process::ExitCode;
 use std::{env, fs, io};
-
-const DOORS: [Door; 3] = [Door::Own, Door::Handle, Door::Dynamic];
 
 fn main(rt: HostRuntime) -> anyhow::Result<ExitCode> {
     let alloc = rt.alloc();
@@ -50,21 +49,12 @@ fn main(rt: HostRuntime) -> anyhow::Result<ExitCode> {
             },
         );
     }
+    let mut differ = 0u8;
     for name in names.iter() {
         let script = fs::read(&rt, name.as_str())?;
-        let script = str::from_utf8(&script)?;
-        for first in DOORS {
-            let printed = Printed::new(&rt, alloc, Doors::from(first), script)?;
-            let (lines, all) = printed.alike();
-            println!(rt;
-                "{name}: {lines} {}",
-                if all {
-                    "alike"
-                } else {
-                    "alike, and then another"
-                }
-            )?;
-        }
+        let found = compare(&rt, alloc, str::from_utf8(&script)?)?;
+        println!(rt; "{name}: {found}")?;
+        differ |= u8::from(!found.is_alike());
     }
-    Ok(ExitCode::SUCCESS)
+    Ok(ExitCode::from(differ))
 }
