@@ -1,15 +1,171 @@
-use crate::play::{Script, Stage};
+//! The mutex, its guards, and its guards that are narrowed to the second of two values.
+use crate::form::Form;
+use crate::play::{Script, Stage, serve};
+use esync_base::waitqueue::{Context, Hand, Poll};
+use esync_guards::mutex::machine::{Lock, MutexCall, MutexHeard};
+use esync_guards::mutex::{LockFuture, MappedMutexGuard, Mutex, MutexGuard, Second, TryLockError};
+use esync_machine::primitive::{Answer, Turn};
+use esync_notes::Notes;
+use esync_script::mutex::MutexWords;
 use esync_words::fault::Fault;
 use std::io::Write;
 use std::sync::Wait;
 
+type Pair = (u32, u32);
+
+type Heard = MutexHeard<Pair, u32>;
+
+// A mutex of two values.
+#[derive(Drop)]
+struct Guarded<'m, H> {
+    mutex: &'m Mutex<Pair, u64, H>,
+}
+
+#[derive(Drop)]
+enum Held<'m, H: Hand<u64>> {
+    Lock(LockFuture<'m, Pair, u64, H>),
+    Guard(MutexGuard<'m, Pair, u64, H>),
+    Mapped(MappedMutexGuard<'m, Pair, u32, Second, u64, H>),
+}
+
+impl<'m, H: Hand<u64>> Form for Guarded<'m, H> {
+    type Words = MutexWords;
+
+    type Held = Held<'m, H>;
+
+    fn begin(&mut self, _ask: Lock) -> Option<Self::Held> {
+        Some(Held::Lock(self.mutex.lock()))
+    }
+
+    fn poll(&mut self, held: Self::Held, cx: &Context<u64>) -> Turn<Heard, Self::Held> {
+        match held {
+            Held::Lock(future) => lock(future, cx),
+            Held::Guard(guard) => is_no_request(Held::Guard(guard)),
+            Held::Mapped(guard) => is_no_request(Held::Mapped(guard)),
+        }
+    }
+
+    fn number(call: &MutexCall<Pair, u32>) -> Option<usize> {
+        match call {
+            MutexCall::TryLock(r)
+            | MutexCall::Read(r)
+            | MutexCall::Write(r, _)
+            | MutexCall::Map(r)
+            | MutexCall::WritePart(r, _) => Some(*r),
+        }
+    }
+
+    fn call(&mut self, call: MutexCall<Pair, u32>, place: &mut Option<Self::Held>) -> Answer<Heard> {
+        match call {
+            MutexCall::TryLock(_) => self.try_lock_at(place),
+            MutexCall::Read(_) => read_at(place),
+            MutexCall::Write(_, value) => write_at(place, value),
+            MutexCall::Map(_) => map_at(place),
+            MutexCall::WritePart(_, part) => write_part_at(place, part),
+        }
+    }
+}
+
+impl<'m, H: Hand<u64>> Guarded<'m, H> {
+    // Locks for a free number.
+    fn try_lock_at(&self, place: &mut Option<Held<'m, H>>) -> Answer<Heard> {
+        if place.is_some() {
+            return Answer::NoSuch;
+        }
+        match self.mutex.try_lock() {
+            Ok(guard) => {
+                *place = Some(Held::Guard(guard));
+                Answer::Gives(MutexHeard::Tried(Ok(())))
+            }
+            Err(TryLockError) => Answer::Gives(MutexHeard::Tried(Err(TryLockError))),
+        }
+    }
+}
+
+fn lock<'m, H: Hand<u64>>(
+    mut future: LockFuture<'m, Pair, u64, H>,
+    cx: &Context<u64>,
+) -> Turn<Heard, Held<'m, H>> {
+    let polled = future.poll(cx);
+    is_locked(polled, Held::Lock(future))
+}
+
+// What a poll leaves of a request for the lock.
+fn is_locked<'m, H: Hand<u64>>(
+    polled: Poll<MutexGuard<'m, Pair, u64, H>>,
+    held: Held<'m, H>,
+) -> Turn<Heard, Held<'m, H>> {
+    match polled {
+        Poll::Ready(guard) => Turn {
+            answer: Answer::Gives(MutexHeard::Locked),
+            place: Some(Held::Guard(guard)),
+        },
+        Poll::Pending => Turn::waits(held),
+    }
+}
+
+// A poll of what is no request.
+fn is_no_request<'m, H: Hand<u64>>(held: Held<'m, H>) -> Turn<Heard, Held<'m, H>> {
+    Turn {
+        answer: Answer::NoSuch,
+        place: Some(held),
+    }
+}
+
+// What a guard reads.
+fn read_at<H: Hand<u64>>(place: &Option<Held<'_, H>>) -> Answer<Heard> {
+    match place {
+        Some(Held::Guard(guard)) => Answer::Gives(MutexHeard::Value(*guard.get())),
+        Some(Held::Mapped(guard)) => Answer::Gives(MutexHeard::Part(*guard.get())),
+        Some(Held::Lock(_)) | None => Answer::NoSuch,
+    }
+}
+
+// Writes through a guard.
+fn write_at<H: Hand<u64>>(place: &mut Option<Held<'_, H>>, value: Pair) -> Answer<Heard> {
+    let Some(Held::Guard(guard)) = place else {
+        return Answer::NoSuch;
+    };
+    *guard.get_mut() = value;
+    Answer::Done
+}
+
+// Writes the part through a mapped guard.
+fn write_part_at<H: Hand<u64>>(place: &mut Option<Held<'_, H>>, part: u32) -> Answer<Heard> {
+    let Some(Held::Mapped(guard)) = place else {
+        return Answer::NoSuch;
+    };
+    *guard.get_mut() = part;
+    Answer::Done
+}
+
+// Narrows a guard to the part.
+fn map_at<H: Hand<u64>>(place: &mut Option<Held<'_, H>>) -> Answer<Heard> {
+    let Some(held) = place.take() else {
+        return Answer::NoSuch;
+    };
+    let (answer, held) = mapped(held);
+    *place = Some(held);
+    answer
+}
+
+// What the narrowing leaves, and what it answers.
+fn mapped<'m, H: Hand<u64>>(held: Held<'m, H>) -> (Answer<Heard>, Held<'m, H>) {
+    match held {
+        Held::Guard(guard) => (Answer::Done, Held::Mapped(guard.map(Second {}))),
+        Held::Lock(future) => (Answer::NoSuch, Held::Lock(future)),
+        Held::Mapped(guard) => (Answer::NoSuch, Held::Mapped(guard)),
+    }
+}
+
 /// Plays the lines behind line 1.
 pub fn play<R: Wait, W: Write>(
-    _stage: Stage<'_, '_, R>,
-    _value: u32,
-    _part: u32,
-    _script: &mut Script<'_>,
-    _output: &mut W,
+    stage: Stage<'_, '_, R>,
+    value: u32,
+    part: u32,
+    script: &mut Script<'_>,
+    output: &mut W,
 ) -> Result<(), Fault> {
-    Ok(())
+    let mutex: Mutex<Pair, u64, &Notes<'_, R>> = Mutex::new((value, part), stage.notes);
+    serve(stage, Guarded { mutex: &mutex }, script, output)
 }
