@@ -1,4 +1,4 @@
-//! What no clause says of the mutex, and of a waker that is kept: worked rows, and what each shared call answers, shows and hands out.
+//! What neither a clause nor a script says of the mutex, and of a waker that is kept: worked rows of the machine, and of the shared form how it is made and unmade, parts of parts, and threads.
 #![tactic(auto)]
 
 #[cfg(test)]

@@ -35,43 +35,6 @@ fn call(
 }
 
 #[test]
-fn the_end_of_a_mapped_guard_wakes_who_waits(rt: HostRuntime) {
-    let mut mutex: Pairs = Requests::new(Guarded::new((4, 6), Second {}));
-    let locked = Answer::Gives(MutexHeard::Tried(Ok(())));
-    call(&rt, &mut mutex, MutexCall::TryLock(0), locked);
-    gives(
-        &rt,
-        &mut mutex,
-        Command::Start(1, Lock {}),
-        Answer::Done,
-        None,
-    );
-    gives(&rt, &mut mutex, Command::Poll(1, 8), Answer::Pending, None);
-    call(&rt, &mut mutex, MutexCall::Map(0), Answer::Done);
-    call(&rt, &mut mutex, MutexCall::WritePart(0, 9), Answer::Done);
-    call(
-        &rt,
-        &mut mutex,
-        MutexCall::Read(0),
-        Answer::Gives(MutexHeard::Part(9)),
-    );
-    gives(&rt, &mut mutex, Command::End(0), Answer::Done, Some(8));
-    gives(
-        &rt,
-        &mut mutex,
-        Command::Poll(1, 8),
-        Answer::Gives(MutexHeard::Locked),
-        None,
-    );
-    call(
-        &rt,
-        &mut mutex,
-        MutexCall::Read(1),
-        Answer::Gives(MutexHeard::Value((4, 9))),
-    );
-}
-
-#[test]
 fn what_is_of_another_kind_is_not_there(rt: HostRuntime) {
     let mut mutex: Pairs = Requests::new(Guarded::new((4, 6), Second {}));
     gives(

@@ -1,4 +1,4 @@
-//! What no clause says of the shared semaphores: what each call answers, and which wakers the hand gets.
+//! What neither a clause nor a script says of the shared semaphores: a fair one without places, and calls by name that a drop does as well.
 #![tactic(auto)]
 
 #[cfg(test)]

@@ -55,7 +55,11 @@ impl<'m, H: Hand<u64>> Form for Guarded<'m, H> {
         }
     }
 
-    fn call(&mut self, call: MutexCall<Pair, u32>, place: &mut Option<Self::Held>) -> Answer<Heard> {
+    fn call(
+        &mut self,
+        call: MutexCall<Pair, u32>,
+        place: &mut Option<Self::Held>,
+    ) -> Answer<Heard> {
         match call {
             MutexCall::TryLock(_) => self.try_lock_at(place),
             MutexCall::Read(_) => read_at(place),

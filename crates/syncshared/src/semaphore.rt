@@ -55,9 +55,7 @@ impl PermitWords for GreedyWords {
 impl PermitWords for FairWords {
     type Error = WaitQueueFull;
 
-    fn granted(
-        heard: Result<usize, WaitQueueFull>,
-    ) -> PermitHeard<Result<usize, WaitQueueFull>> {
+    fn granted(heard: Result<usize, WaitQueueFull>) -> PermitHeard<Result<usize, WaitQueueFull>> {
         PermitHeard::Granted(heard)
     }
 
@@ -186,11 +184,7 @@ where
     }
 
     // Takes permits for a free number.
-    fn try_at(
-        &mut self,
-        amount: Amount,
-        place: &mut Option<Held<'s, S, H>>,
-    ) -> Answer<V::Heard> {
+    fn try_at(&mut self, amount: Amount, place: &mut Option<Held<'s, S, H>>) -> Answer<V::Heard> {
         if place.is_some() {
             return Answer::NoSuch;
         }
@@ -278,8 +272,10 @@ where
     R: Wait,
     W: Write,
 {
-    let semaphore: SharedSemaphore<S, u64, &Notes<'_, R>> =
-        SharedSemaphore::new(permits, stage.notes);
+    let semaphore: SharedSemaphore<S, u64, &Notes<'_, R>> = SharedSemaphore::new(
+        permits,
+        stage.notes,
+    );
     let form: Permits<'_, S, &Notes<'_, R>, V> = Permits {
         semaphore: &semaphore,
         doors: stage.doors,
