@@ -1,15 +1,541 @@
-use crate::play::{Script, Stage};
+//! The pipe: by its own calls and by ends that are made anew for each call, or by futures that last and the ends of any pipe.
+ghost use Rattle.std.specs.Prelude.{◌≡◌, ◌≤◌, IfOk, OnErr, length};
+
+use crate::form::{Door, Doors, Form, over};
+use crate::play::{Script, Stage, serve};
+use bumpalo::Bump;
+use esync_base::waitqueue::{Context, Hand, Poll, TaskId};
+use esync_machine::primitive::{Answer, Turn};
+use esync_notes::Notes;
+use esync_pipe::bytes::Bytes;
+use esync_pipe::pipe::machine::{PipeAsk, PipeCall, PipeHeard};
+use esync_pipe::pipe::{
+    ByteState, DynamicPipe, DynamicReader, DynamicWriteFuture, DynamicWriter, PipeState, SharedPipe,
+    TryReadError, TryWriteError, WriteAllFuture, WriteFuture,
+};
 use esync_script::opening::Capacity;
+use esync_script::pipe::PipeWords;
 use esync_words::fault::Fault;
 use std::io::Write;
 use std::sync::Wait;
 
+// A row for the bytes of an answer.
+type Row = [u8; 16];
+
+// A pipe that is split anew wherever one of its ends is called, and whose futures are made anew for each poll.
+#[derive(Drop)]
+struct Split<S, H> {
+    pipe: SharedPipe<S, u64, H>,
+    doors: Doors,
+}
+
+impl<S: ByteState<Waker = u64>, H: Hand<u64> + Drop> Form for Split<S, H> {
+    type Words = PipeWords;
+
+    type Held = PipeAsk;
+
+    fn begin(&mut self, ask: PipeAsk) -> Option<PipeAsk> {
+        Some(ask)
+    }
+
+    fn poll(&mut self, held: PipeAsk, cx: &Context<u64>) -> Turn<PipeHeard, PipeAsk> {
+        match held {
+            PipeAsk::Write(bytes) => is_written(self.write(bytes.as_slice(), cx), held),
+            PipeAsk::WriteAll(bytes) => self.write_all(bytes, cx),
+            PipeAsk::Read(count) => {
+                let mut row = [0; 16];
+                is_read(self.read(places(&mut row, count), cx), &row, held)
+            }
+            PipeAsk::Fill => is_filled(self.fill(cx), held),
+        }
+    }
+
+    fn call(&mut self, call: PipeCall, _place: &mut Option<PipeAsk>) -> Answer<PipeHeard> {
+        match call {
+            PipeCall::TryWrite(bytes) => {
+                Answer::Gives(PipeHeard::TryWrote(self.try_write(bytes.as_slice())))
+            }
+            PipeCall::TryRead(count) => {
+                let mut row = [0; 16];
+                is_tried(self.try_read(places(&mut row, count)), &row)
+            }
+            PipeCall::TryFill => Answer::Gives(PipeHeard::TryFilled(self.try_fill())),
+            PipeCall::Consume(count) => self.consume(count),
+            PipeCall::Clear => {
+                self.pipe.clear();
+                Answer::Done
+            }
+            PipeCall::Len => len(&self.pipe),
+            PipeCall::FreeCapacity => {
+                Answer::Gives(PipeHeard::Number(self.pipe.free_capacity()))
+            }
+        }
+    }
+}
+
+impl<S: ByteState<Waker = u64>, H: Hand<u64> + Drop> Split<S, H> {
+    fn write(&mut self, from: &[u8], cx: &Context<u64>) -> Poll<usize> {
+        match self.doors.next() {
+            Door::Own => {
+                let mut future = self.pipe.write(from);
+                future.poll(cx)
+            }
+            Door::Handle => {
+                let (_reader, writer) = self.pipe.split();
+                let mut future = writer.write(from);
+                future.poll(cx)
+            }
+            Door::Dynamic => match self.pipe.try_write_with_context(Some(cx), from) {
+                Ok(count) => Poll::Ready(count),
+                Err(TryWriteError::Full) => Poll::Pending,
+            },
+        }
+    }
+
+    // Writes some bytes after others, until all are written or one has to wait.
+    fn write_all(&mut self, bytes: Bytes, cx: &Context<u64>) -> Turn<PipeHeard, PipeAsk> {
+        let mut bytes = bytes;
+        for _ in 0..Bytes::CAPACITY {
+            if bytes.as_slice().is_empty() {
+                return Turn::over(PipeHeard::WroteAll);
+            }
+            match self.write(bytes.as_slice(), cx) {
+                Poll::Ready(count) => bytes = behind(bytes, count),
+                Poll::Pending => return Turn::waits(PipeAsk::WriteAll(bytes)),
+            }
+        }
+        Turn::over(PipeHeard::WroteAll)
+    }
+
+    fn read(&mut self, to: &mut [u8], cx: &Context<u64>) -> Poll<usize> {
+        match self.doors.next() {
+            Door::Own => {
+                let mut future = self.pipe.read(to);
+                future.poll(cx)
+            }
+            Door::Handle => {
+                let (mut reader, _writer) = self.pipe.split();
+                let mut future = reader.read(to);
+                future.poll(cx)
+            }
+            Door::Dynamic => match self.pipe.try_read_with_context(Some(cx), to) {
+                Ok(count) => Poll::Ready(count),
+                Err(TryReadError::Empty) => Poll::Pending,
+            },
+        }
+    }
+
+    fn fill(&mut self, cx: &Context<u64>) -> Poll<Bytes> {
+        let door = self.doors.next();
+        let (mut reader, _writer) = self.pipe.split();
+        let polled = match door {
+            Door::Own => reader.poll_fill_buf(cx),
+            Door::Handle | Door::Dynamic => reader.fill_buf().poll(cx),
+        };
+        match polled {
+            Poll::Ready(()) => Poll::Ready(Bytes::from_slice(reader.filled())),
+            Poll::Pending => Poll::Pending,
+        }
+    }
+
+    fn try_write(&mut self, from: &[u8]) -> Result<usize, TryWriteError> {
+        match self.doors.next() {
+            Door::Own => self.pipe.try_write(from),
+            Door::Handle | Door::Dynamic => {
+                let (_reader, writer) = self.pipe.split();
+                writer.try_write(from)
+            }
+        }
+    }
+
+    fn try_read(&mut self, to: &mut [u8]) -> Result<usize, TryReadError> {
+        match self.doors.next() {
+            Door::Own => self.pipe.try_read(to),
+            Door::Handle | Door::Dynamic => {
+                let (mut reader, _writer) = self.pipe.split();
+                reader.try_read(to)
+            }
+        }
+    }
+
+    fn try_fill(&mut self) -> Result<Bytes, TryReadError> {
+        let (mut reader, _writer) = self.pipe.split();
+        match reader.try_fill_buf() {
+            Ok(()) => Ok(Bytes::from_slice(reader.filled())),
+            Err(error) => Err(error),
+        }
+    }
+
+    fn consume(&mut self, count: usize) -> Answer<PipeHeard> {
+        let (mut reader, _writer) = self.pipe.split();
+        let _ = reader.try_fill_buf();
+        if count > reader.filled().len() {
+            return Answer::NoSuch;
+        }
+        reader.consume(count);
+        Answer::Done
+    }
+}
+
+// A pipe of tasks, as the ends of any pipe take it.
+#[derive_where(Clone, Copy)]
+struct Lent<'c, S, H> {
+    pipe: &'c SharedPipe<S, TaskId, H>,
+}
+
+impl<S: ByteState<Waker = TaskId>, H: Hand<TaskId>> DynamicPipe for Lent<'_, S, H> {
+    fn capacity(&self) -> usize {
+        DynamicPipe::capacity(self.pipe)
+    }
+
+    fn try_write(&self, waker: Option<TaskId>, from: &[u8]) -> Result<usize, TryWriteError>
+        ensures { IfOk result (λ n. n ≤ length from.now) }
+    {
+        DynamicPipe::try_write(self.pipe, waker, from)
+    }
+
+    fn try_read(&self, waker: Option<TaskId>, to: &mut [u8]) -> Result<usize, TryReadError>
+        ensures { IfOk result (λ n. n ≤ length to.old) }
+    {
+        DynamicPipe::try_read(self.pipe, waker, to)
+    }
+
+    fn fill(&self, waker: Option<TaskId>, to: &mut [u8]) -> Result<usize, TryReadError>
+        ensures count { IfOk result (λ n. n ≤ length to.old) }
+        ensures kept { OnErr result (to.new ≡ to.old) }
+    {
+        DynamicPipe::fill(self.pipe, waker, to)
+    }
+
+    fn consume(&self, amt: usize) {
+        DynamicPipe::consume(self.pipe, amt)
+    }
+}
+
+// A pipe whose futures that write stand at their numbers from poll to poll, and whose bytes are read by an end of any pipe.
+#[derive(Drop)]
+struct Lasting<'c, S, H> {
+    pipe: &'c SharedPipe<S, TaskId, H>,
+    // The bytes that are to be written.
+    written: &'c Bump,
+    writer: &'c DynamicWriter<Lent<'c, S, H>>,
+    reader: DynamicReader<Lent<'c, S, H>>,
+    doors: Doors,
+}
+
+#[derive(Drop)]
+enum Held<'c, S, H> {
+    Write(WriteFuture<'c, S, TaskId, H>),
+    DynWrite(DynamicWriteFuture<'c, Lent<'c, S, H>>),
+    WriteAll(WriteAllFuture<'c, S, TaskId, H>),
+    Read(usize),
+    Fill,
+}
+
+impl<'c, S: ByteState<Waker = TaskId>, H: Hand<TaskId>> Form for Lasting<'c, S, H> {
+    type Words = PipeWords;
+
+    type Held = Held<'c, S, H>;
+
+    fn begin(&mut self, ask: PipeAsk) -> Option<Self::Held> {
+        match ask {
+            PipeAsk::Write(bytes) => self.write(bytes),
+            PipeAsk::WriteAll(bytes) => self.write_all(bytes),
+            PipeAsk::Read(count) => Some(Held::Read(count)),
+            PipeAsk::Fill => Some(Held::Fill),
+        }
+    }
+
+    fn poll(&mut self, held: Self::Held, cx: &Context<u64>) -> Turn<PipeHeard, Self::Held> {
+        let cx = &Context::from_waker(TaskId(cx.waker()));
+        match held {
+            Held::Write(future) => write(future, cx),
+            Held::DynWrite(future) => dyn_write(future, cx),
+            Held::WriteAll(future) => write_all(future, cx),
+            Held::Read(count) => {
+                let mut row = [0; 16];
+                is_read(self.read(places(&mut row, count), cx), &row, Held::Read(count))
+            }
+            Held::Fill => is_filled(self.fill(cx), Held::Fill),
+        }
+    }
+
+    fn call(&mut self, call: PipeCall, _place: &mut Option<Self::Held>) -> Answer<PipeHeard> {
+        match call {
+            PipeCall::TryWrite(bytes) => {
+                Answer::Gives(PipeHeard::TryWrote(self.try_write(bytes.as_slice())))
+            }
+            PipeCall::TryRead(count) => {
+                let mut row = [0; 16];
+                is_tried(self.try_read(places(&mut row, count)), &row)
+            }
+            PipeCall::TryFill => Answer::Gives(PipeHeard::TryFilled(self.try_fill())),
+            PipeCall::Consume(count) => self.consume(count),
+            PipeCall::Clear => {
+                self.pipe.clear();
+                Answer::Done
+            }
+            PipeCall::Len => len(self.pipe),
+            PipeCall::FreeCapacity => {
+                Answer::Gives(PipeHeard::Number(self.pipe.free_capacity()))
+            }
+        }
+    }
+}
+
+impl<'c, S: ByteState<Waker = TaskId>, H: Hand<TaskId>> Lasting<'c, S, H> {
+    fn write(&mut self, bytes: Bytes) -> Option<Held<'c, S, H>> {
+        let from = kept(self.written, bytes)?;
+        Some(match self.doors.next() {
+            Door::Own => Held::Write(self.pipe.write(from)),
+            Door::Handle | Door::Dynamic => Held::DynWrite(self.writer.write(from)),
+        })
+    }
+
+    fn write_all(&mut self, bytes: Bytes) -> Option<Held<'c, S, H>> {
+        let from = kept(self.written, bytes)?;
+        Some(Held::WriteAll(self.pipe.write_all(from)))
+    }
+
+    fn read(&mut self, to: &mut [u8], cx: &Context<TaskId>) -> Poll<usize> {
+        match self.doors.next() {
+            Door::Own => {
+                let mut future = self.pipe.read(to);
+                future.poll(cx)
+            }
+            Door::Handle | Door::Dynamic => {
+                let mut future = self.reader.read(to);
+                future.poll(cx)
+            }
+        }
+    }
+
+    fn fill(&mut self, cx: &Context<TaskId>) -> Poll<Bytes> {
+        let polled = self.reader.fill_buf().poll(cx);
+        match polled {
+            Poll::Ready(()) => Poll::Ready(Bytes::from_slice(self.reader.filled())),
+            Poll::Pending => Poll::Pending,
+        }
+    }
+
+    fn try_write(&mut self, from: &[u8]) -> Result<usize, TryWriteError> {
+        match self.doors.next() {
+            Door::Own => self.pipe.try_write(from),
+            Door::Handle | Door::Dynamic => self.writer.try_write(from),
+        }
+    }
+
+    fn try_read(&mut self, to: &mut [u8]) -> Result<usize, TryReadError> {
+        match self.doors.next() {
+            Door::Own => self.pipe.try_read(to),
+            Door::Handle | Door::Dynamic => self.reader.try_read(to),
+        }
+    }
+
+    fn try_fill(&mut self) -> Result<Bytes, TryReadError> {
+        match self.reader.try_fill_buf() {
+            Ok(()) => Ok(Bytes::from_slice(self.reader.filled())),
+            Err(error) => Err(error),
+        }
+    }
+
+    // What was filled before may be gone since, by a call of the pipe's own.
+    fn consume(&mut self, count: usize) -> Answer<PipeHeard> {
+        let shown = match self.reader.try_fill_buf() {
+            Ok(()) => self.reader.filled().len(),
+            Err(TryReadError::Empty) => 0,
+        };
+        if count > shown {
+            return Answer::NoSuch;
+        }
+        self.reader.consume(count);
+        Answer::Done
+    }
+}
+
+fn write<'c, S: ByteState<Waker = TaskId>, H: Hand<TaskId>>(
+    mut future: WriteFuture<'c, S, TaskId, H>,
+    cx: &Context<TaskId>,
+) -> Turn<PipeHeard, Held<'c, S, H>> {
+    let polled = future.poll(cx);
+    is_written(polled, Held::Write(future))
+}
+
+fn dyn_write<'c, S: ByteState<Waker = TaskId>, H: Hand<TaskId>>(
+    mut future: DynamicWriteFuture<'c, Lent<'c, S, H>>,
+    cx: &Context<TaskId>,
+) -> Turn<PipeHeard, Held<'c, S, H>> {
+    let polled = future.poll(cx);
+    is_written(polled, Held::DynWrite(future))
+}
+
+fn write_all<'c, S: ByteState<Waker = TaskId>, H: Hand<TaskId>>(
+    mut future: WriteAllFuture<'c, S, TaskId, H>,
+    cx: &Context<TaskId>,
+) -> Turn<PipeHeard, Held<'c, S, H>> {
+    if future.is_finished() {
+        return over();
+    }
+    let polled = future.poll(cx);
+    are_all_written(polled, Held::WriteAll(future))
+}
+
+// What a poll leaves of a request that writes some bytes.
+fn is_written<H: Drop>(polled: Poll<usize>, held: H) -> Turn<PipeHeard, H> {
+    match polled {
+        Poll::Ready(count) => Turn::over(PipeHeard::Wrote(count)),
+        Poll::Pending => Turn::waits(held),
+    }
+}
+
+// What a poll leaves of a request that writes all of its bytes.
+fn are_all_written<H: Drop>(polled: Poll<()>, held: H) -> Turn<PipeHeard, H> {
+    match polled {
+        Poll::Ready(()) => Turn::over(PipeHeard::WroteAll),
+        Poll::Pending => Turn::waits(held),
+    }
+}
+
+// What a poll leaves of a request that reads bytes to the front of a row.
+fn is_read<H: Drop>(polled: Poll<usize>, row: &Row, held: H) -> Turn<PipeHeard, H> {
+    match polled {
+        Poll::Ready(count) => Turn::over(PipeHeard::HasRead(front(row, count))),
+        Poll::Pending => Turn::waits(held),
+    }
+}
+
+// What a poll leaves of a request for bytes that stay.
+fn is_filled<H: Drop>(polled: Poll<Bytes>, held: H) -> Turn<PipeHeard, H> {
+    match polled {
+        Poll::Ready(bytes) => Turn::over(PipeHeard::Filled(bytes)),
+        Poll::Pending => Turn::waits(held),
+    }
+}
+
+// What is answered of a read to the front of a row.
+fn is_tried(tried: Result<usize, TryReadError>, row: &Row) -> Answer<PipeHeard> {
+    Answer::Gives(PipeHeard::HasTriedRead(match tried {
+        Ok(count) => Ok(front(row, count)),
+        Err(error) => Err(error),
+    }))
+}
+
+// So many places of a row, or all.
+fn places(row: &mut Row, count: usize) -> &mut [u8] {
+    &mut row[..count.min(16)]
+}
+
+// The bytes in so many places of a row.
+fn front(row: &Row, count: usize) -> Bytes {
+    Bytes::from_slice(&row[..count.min(16)])
+}
+
+// The bytes behind the first ones.
+fn behind(bytes: Bytes, count: usize) -> Bytes {
+    let from = bytes.as_slice();
+    Bytes::from_slice(&from[count.min(from.len())..])
+}
+
+// The bytes, where they outlive what is to write them.
+fn kept(written: &Bump, bytes: Bytes) -> Option<&[u8]> {
+    match written.try_alloc_slice_copy(bytes.as_slice()) {
+        Ok(kept) => Some(kept),
+        Err(_) => None,
+    }
+}
+
+// How many bytes are held, where all that is told of it agrees.
+fn len<S: ByteState<Waker = W>, W: Copy + Eq, H: Hand<W>>(
+    pipe: &SharedPipe<S, W, H>,
+) -> Answer<PipeHeard> {
+    let len = pipe.len();
+    if pipe.is_empty() != (len == 0) || pipe.is_full() != (len == pipe.capacity()) {
+        return Answer::NoSuch;
+    }
+    Answer::Gives(PipeHeard::Number(len))
+}
+
+// Gives the wakers of tasks to the hand of all shared forms.
+#[derive(Drop)]
+struct Tasks<'n, 'r, R> {
+    notes: &'n Notes<'r, R>,
+}
+
+impl<R: Wait> Hand<TaskId> for Tasks<'_, '_, R> {
+    type Rt = R;
+
+    fn rt(&self) -> &R {
+        self.notes.rt()
+    }
+
+    fn wake(&self, waker: TaskId) {
+        self.notes.wake(waker.0);
+    }
+}
+
+fn play_split<S: ByteState<Waker = u64>, R: Wait, W: Write>(
+    stage: Stage<'_, '_, R>,
+    script: &mut Script<'_>,
+    output: &mut W,
+) -> Result<(), Fault> {
+    let pipe: SharedPipe<S, u64, &Notes<'_, R>> = SharedPipe::new(stage.notes);
+    let form = Split {
+        pipe,
+        doors: stage.doors,
+    };
+    serve(stage, form, script, output)
+}
+
+fn play_lasting<S: ByteState<Waker = TaskId>, R: Wait, W: Write>(
+    stage: Stage<'_, '_, R>,
+    script: &mut Script<'_>,
+    output: &mut W,
+) -> Result<(), Fault> {
+    let pipe: SharedPipe<S, TaskId, Tasks<'_, '_, R>> = SharedPipe::new(Tasks { notes: stage.notes });
+    let written = Bump::new(stage.alloc);
+    let lent = Lent { pipe: &pipe };
+    let writer = DynamicWriter::new(lent);
+    let reader = DynamicReader::new(stage.alloc, lent).map_err(|_| Fault::OutOfMemory)?;
+    let form = Lasting {
+        pipe: &pipe,
+        written: &written,
+        writer: &writer,
+        reader,
+        doors: stage.doors,
+    };
+    serve(stage, form, script, output)
+}
+
+// Plays the lines behind line 1 over a pipe of one of these states, as the first way says.
+fn play_over<S: ByteState<Waker = u64>, T: ByteState<Waker = TaskId>, R: Wait, W: Write>(
+    stage: Stage<'_, '_, R>,
+    script: &mut Script<'_>,
+    output: &mut W,
+) -> Result<(), Fault> {
+    let mut doors = stage.doors;
+    match doors.next() {
+        Door::Handle => play_split::<S, R, W>(stage, script, output),
+        Door::Own | Door::Dynamic => play_lasting::<T, R, W>(stage, script, output),
+    }
+}
+
+// A state of a pipe of so many bytes, and one whose wakers are tasks.
+type Of<const N: usize> = PipeState<u64, N>;
+
+type TasksOf<const N: usize> = PipeState<TaskId, N>;
+
 /// Plays the lines behind line 1.
 pub fn play<R: Wait, W: Write>(
-    _stage: Stage<'_, '_, R>,
-    _capacity: Capacity,
-    _script: &mut Script<'_>,
-    _output: &mut W,
+    stage: Stage<'_, '_, R>,
+    capacity: Capacity,
+    script: &mut Script<'_>,
+    output: &mut W,
 ) -> Result<(), Fault> {
-    Ok(())
+    match capacity {
+        Capacity::One => play_over::<Of<1>, TasksOf<1>, R, W>(stage, script, output),
+        Capacity::Two => play_over::<Of<2>, TasksOf<2>, R, W>(stage, script, output),
+        Capacity::Three => play_over::<Of<3>, TasksOf<3>, R, W>(stage, script, output),
+        Capacity::Four => play_over::<Of<4>, TasksOf<4>, R, W>(stage, script, output),
+        Capacity::Eight => play_over::<Of<8>, TasksOf<8>, R, W>(stage, script, output),
+    }
 }
