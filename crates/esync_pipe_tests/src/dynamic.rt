@@ -46,54 +46,17 @@ fn fills<P: DynamicPipe + Drop>(rt: &impl Abort, reader: &mut DynamicReader<P>, 
     }
 }
 
-// Consumes so many of the bytes that were filled.
-fn consumes<P: DynamicPipe + Drop>(rt: &impl Abort, reader: &mut DynamicReader<P>, count: usize) {
-    holds!(rt; count <= reader.filled().len());
-    reader.consume(count);
-}
-
-// Two bytes are filled twice, and consumed one by one.
-fn fills_twice<P: DynamicPipe + Drop>(
-    rt: &impl Abort,
-    reader: &mut DynamicReader<P>,
-    writer: &DynamicWriter<P>,
-) {
-    holds!(*rt; writer.try_write(&[42, 43]) == Ok(2));
+// Two bytes are filled, of which one is consumed and the other one read.
+fn takes_two<P: DynamicPipe + Drop>(rt: &impl Abort, reader: &mut DynamicReader<P>) {
     fills(rt, reader, &[42, 43]);
-    fills(rt, reader, &[42, 43]);
-    consumes(rt, reader, 1);
+    holds!(*rt; !reader.filled().is_empty());
+    reader.consume(1);
     same!(*rt; reader.filled(), [43].as_slice());
     fills(rt, reader, &[43]);
-    consumes(rt, reader, 1);
+    let mut to = [0; 2];
+    holds!(*rt; reader.try_read(&mut to) == Ok(1));
+    same!(*rt; to, [43, 0]);
     fills(rt, reader, &[]);
-}
-
-// Three bytes are filled in two runs, and then with one byte more.
-fn fills_in_runs<P: DynamicPipe + Drop>(
-    rt: &impl Abort,
-    reader: &mut DynamicReader<P>,
-    writer: &DynamicWriter<P>,
-) {
-    holds!(*rt; writer.try_write(&[44, 45, 46]) == Ok(3));
-    holds!(*rt; writer.try_write(&[45, 46]) == Err(TryWriteError::Full));
-    fills(rt, reader, &[44]);
-    consumes(rt, reader, 1);
-    fills(rt, reader, &[45, 46]);
-    holds!(*rt; writer.try_write(&[47]) == Ok(1));
-    fills(rt, reader, &[45, 46, 47]);
-    consumes(rt, reader, 3);
-}
-
-#[test]
-fn dynamic_dispatch_pipe(rt: HostRuntime) -> Result<(), AllocError> {
-    let shared: Pipe<TaskId, _, 3> = pipe(rt);
-    let pipe: &dyn DynamicPipe = &shared;
-    let mut reader: DynamicReader<&dyn DynamicPipe> = DynamicReader::new(rt.alloc(), pipe)?;
-    let writer: DynamicWriter<&dyn DynamicPipe> = DynamicWriter::new(pipe);
-    fills_twice(&rt, &mut reader, &writer);
-    fills_in_runs(&rt, &mut reader, &writer);
-    holds!(rt; shared.is_empty());
-    Ok(())
 }
 
 // The growth of the reader is the only one of this test. Where all memory is given, it is there at once: `rt try --test
@@ -111,56 +74,28 @@ fn a_refused_reader_is_made_again(rt: HostRuntime) -> Result<(), AllocError> {
             DynamicReader::new(rt.alloc(), pipe)?
         }
     };
-    fills(&rt, &mut reader, &[42, 43]);
+    takes_two(&rt, &mut reader);
     Ok(())
 }
 
-// The bytes that are still to be written once a future of these was polled, if there was room.
-fn writes_some<'a, P: DynamicPipe>(
-    writer: &DynamicWriter<P>,
-    from: &'a [u8],
-    cx: &Context<TaskId>,
-) -> Option<&'a [u8]> {
-    let mut write = writer.write(from);
-    let first = write.poll(cx);
-    match first {
-        Poll::Ready(n) => Some(&from[n..]),
-        Poll::Pending => None,
-    }
+// A future that writes acts anew, and finds no room any more.
+fn writes_anew<P: DynamicPipe>(rt: &impl Abort, writer: &DynamicWriter<P>) {
+    let two = Context::from_waker(TaskId(2));
+    let mut write = writer.write(&[1, 2, 3]);
+    holds!(*rt; write.poll(&two) == Poll::Ready(2));
+    holds!(*rt; write.poll(&two) == Poll::Pending);
+    holds!(*rt; writer.try_write(&[3]) == Err(TryWriteError::Full));
 }
 
-// The bytes that a future read, if there were any.
-fn reads_some<'a, P: DynamicPipe + Drop>(
-    reader: &mut DynamicReader<P>,
-    to: &'a mut [u8],
-    cx: &Context<TaskId>,
-) -> Option<&'a [u8]> {
-    let first = {
-        let mut read = reader.read(&mut to[..]);
-        read.poll(cx)
-    };
-    match first {
-        Poll::Ready(n) => Some(&to[..n]),
-        Poll::Pending => None,
-    }
-}
-
-// Each end waits until the other one was polled. The pipe holds two bytes.
-fn waits_by_turns<P: DynamicPipe + Drop>(
-    rt: &impl Abort,
-    reader: &mut DynamicReader<P>,
-    writer: &DynamicWriter<P>,
-    copied: &DynamicWriter<P>,
-) {
-    let (one, two) = (
-        Context::from_waker(TaskId(1)),
-        Context::from_waker(TaskId(2)),
-    );
+// A future that reads waits for bytes, unless there are these two, and acts anew.
+fn reads_anew<P: DynamicPipe + Drop>(rt: &impl Abort, reader: &mut DynamicReader<P>) {
+    let one = Context::from_waker(TaskId(1));
     let mut to = [0; 4];
-    holds!(*rt; reads_some(reader, &mut to, &one).is_none());
-    holds!(*rt; writes_some(writer, &[1, 2, 3], &two) == Some(&[3]));
-    holds!(*rt; writes_some(copied, &[3], &two).is_none());
-    holds!(*rt; reads_some(reader, &mut to, &one) == Some(&[1, 2]));
+    let mut read = reader.read(&mut to);
+    holds!(*rt; read.poll(&one) == Poll::Ready(2));
+    holds!(*rt; read.poll(&one) == Poll::Pending);
+    drop(read);
+    same!(*rt; to, [1, 2, 0, 0]);
 }
 
 // A future that fills waits for a byte and acts anew, and a read forgets the byte.
@@ -168,7 +103,6 @@ fn fills_anew<P: DynamicPipe + Drop>(
     rt: &impl Abort,
     reader: &mut DynamicReader<P>,
     writer: &DynamicWriter<P>,
-    to: &mut [u8],
 ) {
     let one = Context::from_waker(TaskId(1));
     let mut fill = reader.fill_buf();
@@ -178,19 +112,19 @@ fn fills_anew<P: DynamicPipe + Drop>(
     holds!(*rt; fill.poll(&one) == Poll::Ready(()));
     drop(fill);
     same!(*rt; reader.filled(), [4].as_slice());
-    holds!(*rt; reader.try_read(to) == Ok(1));
+    drop(reader.read(&mut [0; 1]));
     same!(*rt; reader.filled().len(), 0);
 }
 
 #[test]
-fn the_futures_of_any_pipe_wait(rt: HostRuntime) -> Result<(), AllocError> {
+fn the_futures_of_any_pipe_act_anew(rt: HostRuntime) -> Result<(), AllocError> {
     let shared: Pipe<TaskId, _, 2> = pipe(rt);
     let pipe: &dyn DynamicPipe = &shared;
     let mut reader: DynamicReader<&dyn DynamicPipe> = DynamicReader::new(rt.alloc(), pipe)?;
     let writer: DynamicWriter<&dyn DynamicPipe> = DynamicWriter::new(pipe);
-    let copied = writer;
-    waits_by_turns(&rt, &mut reader, &writer, &copied);
-    fills_anew(&rt, &mut reader, &writer, &mut [0; 4]);
-    holds!(rt; pipe.capacity() == 2);
+    fills_anew(&rt, &mut reader, &writer);
+    shared.clear();
+    writes_anew(&rt, &writer);
+    reads_anew(&rt, &mut reader);
     Ok(())
 }

@@ -1,11 +1,7 @@
-//! What no clause says of the shared pipe and its ends: what each call answers, and which wakers the hand gets.
+//! What neither a clause nor a script says of the shared pipe: `crates/syncshared` plays scripts over it.
 #![tactic(auto)]
 
 #[cfg(test)]
 mod dynamic;
-#[cfg(test)]
-mod futures;
-#[cfg(test)]
-mod noted;
 #[cfg(test)]
 mod pipes;

@@ -1,222 +1,127 @@
-//! A shared pipe, its two ends, and what its calls wake.
-use crate::noted::{
-    Noted, NotedReader, NotedWriter, begins, clears, has, is_empty, pipe, puts, shows, split,
-    takes, woken, write_polls, writer_puts,
-};
+//! Futures of a shared pipe that are polled once more, a copied end, what a read forgets, and threads.
 use esync_base::waitqueue::{Context, Hand, Poll};
 use esync_notes::{Notes, holds, same};
-use esync_pipe::pipe::{ByteState, Pipe, SharedPipe, TryReadError, TryWriteError};
+use esync_pipe::pipe::{ByteState, FillBufFuture, Pipe, PipeState, Reader, SharedPipe, Writer};
 use std::process::Abort;
 use std::sync::Wait;
 use std::thread;
 
-// There is room for so many bytes.
-fn has_room<R: Wait + Abort, const N: usize>(rt: &R, pipe: &Noted<'_, R, N>, bytes: usize) {
-    same!(*rt; pipe.free_capacity(), bytes);
+type Hears<'n, R> = &'n Notes<'n, R>;
+
+type Noted<'n, R, const N: usize> = Pipe<u64, Hears<'n, R>, N>;
+
+type NotedReader<'p, 'n, R> = Reader<'p, u64, Hears<'n, R>, 3>;
+
+type NotedWriter<'p, 'n, R> = Writer<'p, u64, Hears<'n, R>, 3>;
+
+// No byte, and nobody who waits.
+fn pipe<'n, R: Wait, const N: usize>(notes: &'n Notes<'n, R>) -> Noted<'n, R, N> {
+    Pipe::new(notes)
 }
 
-// A byte is held, and there is room for another one or, where it is full, for none.
-fn is_full<R: Wait + Abort, const N: usize>(rt: &R, pipe: &Noted<'_, R, N>, full: bool) {
-    holds!(*rt; !pipe.is_empty());
-    same!(*rt; pipe.is_full(), full);
+// A write of as many bytes as there is room for.
+fn puts<R: Wait + Abort>(rt: &R, writer: &NotedWriter<'_, '_, R>, bytes: &[u8]) {
+    holds!(*rt; writer.try_write(bytes) == Ok(bytes.len()));
 }
 
-// A read of one byte by the end that reads.
-fn reader_takes<R: Wait + Abort, const N: usize>(
-    rt: &R,
-    reader: &mut NotedReader<'_, '_, R, N>,
-    to: &mut [u8],
-    byte: u8,
-) {
-    holds!(*rt; reader.try_read(to) == Ok(1));
-    begins(rt, to, byte);
+// The bytes that the reader filled and didn't consume since.
+fn shows<R: Wait + Abort>(rt: &R, reader: &NotedReader<'_, '_, R>, bytes: &[u8]) {
+    same!(*rt; reader.filled(), bytes);
 }
 
-// A fill that shows these bytes, or finds none.
-fn fills<R: Wait + Abort, const N: usize>(
-    rt: &R,
-    reader: &mut NotedReader<'_, '_, R, N>,
-    bytes: &[u8],
-) {
-    match reader.try_fill_buf() {
-        Ok(()) => shows(rt, reader, bytes),
-        Err(TryReadError::Empty) => same!(*rt; bytes.len(), 0),
-    }
-}
-
-// Consumes so many of the bytes that were filled.
-fn consumes<R: Wait + Abort, const N: usize>(
-    rt: &R,
-    reader: &mut NotedReader<'_, '_, R, N>,
-    count: usize,
-) {
-    holds!(*rt; count <= reader.filled().len());
-    reader.consume(count);
-}
-
-#[test]
-fn writing_once(rt: HostRuntime) {
-    let notes = Notes::new(&rt);
-    let pipe: Noted<_, 3> = pipe(&notes);
-    puts(&rt, &pipe, &[1], Ok(1));
-    has_room(&rt, &pipe, 2);
-    has(&rt, &pipe, 1);
-    is_full(&rt, &pipe, false);
-    same!(rt; pipe.capacity(), 3);
-    woken(&rt, &notes, &[]);
-}
-
-#[test]
-fn writing_when_full(rt: HostRuntime) {
-    let notes = Notes::new(&rt);
-    let pipe: Noted<_, 3> = pipe(&notes);
-    puts(&rt, &pipe, &[42], Ok(1));
-    puts(&rt, &pipe, &[43], Ok(1));
-    puts(&rt, &pipe, &[44], Ok(1));
-    puts(&rt, &pipe, &[45], Err(TryWriteError::Full));
-    has_room(&rt, &pipe, 0);
-    is_full(&rt, &pipe, true);
-}
-
-#[test]
-fn receiving_once_with_one_send(rt: HostRuntime) {
-    let notes = Notes::new(&rt);
-    let pipe: Noted<_, 3> = pipe(&notes);
-    puts(&rt, &pipe, &[42], Ok(1));
-    let mut to = [0; 16];
-    takes(&rt, &pipe, &mut to, Ok(1));
-    begins(&rt, &to, 42);
-    has_room(&rt, &pipe, 3);
-    is_empty(&rt, &pipe);
-}
-
-#[test]
-fn receiving_when_empty(rt: HostRuntime) {
-    let notes = Notes::new(&rt);
-    let pipe: Noted<_, 3> = pipe(&notes);
-    let mut to = [0; 16];
-    takes(&rt, &pipe, &mut to, Err(TryReadError::Empty));
-    has_room(&rt, &pipe, 3);
-}
-
-#[test]
-fn simple_send_and_receive(rt: HostRuntime) {
-    let notes = Notes::new(&rt);
-    let mut pipe: Noted<_, 3> = pipe(&notes);
-    let (mut reader, writer) = split(&mut pipe);
-    writer_puts(&rt, &writer, &[42], Ok(1));
-    let mut to = [0; 16];
-    reader_takes(&rt, &mut reader, &mut to, 42);
-}
-
-// Two bytes are filled twice, and consumed one by one.
-fn fills_twice<R: Wait + Abort, const N: usize>(
-    rt: &R,
-    reader: &mut NotedReader<'_, '_, R, N>,
-    writer: &NotedWriter<'_, '_, R, N>,
-) {
-    writer_puts(rt, writer, &[42, 43], Ok(2));
-    fills(rt, reader, &[42, 43]);
-    fills(rt, reader, &[42, 43]);
-    consumes(rt, reader, 1);
-    shows(rt, reader, &[43]);
-    fills(rt, reader, &[43]);
-    consumes(rt, reader, 1);
-    fills(rt, reader, &[]);
-}
-
-#[test]
-fn read_buf(rt: HostRuntime) {
-    let notes = Notes::new(&rt);
-    let mut pipe: Noted<_, 3> = pipe(&notes);
-    let (mut reader, writer) = split(&mut pipe);
-    fills_twice(&rt, &mut reader, &writer);
-    writer_puts(&rt, &writer, &[44, 45, 46], Ok(3));
-    writer_puts(&rt, &writer, &[45, 46], Err(TryWriteError::Full));
-    fills(&rt, &mut reader, &[44]);
-    consumes(&rt, &mut reader, 1);
-    fills(&rt, &mut reader, &[45, 46]);
-    writer_puts(&rt, &writer, &[47], Ok(1));
-    fills(&rt, &mut reader, &[45, 46, 47]);
-    consumes(&rt, &mut reader, 3);
-    fills(&rt, &mut reader, &[]);
-    is_empty(&rt, &pipe);
+// A fill that shows these bytes.
+fn fills<R: Wait + Abort>(rt: &R, reader: &mut NotedReader<'_, '_, R>, bytes: &[u8]) {
+    holds!(*rt; reader.try_fill_buf().is_ok());
+    shows(rt, reader, bytes);
 }
 
 #[test]
 fn writer_is_cloneable(rt: HostRuntime) {
     let notes = Notes::new(&rt);
     let mut pipe: Noted<_, 3> = pipe(&notes);
-    let (mut reader, writer) = split(&mut pipe);
+    let (mut reader, writer) = pipe.split();
     let copied = writer;
     match writer.clone() {
-        Ok(cloned) => writer_puts(&rt, &cloned, &[1], Ok(1)),
+        Ok(cloned) => puts(&rt, &cloned, &[1]),
         Err(_) => rt.abort(),
     }
-    writer_puts(&rt, &copied, &[2], Ok(1));
-    writer_puts(&rt, &writer, &[3], Ok(1));
+    puts(&rt, &copied, &[2]);
+    puts(&rt, &writer, &[3]);
     fills(&rt, &mut reader, &[1, 2, 3]);
+}
+
+// A read of one byte by a future.
+fn reads_one<R: Wait + Abort>(rt: &R, reader: &mut NotedReader<'_, '_, R>, byte: u8) {
+    let mut to = [0; 1];
+    let mut read = reader.read(&mut to);
+    holds!(*rt; read.poll(&Context::from_waker(1)) == Poll::Ready(1));
+    drop(read);
+    same!(*rt; to, [byte]);
 }
 
 #[test]
 fn a_read_forgets_what_was_filled(rt: HostRuntime) {
     let notes = Notes::new(&rt);
     let mut pipe: Noted<_, 3> = pipe(&notes);
-    let (mut reader, writer) = split(&mut pipe);
-    writer_puts(&rt, &writer, &[1, 2], Ok(2));
+    let (mut reader, writer) = pipe.split();
+    puts(&rt, &writer, &[1, 2]);
     fills(&rt, &mut reader, &[1, 2]);
-    let mut to = [0; 1];
-    reader_takes(&rt, &mut reader, &mut to, 1);
+    reads_one(&rt, &mut reader, 1);
     shows(&rt, &reader, &[]);
     fills(&rt, &mut reader, &[2]);
 }
 
+// A poll of a future that fills.
+fn fill_polls<R: Wait + Abort>(
+    rt: &R,
+    fill: &mut FillBufFuture<'_, '_, PipeState<u64, 3>, u64, Hears<'_, R>>,
+    answer: Poll<()>,
+) {
+    holds!(*rt; fill.poll(&Context::from_waker(1)) == answer);
+}
+
 #[test]
-fn a_context_waits_where_a_try_is_refused(rt: HostRuntime) {
+fn a_fill_acts_anew(rt: HostRuntime) {
+    let notes = Notes::new(&rt);
+    let mut pipe: Noted<_, 3> = pipe(&notes);
+    let (mut reader, writer) = pipe.split();
+    let mut fill = reader.fill_buf();
+    fill_polls(&rt, &mut fill, Poll::Pending);
+    puts(&rt, &writer, &[1, 2]);
+    holds!(rt; notes.are(&[1]));
+    fill_polls(&rt, &mut fill, Poll::Ready(()));
+    puts(&rt, &writer, &[3]);
+    fill_polls(&rt, &mut fill, Poll::Ready(()));
+    drop(fill);
+    shows(&rt, &reader, &[1, 2, 3]);
+}
+
+// Polls of a future that reads: there is one byte for the first poll, and none for the second.
+fn reads_once<S: ByteState<Waker = u64>, H: Hand<u64>>(
+    rt: &impl Abort,
+    pipe: &SharedPipe<S, u64, H>,
+    byte: u8,
+) {
+    let mut to = [0; 16];
+    let mut read = pipe.read(&mut to);
+    holds!(rt; read.poll(&Context::from_waker(2)) == Poll::Ready(1));
+    holds!(rt; read.poll(&Context::from_waker(2)) == Poll::Pending);
+    drop(read);
+    same!(rt; to[0], byte);
+}
+
+#[test]
+fn a_write_and_a_read_act_anew(rt: HostRuntime) {
     let notes = Notes::new(&rt);
     let pipe: Noted<_, 1> = pipe(&notes);
-    let (one, two) = (Context::from_waker(1), Context::from_waker(2));
-    let mut to = [0; 4];
-    let empty = pipe.try_read_with_context(Some(&one), &mut to);
-    holds!(rt; empty == Err(TryReadError::Empty));
-    woken(&rt, &notes, &[]);
-    holds!(rt; pipe.try_write_with_context(Some(&two), &[5]) == Ok(1));
-    woken(&rt, &notes, &[1]);
-    holds!(rt; pipe.try_write_with_context(Some(&two), &[6]) == Err(TryWriteError::Full));
-    woken(&rt, &notes, &[]);
-    holds!(rt; pipe.try_read_with_context(Some(&one), &mut to) == Ok(1));
-    begins(&rt, &to, 5);
-    woken(&rt, &notes, &[2]);
-}
-
-#[test]
-fn clear_wakes_the_writer(rt: HostRuntime) {
-    let notes = Notes::new(&rt);
-    let pipe: Noted<_, 2> = pipe(&notes);
-    let two = Context::from_waker(2);
-    puts(&rt, &pipe, &[1, 2, 3], Ok(2));
-    holds!(rt; pipe.try_write_with_context(Some(&two), &[3]) == Err(TryWriteError::Full));
-    clears(&pipe);
-    woken(&rt, &notes, &[2]);
-    is_empty(&rt, &pipe);
-    has_room(&rt, &pipe, 2);
-}
-
-#[test]
-fn a_consume_from_full_wakes_the_writer(rt: HostRuntime) {
-    let notes = Notes::new(&rt);
-    let mut pipe: Noted<_, 2> = pipe(&notes);
-    let (mut reader, writer) = split(&mut pipe);
-    writer_puts(&rt, &writer, &[1, 2], Ok(2));
-    let mut write = writer.write(&[3]);
-    write_polls(&rt, &mut write, 7, Poll::Pending);
-    fills(&rt, &mut reader, &[1, 2]);
-    consumes(&rt, &mut reader, 0);
-    woken(&rt, &notes, &[]);
-    consumes(&rt, &mut reader, 1);
-    woken(&rt, &notes, &[7]);
-    consumes(&rt, &mut reader, 1);
-    woken(&rt, &notes, &[]);
+    let one = Context::from_waker(1);
+    let mut write = pipe.write(&[42]);
+    holds!(rt; write.poll(&one) == Poll::Ready(1));
+    holds!(rt; write.poll(&one) == Poll::Pending);
+    reads_once(&rt, &pipe, 42);
+    holds!(rt; notes.are(&[1]));
+    holds!(rt; write.poll(&one) == Poll::Ready(1));
+    holds!(rt; notes.are(&[2]));
 }
 
 // A hand for threads, which wakes nobody.

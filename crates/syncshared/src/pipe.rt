@@ -10,8 +10,8 @@ use esync_notes::Notes;
 use esync_pipe::bytes::Bytes;
 use esync_pipe::pipe::machine::{PipeAsk, PipeCall, PipeHeard};
 use esync_pipe::pipe::{
-    ByteState, DynamicPipe, DynamicReader, DynamicWriteFuture, DynamicWriter, PipeState, SharedPipe,
-    TryReadError, TryWriteError, WriteAllFuture, WriteFuture,
+    ByteState, DynamicPipe, DynamicReader, DynamicWriteFuture, DynamicWriter, PipeState,
+    SharedPipe, TryReadError, TryWriteError, WriteAllFuture, WriteFuture,
 };
 use esync_script::opening::Capacity;
 use esync_script::pipe::PipeWords;
@@ -254,7 +254,11 @@ impl<'c, S: ByteState<Waker = TaskId>, H: Hand<TaskId>> Form for Lasting<'c, S, 
             Held::WriteAll(future) => write_all(future, cx),
             Held::Read(count) => {
                 let mut row = [0; 16];
-                is_read(self.read(places(&mut row, count), cx), &row, Held::Read(count))
+                is_read(
+                    self.read(places(&mut row, count), cx),
+                    &row,
+                    Held::Read(count),
+                )
             }
             Held::Fill => is_filled(self.fill(cx), Held::Fill),
         }
@@ -491,7 +495,9 @@ fn play_lasting<S: ByteState<Waker = TaskId>, R: Wait, W: Write>(
     script: &mut Script<'_>,
     output: &mut W,
 ) -> Result<(), Fault> {
-    let pipe: SharedPipe<S, TaskId, Tasks<'_, '_, R>> = SharedPipe::new(Tasks { notes: stage.notes });
+    let pipe: SharedPipe<S, TaskId, Tasks<'_, '_, R>> = SharedPipe::new(Tasks {
+        notes: stage.notes,
+    });
     let written = Bump::new(stage.alloc);
     let lent = Lent { pipe: &pipe };
     let writer = DynamicWriter::new(lent);
