@@ -343,13 +343,13 @@ impl<'c, S: ByteState<Waker = TaskId>, H: Hand<TaskId>> Lasting<'c, S, H> {
         }
     }
 
-    // What was filled before may be gone since, by a call of the pipe's own.
+    // What was filled before may be gone since, by a call of the pipe's own, and a fill that finds nothing leaves it.
     fn consume(&mut self, count: usize) -> Answer<PipeHeard> {
-        let shown = match self.reader.try_fill_buf() {
-            Ok(()) => self.reader.filled().len(),
-            Err(TryReadError::Empty) => 0,
-        };
-        if count > shown {
+        let is_empty = self.reader.try_fill_buf().is_err();
+        if is_empty && count > 0 {
+            return Answer::NoSuch;
+        }
+        if count > self.reader.filled().len() {
             return Answer::NoSuch;
         }
         self.reader.consume(count);
