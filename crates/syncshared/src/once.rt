@@ -1,13 +1,100 @@
-use crate::play::{Script, Stage};
+//! The value that is set once, by its own calls and by its future.
+use crate::form::{Door, Doors, Form};
+use crate::play::{Script, Stage, serve};
+use esync_base::waitqueue::{Context, Hand, Poll};
+use esync_cells::once_lock::OnceLock;
+use esync_cells::once_lock::machine::{Get, OnceCall, OnceHeard};
+use esync_machine::primitive::{Answer, Turn};
+use esync_notes::Notes;
+use esync_script::once::OnceWords;
 use esync_words::fault::Fault;
 use std::io::Write;
+use std::mem;
 use std::sync::Wait;
 
-/// Plays the lines behind line 1.
+// A value that is set once. Who waits for it borrows nothing between two polls, since a value is taken from the lock itself.
+#[derive(Drop)]
+struct Once<H> {
+    lock: OnceLock<u32, u64, H>,
+    hand: H,
+    doors: Doors,
+}
+
+impl<H: Hand<u64> + Copy> Form for Once<H> {
+    type Words = OnceWords;
+
+    type Held = Get;
+
+    fn begin(&mut self, ask: Get) -> Option<Get> {
+        Some(ask)
+    }
+
+    fn poll(&mut self, held: Get, cx: &Context<u64>) -> Turn<OnceHeard<u32>, Get> {
+        match self.get(cx) {
+            Poll::Ready(value) => Turn::over(OnceHeard::Got(value)),
+            Poll::Pending => Turn::waits(held),
+        }
+    }
+
+    fn call(&mut self, call: OnceCall<u32>, _place: &mut Option<Get>) -> Answer<OnceHeard<u32>> {
+        Answer::Gives(match call {
+            OnceCall::TryGet => OnceHeard::Found(self.lock.try_get().copied()),
+            OnceCall::Init(value) => OnceHeard::HasSet(self.lock.init(value)),
+            OnceCall::GetOrInit(value) => OnceHeard::Shown(*self.lock.get_or_init(move || value)),
+            OnceCall::Take => OnceHeard::Found(self.take()),
+            OnceCall::IsSet => OnceHeard::IsSet(self.lock.is_set()),
+        })
+    }
+}
+
+impl<H: Hand<u64> + Copy> Once<H> {
+    fn get(&mut self, cx: &Context<u64>) -> Poll<u32> {
+        match self.doors.next() {
+            Door::Own => copied(self.lock.poll_get(cx)),
+            Door::Handle => copied(self.lock.get().poll(cx)),
+            Door::Dynamic => self.get_again(cx),
+        }
+    }
+
+    // A get acts anew after it was ready.
+    fn get_again(&self, cx: &Context<u64>) -> Poll<u32> {
+        let mut get = self.lock.get();
+        match get.poll(cx) {
+            Poll::Ready(_shown) => copied(get.poll(cx)),
+            Poll::Pending => Poll::Pending,
+        }
+    }
+
+    // A lock that was taken apart leaves another one without a value.
+    fn take(&mut self) -> Option<u32> {
+        match self.doors.next() {
+            Door::Own | Door::Handle => self.lock.take(),
+            Door::Dynamic => {
+                mem::replace(&mut self.lock, OnceLock::new(self.hand)).into_inner()
+            }
+        }
+    }
+}
+
+// The value that is shown.
+fn copied(polled: Poll<&u32>) -> Poll<u32> {
+    match polled {
+        Poll::Ready(value) => Poll::Ready(*value),
+        Poll::Pending => Poll::Pending,
+    }
+}
+
+/// Plays the lines behind line 1 over a value that is set once.
 pub fn play<R: Wait, W: Write>(
-    _stage: Stage<'_, '_, R>,
-    _script: &mut Script<'_>,
-    _output: &mut W,
+    stage: Stage<'_, '_, R>,
+    script: &mut Script<'_>,
+    output: &mut W,
 ) -> Result<(), Fault> {
-    Ok(())
+    let hand: &Notes<'_, R> = stage.notes;
+    let form = Once {
+        lock: OnceLock::new(hand),
+        hand,
+        doors: stage.doors,
+    };
+    serve(stage, form, script, output)
 }
