@@ -1,7 +1,7 @@
 use esync_cells::lazy_lock::Given;
 use esync_cells::lazy_lock::machine::{LazyCall, LazyHolder, LazyRun, NoAsk, run_lazy};
+use esync_cells::once_lock::OnceState;
 use esync_cells::once_lock::machine::{Get, OnceCall, OnceHeard, OnceRun, run_once};
-use esync_cells::once_lock::{InitError, OnceState};
 use esync_machine::primitive::{Answer, Command};
 use esync_machine::requests::Requests;
 use esync_machine::run::Reply;
@@ -24,58 +24,21 @@ fn are<A: PartialEq>(rt: &impl Abort, replies: Replies<'_, A>, want: &[(Answer<A
 fn a_get_is_answered_once_a_value_was_set(rt: HostRuntime) -> Result<(), Fail> {
     let mut machine: OnceRun<u32, u64, 16, 1> = Requests::new(OnceState::new());
     let commands = vec![in rt.alloc();
-        Command::Call(OnceCall::TryGet),
         Command::Start(1, Get {}),
         Command::Poll(1, 1),
-        Command::Poll(1, 1),
         Command::Call(OnceCall::Init(42)),
-        Command::Call(OnceCall::Init(43)),
-        Command::Call(OnceCall::TryGet),
         Command::Poll(1, 1),
         Command::Poll(1, 1),
-        Command::Call(OnceCall::IsSet),
-        Command::Call(OnceCall::Take),
-        Command::Call(OnceCall::IsSet),
-        Command::Call(OnceCall::Take),
-        Command::Call(OnceCall::GetOrInit(7)),
-        Command::Call(OnceCall::GetOrInit(8)),
-        Command::Start(2, Get {}),
-        Command::Start(2, Get {}),
-        Command::Call(OnceCall::Take),
-        Command::Poll(2, 3),
-        Command::End(2),
-        Command::Poll(2, 3),
-        Command::Start(16, Get {}),
     ]?;
     let replies = run_once(rt.alloc(), &mut machine, commands)?;
     are(
         &rt,
         replies.as_slice(),
         &[
-            (Answer::Gives(OnceHeard::Found(None)), None),
             (Answer::Done, None),
-            (Answer::Pending, Some(1)),
             (Answer::Pending, Some(1)),
             (Answer::Gives(OnceHeard::HasSet(Ok(()))), None),
-            (
-                Answer::Gives(OnceHeard::HasSet(Err(InitError::Set(43)))),
-                None,
-            ),
-            (Answer::Gives(OnceHeard::Found(Some(42))), None),
             (Answer::Gives(OnceHeard::Got(42)), None),
-            (Answer::NoSuch, None),
-            (Answer::Gives(OnceHeard::IsSet(true)), None),
-            (Answer::Gives(OnceHeard::Found(Some(42))), None),
-            (Answer::Gives(OnceHeard::IsSet(false)), None),
-            (Answer::Gives(OnceHeard::Found(None)), None),
-            (Answer::Gives(OnceHeard::Shown(7)), None),
-            (Answer::Gives(OnceHeard::Shown(7)), None),
-            (Answer::Done, None),
-            (Answer::NoSuch, None),
-            (Answer::Gives(OnceHeard::Found(Some(7))), None),
-            (Answer::Pending, Some(3)),
-            (Answer::Done, None),
-            (Answer::NoSuch, None),
             (Answer::NoSuch, None),
         ],
     );
@@ -88,40 +51,21 @@ type Lazy = LazyRun<u32, Given<u32>, u64, 16, 1>;
 fn nothing_is_there_once_the_value_was_taken_out(rt: HostRuntime) -> Result<(), Fail> {
     let mut machine: Lazy = Requests::new(LazyHolder::new(Given { value: 7 }));
     let commands = vec![in rt.alloc();
-        Command::Call(LazyCall::Get),
         Command::Start(0, NoAsk {}),
-        Command::Poll(0, 1),
         Command::Call(LazyCall::Get),
         Command::Call(LazyCall::Into),
         Command::Call(LazyCall::Get),
-        Command::Call(LazyCall::Into),
-        Command::Start(0, NoAsk {}),
-        Command::End(0),
     ]?;
     let replies = run_lazy(rt.alloc(), &mut machine, commands)?;
     are(
         &rt,
         replies.as_slice(),
         &[
-            (Answer::Gives(7), None),
-            (Answer::NoSuch, None),
             (Answer::NoSuch, None),
             (Answer::Gives(7), None),
             (Answer::Gives(7), None),
-            (Answer::NoSuch, None),
-            (Answer::NoSuch, None),
-            (Answer::NoSuch, None),
             (Answer::NoSuch, None),
         ],
     );
-    Ok(())
-}
-
-#[test]
-fn the_value_can_be_taken_out_at_once(rt: HostRuntime) -> Result<(), Fail> {
-    let mut machine: Lazy = Requests::new(LazyHolder::new(Given { value: 8 }));
-    let commands = vec![in rt.alloc(); Command::Call(LazyCall::Into)]?;
-    let replies = run_lazy(rt.alloc(), &mut machine, commands)?;
-    are(&rt, replies.as_slice(), &[(Answer::Gives(8), None)]);
     Ok(())
 }

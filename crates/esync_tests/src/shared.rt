@@ -1,31 +1,9 @@
 use embassy_sync::blocking_mutex::CriticalSectionMutex;
 use embassy_sync::channel::ChannelState;
-use embassy_sync::signal::Signal;
-use embassy_sync::waitqueue::{Context, Poll, Wakes};
-use esync_notes::{Notes, holds, same, woken};
+use embassy_sync::waitqueue::Wakes;
+use esync_notes::{holds, same};
 use std::sync::Wait;
 use std::thread;
-
-#[test]
-fn a_signal_keeps_its_waiter_over_a_reset(rt: HostRuntime) {
-    let notes = Notes::new(&rt);
-    let signal: Signal<u32, u64, _> = Signal::new(&notes);
-    let mut first = signal.wait();
-    let mut second = signal.wait();
-    let (one, two) = (Context::from_waker(1), Context::from_waker(2));
-    holds!(rt; first.poll(&one) == Poll::Pending);
-    holds!(rt; second.poll(&two) == Poll::Pending);
-    woken!(&rt, &notes, &[1]);
-    signal.reset();
-    woken!(&rt, &notes, &[]);
-    signal.signal(5);
-    woken!(&rt, &notes, &[2]);
-    holds!(rt; signal.signaled());
-    holds!(rt; second.poll(&two) == Poll::Ready(5));
-    woken!(&rt, &notes, &[]);
-    holds!(rt; first.poll(&one) == Poll::Pending);
-    same!(rt; signal.try_take(), None);
-}
 
 #[test]
 fn a_mutex_lends_its_value(rt: HostRuntime) {
@@ -61,26 +39,4 @@ fn two_threads_share_a_channel_state(rt: HostRuntime) {
     holds!(rt; sent);
     let left = channel.into_inner().len();
     holds!(rt; (received == Some(7) && left == 0) || (received == None && left == 1));
-}
-
-#[test]
-fn a_wait_acts_anew_after_it_was_ready(rt: HostRuntime) {
-    let notes = Notes::new(&rt);
-    let signal: Signal<u32, u64, _> = Signal::new(&notes);
-    let cx = Context::from_waker(1);
-    let mut wait = signal.wait();
-    signal.signal(5);
-    holds!(rt; wait.poll(&cx) == Poll::Ready(5));
-    holds!(rt; wait.poll(&cx) == Poll::Pending);
-    woken!(&rt, &notes, &[]);
-    signal.signal(6);
-    woken!(&rt, &notes, &[1]);
-    holds!(rt; wait.poll(&cx) == Poll::Ready(6));
-    signal.signal(7);
-    holds!(rt; signal.poll_wait(&cx) == Poll::Ready(7));
-    holds!(rt; !signal.signaled());
-    signal.signal(8);
-    signal.reset();
-    same!(rt; signal.try_take(), None);
-    woken!(&rt, &notes, &[]);
 }

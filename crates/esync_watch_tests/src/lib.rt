@@ -1,4 +1,4 @@
-//! Worked examples of senders and receivers of a shared watch.
+//! What a shared watch does that no script can say. The rest of its tests are scripts: `crates/syncshared/data`.
 #![tactic(auto)]
 
 #[cfg(test)]
@@ -6,14 +6,8 @@ mod clones;
 #[cfg(test)]
 mod judges;
 #[cfg(test)]
-mod marks;
-#[cfg(test)]
-mod reads;
-#[cfg(test)]
 mod receivers;
 #[cfg(test)]
 mod sends;
 #[cfg(test)]
 mod story;
-#[cfg(test)]
-mod waits;

@@ -69,9 +69,7 @@ impl<H: Hand<u64> + Copy> Once<H> {
     fn take(&mut self) -> Option<u32> {
         match self.doors.next() {
             Door::Own | Door::Handle => self.lock.take(),
-            Door::Dynamic => {
-                mem::replace(&mut self.lock, OnceLock::new(self.hand)).into_inner()
-            }
+            Door::Dynamic => { mem::replace(&mut self.lock, OnceLock::new(self.hand)).into_inner() }
         }
     }
 }

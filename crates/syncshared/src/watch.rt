@@ -21,19 +21,60 @@ use std::sync::Wait;
 // How many receivers a script can have at a time.
 const RECEIVERS: usize = 16;
 
+// A watch of values, however many receivers it has room for: what it has that its senders and receivers don't have.
+trait Watches: WatchBehavior<Value = u32, Waker = u64> {
+    // A receiver, if there is a place for it.
+    fn counted(&self, door: Door) -> Option<Rcv<'_, Self>>;
+
+    // A receiver that never waits.
+    fn anon(&self, door: Door) -> AnonRcv<'_, Self>;
+
+    fn version(&self) -> u64;
+
+    // What a read finds.
+    fn found(&self) -> Result<Option<u32>, AllocError>;
+
+    // What a read of values below the limit finds.
+    fn found_below(&self, below: Below) -> Result<Option<u32>, AllocError>;
+}
+
+impl<S: WatchValue<K, Value = u32, Waker = u64>, H: Hand<u64>, const K: usize> Watches
+    for SharedWatch<S, u64, H, K> {
+    fn counted(&self, door: Door) -> Option<Rcv<'_, Self>> {
+        match door {
+            Door::Own | Door::Handle => self.receiver(),
+            Door::Dynamic => self.dyn_receiver(),
+        }
+    }
+
+    fn anon(&self, door: Door) -> AnonRcv<'_, Self> {
+        match door {
+            Door::Own | Door::Handle => self.anon_receiver(),
+            Door::Dynamic => self.dyn_anon_receiver(),
+        }
+    }
+
+    fn version(&self) -> u64 {
+        self.get_msg_id()
+    }
+
+    fn found(&self) -> Result<Option<u32>, AllocError> {
+        self.try_get()
+    }
+
+    fn found_below(&self, below: Below) -> Result<Option<u32>, AllocError> {
+        self.try_get_and(|value| below.holds(value))
+    }
+}
+
 // A watch with its receivers, whose calls are made by each of its ways in turn.
 #[derive(Drop)]
-struct Watching<
-    'w,
-    S: WatchValue<K, Value = u32, Waker = u64> + 'w,
-    H: Hand<u64> + 'w,
-    const K: usize,
-> {
-    watch: &'w SharedWatch<S, u64, H, K>,
-    sender: Snd<'w, SharedWatch<S, u64, H, K>>,
-    cloned: Snd<'w, SharedWatch<S, u64, H, K>>,
-    dyn_sender: DynSender<'w, SharedWatch<S, u64, H, K>>,
-    receivers: Vec<Option<Receiver<'w, SharedWatch<S, u64, H, K>>>>,
+struct Watching<'w, B: Watches> {
+    watch: &'w B,
+    sender: Snd<'w, B>,
+    cloned: Snd<'w, B>,
+    dyn_sender: DynSender<'w, B>,
+    receivers: Vec<Option<Receiver<'w, B>>>,
     doors: Doors,
 }
 
@@ -156,8 +197,7 @@ fn has_found(found: Result<Option<u32>, AllocError>) -> Answer<WatchHeard<u32>> 
     }
 }
 
-impl<'w, S: WatchValue<K, Value = u32, Waker = u64> + 'w, H: Hand<u64> + 'w, const K: usize> Form
-    for Watching<'w, S, H, K> {
+impl<'w, B: Watches> Form for Watching<'w, B> {
     type Words = WatchWords;
 
     type Held = Await<Below>;
@@ -203,7 +243,7 @@ impl<'w, S: WatchValue<K, Value = u32, Waker = u64> + 'w, H: Hand<u64> + 'w, con
             }
             WatchCall::TryGet => has_found(self.try_get()),
             WatchCall::Read(h, read) => self.read(h, read),
-            WatchCall::Id => Answer::Gives(WatchHeard::Version(self.watch.get_msg_id())),
+            WatchCall::Id => Answer::Gives(WatchHeard::Version(self.watch.version())),
             WatchCall::Contains => Answer::Gives(WatchHeard::HasValue(self.contains_value())),
         }
     }
@@ -227,13 +267,8 @@ fn receiver_by<'p, 'w, B: WatchBehavior<Value = u32, Waker = u64>>(
     place.as_mut()
 }
 
-impl<'w, S: WatchValue<K, Value = u32, Waker = u64> + 'w, H: Hand<u64> + 'w, const K: usize> Watching<
-    'w,
-    S,
-    H,
-    K,
-> {
-    fn sender(&mut self) -> Snd<'w, SharedWatch<S, u64, H, K>> {
+impl<'w, B: Watches> Watching<'w, B> {
+    fn sender(&mut self) -> Snd<'w, B> {
         match self.doors.next() {
             Door::Own => self.sender,
             Door::Handle => self.cloned,
@@ -253,11 +288,7 @@ impl<'w, S: WatchValue<K, Value = u32, Waker = u64> + 'w, H: Hand<u64> + 'w, con
         if !self.is_free(h) {
             return Answer::NoSuch;
         }
-        let joined = match self.doors.next() {
-            Door::Own | Door::Handle => self.watch.receiver(),
-            Door::Dynamic => self.watch.dyn_receiver(),
-        };
-        match joined {
+        match self.watch.counted(self.doors.next()) {
             Some(receiver) => {
                 self.put(h, Receiver::Counted(receiver));
                 Answer::Gives(WatchHeard::Counted(true))
@@ -271,15 +302,12 @@ impl<'w, S: WatchValue<K, Value = u32, Waker = u64> + 'w, H: Hand<u64> + 'w, con
         if !self.is_free(h) {
             return Answer::NoSuch;
         }
-        let receiver = match self.doors.next() {
-            Door::Own | Door::Handle => self.watch.anon_receiver(),
-            Door::Dynamic => self.watch.dyn_anon_receiver(),
-        };
+        let receiver = self.watch.anon(self.doors.next());
         self.put(h, Receiver::Anon(receiver));
         Answer::Done
     }
 
-    fn put(&mut self, h: usize, receiver: Receiver<'w, SharedWatch<S, u64, H, K>>) {
+    fn put(&mut self, h: usize, receiver: Receiver<'w, B>) {
         if let Some(place) = self.receivers.get_mut(h) {
             *place = Some(receiver);
         }
@@ -300,7 +328,7 @@ impl<'w, S: WatchValue<K, Value = u32, Waker = u64> + 'w, H: Hand<u64> + 'w, con
     // A read for no receiver.
     fn try_get(&mut self) -> Result<Option<u32>, AllocError> {
         match self.doors.next() {
-            Door::Own => self.watch.try_get(),
+            Door::Own => self.watch.found(),
             Door::Handle => self.sender.try_get(),
             Door::Dynamic => self.dyn_sender.try_get(),
         }
@@ -326,7 +354,7 @@ impl<'w, S: WatchValue<K, Value = u32, Waker = u64> + 'w, H: Hand<u64> + 'w, con
         found: Result<Option<u32>, AllocError>,
     ) -> Answer<WatchHeard<u32>> {
         let without = match self.doors.next() {
-            Door::Own => self.watch.try_get_and(|value| below.holds(value)),
+            Door::Own => self.watch.found_below(below),
             Door::Handle => self.sender.try_get_and(|value| below.holds(value)),
             Door::Dynamic => self.dyn_sender.try_get_and(|value| below.holds(value)),
         };
@@ -355,12 +383,7 @@ impl<'w, S: WatchValue<K, Value = u32, Waker = u64> + 'w, H: Hand<u64> + 'w, con
 }
 
 // Plays the lines behind line 1 over a watch in this state.
-fn play_over<
-    S: WatchValue<K, Value = u32, Waker = u64>,
-    R: Wait,
-    W: Write,
-    const K: usize,
->(
+fn play_over<S: WatchValue<K, Value = u32, Waker = u64>, R: Wait, W: Write, const K: usize>(
     stage: Stage<'_, '_, R>,
     value: Option<u32>,
     script: &mut Script<'_>,
@@ -373,8 +396,7 @@ fn play_over<
         Some(value) => SharedWatch::new_with(value, stage.notes),
         None => SharedWatch::new(stage.notes),
     };
-    let mut receivers =
-        Vec::with_capacity(stage.alloc, RECEIVERS).map_err(|_| Fault::OutOfMemory)?;
+    let mut receivers = Vec::with_capacity(stage.alloc, RECEIVERS).map_err(|_| Fault::OutOfMemory)?;
     for _ in 0..RECEIVERS {
         receivers.push(None).map_err(|_| Fault::OutOfMemory)?;
     }
@@ -399,8 +421,12 @@ pub fn play<R: Wait, W: Write>(
     output: &mut W,
 ) -> Result<(), Fault> {
     match capacity {
-        Capacity::One => play_over::<WatchState<u32, u64, 1>, R, W, 1>(stage, value, script, output),
-        Capacity::Two => play_over::<WatchState<u32, u64, 2>, R, W, 2>(stage, value, script, output),
+        Capacity::One => play_over::<WatchState<u32, u64, 1>, R, W, 1>(
+            stage, value, script, output,
+        ),
+        Capacity::Two => play_over::<WatchState<u32, u64, 2>, R, W, 2>(
+            stage, value, script, output,
+        ),
         Capacity::Three => {
             play_over::<WatchState<u32, u64, 3>, R, W, 3>(stage, value, script, output)
         }
