@@ -1,16 +1,425 @@
-use crate::play::{Script, Stage};
+//! Publishers and subscribers, by the channel's own calls and by those of its handles. Whoever has a number stands in a table.
+ghost use Rattle.std.specs.Prelude.{◌≤◌};
+
+use crate::form::{Door, Doors, Form, over};
+use crate::play::{Script, Stage, serve};
+use esync_base::waitqueue::{Context, Hand, Poll};
+use esync_machine::primitive::{Answer, Turn};
+use esync_notes::Notes;
+use esync_pubsub::pubsub::machine::{PubSubAsk, PubSubCall, PubSubHeard};
+use esync_pubsub::pubsub::{
+    DynImmediatePublisher, Exhausted, ImmediatePub, LogState, Pub, PubSubBehavior, PubSubState,
+    PublishRequest, SharedPubSub, Sub, TryPublishError,
+};
 use esync_script::opening::Capacity;
+use esync_script::pubsub::PubSubWords;
 use esync_words::fault::Fault;
+use esync_words::vocabulary::REQS;
+use std::alloc::{AllocError, Global};
 use std::io::Write;
 use std::sync::Wait;
 
-/// Plays the lines behind line 1.
+// A channel for many, with who has a number.
+#[derive(Drop)]
+struct PubSub<'c, S: LogState<4, Message = u32, Waker = u64>, H: Hand<u64>> {
+    channel: &'c SharedPubSub<S, u64, H, 4>,
+    immediate: ImmediatePub<'c, SharedPubSub<S, u64, H, 4>>,
+    dyn_immediate: DynImmediatePublisher<'c, SharedPubSub<S, u64, H, 4>>,
+    subscribers: Vec<Option<Sub<'c, SharedPubSub<S, u64, H, 4>>>>,
+    publishers: Vec<Option<Pub<'c, SharedPubSub<S, u64, H, 4>>>>,
+    doors: Doors,
+}
+
+// What stands at a number is what is asked for: its future borrows whom it is asked of, and is made anew at each poll.
+impl<'c, S: LogState<4, Message = u32, Waker = u64>, H: Hand<u64>> Form for PubSub<'c, S, H> {
+    type Words = PubSubWords;
+
+    type Held = PubSubAsk<u32>;
+
+    fn begin(&mut self, ask: PubSubAsk<u32>) -> Option<PubSubAsk<u32>> {
+        let is_there = match ask {
+            PubSubAsk::Publish(p, _) => self.is_publisher(p),
+            PubSubAsk::Message(s) => self.is_subscriber(s),
+            PubSubAsk::MessagePure(s) => self.is_subscriber(s),
+            PubSubAsk::Stream(s) => self.is_subscriber(s),
+        };
+        is_there.then_some(ask)
+    }
+
+    fn poll(
+        &mut self,
+        held: PubSubAsk<u32>,
+        cx: &Context<u64>,
+    ) -> Turn<PubSubHeard<u32>, PubSubAsk<u32>> {
+        match held {
+            PubSubAsk::Publish(p, message) => self.poll_publish(p, message, cx),
+            PubSubAsk::Message(s) => self.poll_message(s, cx),
+            PubSubAsk::MessagePure(s) => self.poll_message_pure(s, cx),
+            PubSubAsk::Stream(s) => self.poll_next(s, cx),
+        }
+    }
+
+    fn call(
+        &mut self,
+        call: PubSubCall<u32>,
+        _place: &mut Option<PubSubAsk<u32>>,
+    ) -> Answer<PubSubHeard<u32>> {
+        match call {
+            PubSubCall::Join(s) => self.join(s),
+            PubSubCall::Leave(s) => ends(self.subscribers.get_mut(s)),
+            PubSubCall::Publisher(p) => self.publisher(p),
+            PubSubCall::Retire(p) => ends(self.publishers.get_mut(p)),
+            PubSubCall::TryPublish(p, message) => self.try_publish(p, message),
+            PubSubCall::Immediate(message) => {
+                Answer::Gives(PubSubHeard::PublishedAtOnce(
+                    self.publish_immediate(message),
+                ))
+            }
+            PubSubCall::Next(s) => self.try_next_message(s),
+            PubSubCall::NextPure(s) => self.try_next_message_pure(s),
+            PubSubCall::Available(s) => self.available(s),
+            PubSubCall::Clear => {
+                self.clear();
+                Answer::Done
+            }
+            PubSubCall::Len => self.sizes().answer(|sizes| sizes.len),
+            PubSubCall::FreeCapacity => self.sizes().answer(|sizes| sizes.free),
+        }
+    }
+
+    fn leaves(&self, call: &PubSubCall<u32>, held: &PubSubAsk<u32>) -> bool {
+        match call {
+            PubSubCall::Leave(s) => subscriber_of(held) == Some(*s),
+            PubSubCall::Retire(p) => publisher_of(held) == Some(*p),
+            _ => false,
+        }
+    }
+}
+
+// The subscriber that asks.
+fn subscriber_of(ask: &PubSubAsk<u32>) -> Option<usize> {
+    match ask {
+        PubSubAsk::Publish(..) => None,
+        PubSubAsk::Message(s) | PubSubAsk::MessagePure(s) | PubSubAsk::Stream(s) => Some(*s),
+    }
+}
+
+// The publisher that asks.
+fn publisher_of(ask: &PubSubAsk<u32>) -> Option<usize> {
+    match ask {
+        PubSubAsk::Publish(p, _) => Some(*p),
+        PubSubAsk::Message(_) | PubSubAsk::MessagePure(_) | PubSubAsk::Stream(_) => None,
+    }
+}
+
+// Who stands there leaves, and the number is free.
+fn ends<T: Drop>(place: Option<&mut Option<T>>) -> Answer<PubSubHeard<u32>> {
+    let Some(place) = place else {
+        return Answer::NoSuch;
+    };
+    let Some(handle) = place.take() else {
+        return Answer::NoSuch;
+    };
+    drop(handle);
+    Answer::Done
+}
+
+// The first who stands in a table.
+fn first<T>(places: &Vec<Option<T>>) -> Option<&T> {
+    places.iter().find_map(|place| place.as_ref())
+}
+
+// What a handle says of what is held.
+#[derive(Clone, Copy)]
+struct Sizes {
+    len: usize,
+    free: usize,
+    capacity: usize,
+    is_empty: bool,
+    is_full: bool,
+}
+
+impl Sizes {
+    // One of them, if they agree.
+    fn answer(self, of: impl FnOnce(Sizes) -> usize) -> Answer<PubSubHeard<u32>> {
+        let agree = self.len.checked_add(self.free) == Some(self.capacity)
+            && self.is_empty == (self.len == 0)
+            && self.is_full == (self.free == 0);
+        if agree {
+            Answer::Gives(PubSubHeard::Number(of(self)))
+        } else {
+            Answer::NoSuch
+        }
+    }
+}
+
+macro_rules! sizes {
+    ($of:expr) => {
+        Sizes {
+            len: $of.len(),
+            free: $of.free_capacity(),
+            capacity: $of.capacity(),
+            is_empty: $of.is_empty(),
+            is_full: $of.is_full(),
+        }
+    };
+}
+
+impl<'c, S: LogState<4, Message = u32, Waker = u64>, H: Hand<u64>> PubSub<'c, S, H> {
+    fn is_subscriber(&self, s: usize) -> bool {
+        matches!(self.subscribers.get(s), Some(Some(_)))
+    }
+
+    fn is_publisher(&self, p: usize) -> bool {
+        matches!(self.publishers.get(p), Some(Some(_)))
+    }
+
+    fn poll_publish(
+        &mut self,
+        p: usize,
+        message: u32,
+        cx: &Context<u64>,
+    ) -> Turn<PubSubHeard<u32>, PubSubAsk<u32>> {
+        let door = self.doors.next();
+        let Some(Some(publisher)) = self.publishers.get(p) else {
+            return over();
+        };
+        let polled = match door {
+            Door::Own => self.channel.poll_publish(&mut PublishRequest::new(message), cx),
+            Door::Handle => publisher.publish(message).poll(cx),
+            Door::Dynamic => sinks(publisher, message, cx),
+        };
+        match polled {
+            Poll::Ready(result) => Turn::over(PubSubHeard::Published(result)),
+            Poll::Pending => Turn::waits(PubSubAsk::Publish(p, message)),
+        }
+    }
+
+    fn poll_message(
+        &mut self,
+        s: usize,
+        cx: &Context<u64>,
+    ) -> Turn<PubSubHeard<u32>, PubSubAsk<u32>> {
+        let Some(Some(subscriber)) = self.subscribers.get_mut(s) else {
+            return over();
+        };
+        match subscriber.next_message().poll(cx) {
+            Ok(Poll::Ready(read)) => Turn::over(PubSubHeard::Read(read)),
+            Ok(Poll::Pending) => Turn::waits(PubSubAsk::Message(s)),
+            Err(AllocError) => refused(PubSubAsk::Message(s)),
+        }
+    }
+
+    fn poll_message_pure(
+        &mut self,
+        s: usize,
+        cx: &Context<u64>,
+    ) -> Turn<PubSubHeard<u32>, PubSubAsk<u32>> {
+        let Some(Some(subscriber)) = self.subscribers.get_mut(s) else {
+            return over();
+        };
+        match subscriber.next_message_pure().poll(cx) {
+            Ok(Poll::Ready(message)) => Turn::over(PubSubHeard::ReadPure(message)),
+            Ok(Poll::Pending) => Turn::waits(PubSubAsk::MessagePure(s)),
+            Err(AllocError) => refused(PubSubAsk::MessagePure(s)),
+        }
+    }
+
+    fn poll_next(&mut self, s: usize, cx: &Context<u64>) -> Turn<PubSubHeard<u32>, PubSubAsk<u32>> {
+        let Some(Some(subscriber)) = self.subscribers.get_mut(s) else {
+            return over();
+        };
+        match subscriber.poll_next(cx) {
+            Ok(Poll::Ready(answer)) => Turn::over(PubSubHeard::Streamed(answer)),
+            Ok(Poll::Pending) => Turn::waits(PubSubAsk::Stream(s)),
+            Err(AllocError) => refused(PubSubAsk::Stream(s)),
+        }
+    }
+
+    fn join(&mut self, s: usize) -> Answer<PubSubHeard<u32>> {
+        let door = self.doors.next();
+        let Some(place) = self.subscribers.get_mut(s) else {
+            return Answer::NoSuch;
+        };
+        if place.is_some() {
+            return Answer::NoSuch;
+        }
+        let subscriber = match door {
+            Door::Own | Door::Handle => self.channel.subscriber(),
+            Door::Dynamic => self.channel.dyn_subscriber(),
+        };
+        Answer::Gives(PubSubHeard::Came(match subscriber {
+            Ok(subscriber) => {
+                *place = Some(subscriber);
+                Ok(())
+            }
+            Err(error) => Err(error),
+        }))
+    }
+
+    fn publisher(&mut self, p: usize) -> Answer<PubSubHeard<u32>> {
+        let door = self.doors.next();
+        let Some(place) = self.publishers.get_mut(p) else {
+            return Answer::NoSuch;
+        };
+        if place.is_some() {
+            return Answer::NoSuch;
+        }
+        let publisher = match door {
+            Door::Own | Door::Handle => self.channel.publisher(),
+            Door::Dynamic => self.channel.dyn_publisher(),
+        };
+        Answer::Gives(PubSubHeard::Came(match publisher {
+            Ok(publisher) => {
+                *place = Some(publisher);
+                Ok(())
+            }
+            Err(error) => Err(error),
+        }))
+    }
+
+    fn try_publish(&mut self, p: usize, message: u32) -> Answer<PubSubHeard<u32>> {
+        let door = self.doors.next();
+        let Some(Some(publisher)) = self.publishers.get(p) else {
+            return Answer::NoSuch;
+        };
+        Answer::Gives(PubSubHeard::TriedPublish(match door {
+            Door::Own => self.channel.try_publish(message),
+            Door::Handle => publisher.try_publish(message),
+            Door::Dynamic => self.immediate.try_publish(message),
+        }))
+    }
+
+    fn publish_immediate(&mut self, message: u32) -> Result<(), Exhausted<u32>> {
+        match (self.doors.next(), first(&self.publishers)) {
+            (Door::Own, _) => self.channel.publish_immediate(message),
+            (Door::Handle, Some(publisher)) => publisher.publish_immediate(message),
+            (Door::Handle, None) => self.immediate.publish_immediate(message),
+            (Door::Dynamic, _) => self.dyn_immediate.publish_immediate(message),
+        }
+    }
+
+    fn try_next_message(&mut self, s: usize) -> Answer<PubSubHeard<u32>> {
+        let Some(Some(subscriber)) = self.subscribers.get_mut(s) else {
+            return Answer::NoSuch;
+        };
+        match subscriber.try_next_message() {
+            Ok(answer) => Answer::Gives(PubSubHeard::Tried(answer)),
+            Err(AllocError) => Answer::NoMemory,
+        }
+    }
+
+    fn try_next_message_pure(&mut self, s: usize) -> Answer<PubSubHeard<u32>> {
+        let Some(Some(subscriber)) = self.subscribers.get_mut(s) else {
+            return Answer::NoSuch;
+        };
+        match subscriber.try_next_message_pure() {
+            Ok(answer) => Answer::Gives(PubSubHeard::TriedPure(answer)),
+            Err(AllocError) => Answer::NoMemory,
+        }
+    }
+
+    fn available(&self, s: usize) -> Answer<PubSubHeard<u32>> {
+        let Some(Some(subscriber)) = self.subscribers.get(s) else {
+            return Answer::NoSuch;
+        };
+        Answer::Gives(PubSubHeard::Unread(subscriber.available()))
+    }
+
+    fn clear(&mut self) {
+        match self.doors.next() {
+            Door::Own => self.channel.clear(),
+            Door::Handle => match first(&self.publishers) {
+                Some(publisher) => publisher.clear(),
+                None => self.immediate.clear(),
+            },
+            Door::Dynamic => match first(&self.subscribers) {
+                Some(subscriber) => subscriber.clear(),
+                None => self.dyn_immediate.clear(),
+            },
+        }
+    }
+
+    fn sizes(&mut self) -> Sizes {
+        match self.doors.next() {
+            Door::Own => sizes!(self.channel),
+            Door::Handle => match first(&self.publishers) {
+                Some(publisher) => sizes!(publisher),
+                None => sizes!(self.immediate),
+            },
+            Door::Dynamic => match first(&self.subscribers) {
+                Some(subscriber) => sizes!(subscriber),
+                None => sizes!(self.dyn_immediate),
+            },
+        }
+    }
+}
+
+// The request stays: there was no memory for a clone.
+fn refused(ask: PubSubAsk<u32>) -> Turn<PubSubHeard<u32>, PubSubAsk<u32>> {
+    Turn {
+        answer: Answer::NoMemory,
+        place: Some(ask),
+    }
+}
+
+// Publishes the message through a sink that stores it.
+fn sinks<S: LogState<4, Message = u32, Waker = u64>, H: Hand<u64>>(
+    publisher: &Pub<'_, SharedPubSub<S, u64, H, 4>>,
+    message: u32,
+    cx: &Context<u64>,
+) -> Poll<Result<(), Exhausted<u32>>> {
+    let mut sink = publisher.sink();
+    sink.start_send(message);
+    sink.poll_flush(cx)
+}
+
+// A table in which all numbers are free.
+fn nobody<T: Drop>(alloc: Global) -> Result<Vec<Option<T>>, Fault> {
+    let mut places = Vec::new(alloc);
+    for _ in 0..REQS {
+        places.push(None).map_err(|_| Fault::OutOfMemory)?;
+    }
+    Ok(places)
+}
+
+// Plays the lines behind line 1 over a channel that keeps its messages so.
+fn play_over<S: LogState<4, Message = u32, Waker = u64>, R: Wait, W: Write>(
+    stage: Stage<'_, '_, R>,
+    script: &mut Script<'_>,
+    output: &mut W,
+) -> Result<(), Fault>
+    requires messages { 1 ≤ S.places }
+    requires wakes { S.most ≤ 4 }
+{
+    let channel: SharedPubSub<S, u64, &Notes<'_, R>, 4> = SharedPubSub::new(stage.notes);
+    let form = PubSub {
+        channel: &channel,
+        immediate: channel.immediate_publisher(),
+        dyn_immediate: channel.dyn_immediate_publisher(),
+        subscribers: nobody(stage.alloc)?,
+        publishers: nobody(stage.alloc)?,
+        doors: stage.doors,
+    };
+    serve(stage, form, script, output)
+}
+
+/// Plays the lines behind line 1, where the first message has the number 0: a shared channel begins nowhere else.
 pub fn play<R: Wait, W: Write>(
-    _stage: Stage<'_, '_, R>,
-    _capacity: Capacity,
-    _first: u64,
-    _script: &mut Script<'_>,
-    _output: &mut W,
+    stage: Stage<'_, '_, R>,
+    capacity: Capacity,
+    first: u64,
+    script: &mut Script<'_>,
+    output: &mut W,
 ) -> Result<(), Fault> {
-    Ok(())
+    if first != 0 {
+        return Err(Fault::NotACommand(1));
+    }
+    match capacity {
+        Capacity::One => play_over::<PubSubState<u32, u64, 1, 4, 4>, R, W>(stage, script, output),
+        Capacity::Two => play_over::<PubSubState<u32, u64, 2, 4, 4>, R, W>(stage, script, output),
+        Capacity::Three => play_over::<PubSubState<u32, u64, 3, 4, 4>, R, W>(stage, script, output),
+        Capacity::Four => play_over::<PubSubState<u32, u64, 4, 4, 4>, R, W>(stage, script, output),
+        Capacity::Eight => play_over::<PubSubState<u32, u64, 8, 4, 4>, R, W>(stage, script, output),
+    }
 }
