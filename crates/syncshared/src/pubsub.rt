@@ -71,9 +71,7 @@ impl<'c, S: LogState<4, Message = u32, Waker = u64>, H: Hand<u64>> Form for PubS
             PubSubCall::Retire(p) => ends(self.publishers.get_mut(p)),
             PubSubCall::TryPublish(p, message) => self.try_publish(p, message),
             PubSubCall::Immediate(message) => {
-                Answer::Gives(PubSubHeard::PublishedAtOnce(
-                    self.publish_immediate(message),
-                ))
+                Answer::Gives(PubSubHeard::PublishedAtOnce(self.publish_immediate(message)))
             }
             PubSubCall::Next(s) => self.try_next_message(s),
             PubSubCall::NextPure(s) => self.try_next_message_pure(s),
@@ -82,8 +80,8 @@ impl<'c, S: LogState<4, Message = u32, Waker = u64>, H: Hand<u64>> Form for PubS
                 self.clear();
                 Answer::Done
             }
-            PubSubCall::Len => self.sizes().answer(|sizes| sizes.len),
-            PubSubCall::FreeCapacity => self.sizes().answer(|sizes| sizes.free),
+            PubSubCall::Len => self.len(),
+            PubSubCall::FreeCapacity => self.free_capacity(),
         }
     }
 
@@ -129,27 +127,31 @@ fn first<T>(places: &Vec<Option<T>>) -> Option<&T> {
     places.iter().find_map(|place| place.as_ref())
 }
 
-// What a handle says of what is held.
+/// What a handle says of what is held.
 #[derive(Clone, Copy)]
-struct Sizes {
-    len: usize,
-    free: usize,
-    capacity: usize,
-    is_empty: bool,
-    is_full: bool,
+pub struct Sizes {
+    pub len: usize,
+    pub free: usize,
+    pub capacity: usize,
+    pub is_empty: bool,
+    pub is_full: bool,
 }
 
 impl Sizes {
-    // One of them, if they agree.
-    fn answer(self, of: impl FnOnce(Sizes) -> usize) -> Answer<PubSubHeard<u32>> {
-        let agree = self.len.checked_add(self.free) == Some(self.capacity)
+    /// They agree with one another.
+    pub fn agree(self) -> bool {
+        self.len.checked_add(self.free) == Some(self.capacity)
             && self.is_empty == (self.len == 0)
-            && self.is_full == (self.free == 0);
-        if agree {
-            Answer::Gives(PubSubHeard::Number(of(self)))
-        } else {
-            Answer::NoSuch
-        }
+            && self.is_full == (self.free == 0)
+    }
+}
+
+// One of the sizes, if they agree.
+fn number(sizes: Sizes, number: usize) -> Answer<PubSubHeard<u32>> {
+    if sizes.agree() {
+        Answer::Gives(PubSubHeard::Number(number))
+    } else {
+        Answer::NoSuch
     }
 }
 
@@ -185,7 +187,9 @@ impl<'c, S: LogState<4, Message = u32, Waker = u64>, H: Hand<u64>> PubSub<'c, S,
             return over();
         };
         let polled = match door {
-            Door::Own => self.channel.poll_publish(&mut PublishRequest::new(message), cx),
+            Door::Own => self
+                .channel
+                .poll_publish(&mut PublishRequest::new(message), cx),
             Door::Handle => publisher.publish(message).poll(cx),
             Door::Dynamic => sinks(publisher, message, cx),
         };
@@ -338,6 +342,16 @@ impl<'c, S: LogState<4, Message = u32, Waker = u64>, H: Hand<u64>> PubSub<'c, S,
                 None => self.dyn_immediate.clear(),
             },
         }
+    }
+
+    fn len(&mut self) -> Answer<PubSubHeard<u32>> {
+        let sizes = self.sizes();
+        number(sizes, sizes.len)
+    }
+
+    fn free_capacity(&mut self) -> Answer<PubSubHeard<u32>> {
+        let sizes = self.sizes();
+        number(sizes, sizes.free)
     }
 
     fn sizes(&mut self) -> Sizes {
