@@ -1,4 +1,4 @@
-//! Worked examples of publishers and subscribers.
+//! What no script says of publishers and subscribers: clones that are counted or refused, a sink, and what a state shows.
 #![tactic(auto)]
 
 #[cfg(test)]

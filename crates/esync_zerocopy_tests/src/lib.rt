@@ -1,4 +1,4 @@
-//! What no clause says of the zero-copy channel: worked rows, and what each shared call answers, shows and hands out.
+//! What neither a clause nor a script says of the zero-copy channel: what a loan shows its sender, calls of the whole channel, and threads.
 #![tactic(auto)]
 
 #[cfg(test)]

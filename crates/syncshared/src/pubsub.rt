@@ -9,7 +9,7 @@ use esync_notes::Notes;
 use esync_pubsub::pubsub::machine::{PubSubAsk, PubSubCall, PubSubHeard};
 use esync_pubsub::pubsub::{
     DynImmediatePublisher, Exhausted, ImmediatePub, LogState, Pub, PubSubBehavior, PubSubState,
-    PublishRequest, SharedPubSub, Sub, TryPublishError,
+    PublishRequest, SharedPubSub, Sub,
 };
 use esync_script::opening::Capacity;
 use esync_script::pubsub::PubSubWords;
@@ -190,7 +190,7 @@ impl<'c, S: LogState<4, Message = u32, Waker = u64>, H: Hand<u64>> PubSub<'c, S,
             Door::Own => self
                 .channel
                 .poll_publish(&mut PublishRequest::new(message), cx),
-            Door::Handle => publisher.publish(message).poll(cx),
+            Door::Handle => publishes(publisher, message, cx),
             Door::Dynamic => sinks(publisher, message, cx),
         };
         match polled {
@@ -374,6 +374,21 @@ fn refused(ask: PubSubAsk<u32>) -> Turn<PubSubHeard<u32>, PubSubAsk<u32>> {
     Turn {
         answer: Answer::NoMemory,
         place: Some(ask),
+    }
+}
+
+// Publishes the message by a future, which is finished where it is ready.
+fn publishes<S: LogState<4, Message = u32, Waker = u64>, H: Hand<u64>>(
+    publisher: &Pub<'_, SharedPubSub<S, u64, H, 4>>,
+    message: u32,
+    cx: &Context<u64>,
+) -> Poll<Result<(), Exhausted<u32>>> {
+    let mut future = publisher.publish(message);
+    let polled = future.poll(cx);
+    if future.is_finished() {
+        polled
+    } else {
+        Poll::Pending
     }
 }
 

@@ -322,12 +322,12 @@ fn slots(alloc: Global, capacity: Capacity) -> Result<Vec<Slot<Numbered>>, Alloc
     ensures { IfOk result (λ slots. 0 < length slots.items) }
 {
     match capacity {
-        Capacity::One => vec![in alloc; slot(0)],
-        Capacity::Two => vec![in alloc; slot(0), slot(1)],
-        Capacity::Three => vec![in alloc; slot(0), slot(1), slot(2)],
-        Capacity::Four => vec![in alloc; slot(0), slot(1), slot(2), slot(3)],
+        Capacity::One => Ok(vec![in alloc; slot(0)]?),
+        Capacity::Two => Ok(vec![in alloc; slot(0), slot(1)]?),
+        Capacity::Three => Ok(vec![in alloc; slot(0), slot(1), slot(2)]?),
+        Capacity::Four => Ok(vec![in alloc; slot(0), slot(1), slot(2), slot(3)]?),
         Capacity::Eight => {
-            vec![in alloc;
+            Ok(vec![in alloc;
                 slot(0),
                 slot(1),
                 slot(2),
@@ -336,7 +336,7 @@ fn slots(alloc: Global, capacity: Capacity) -> Result<Vec<Slot<Numbered>>, Alloc
                 slot(5),
                 slot(6),
                 slot(7),
-            ]
+            ]?)
         }
     }
 }
