@@ -1,7 +1,7 @@
 //! The pipe: by its own calls and by ends that are made anew for each call, or by futures that last and the ends of any pipe.
 ghost use Rattle.std.specs.Prelude.{◌≡◌, ◌≤◌, IfOk, OnErr, length};
 
-use crate::form::{Door, Doors, Form, over};
+use crate::form::{Door, Doors, Form, over, sizes};
 use crate::play::{Script, Stage, serve};
 use bumpalo::Bump;
 use esync_base::waitqueue::{Context, Hand, Poll, TaskId};
@@ -448,15 +448,12 @@ fn kept(written: &Bump, bytes: Bytes) -> Option<&[u8]> {
     }
 }
 
-// How many bytes are held, where all that is told of it agrees.
+// How many bytes are held.
 fn len<S: ByteState<Waker = W>, W: Copy + Eq, H: Hand<W>>(
     pipe: &SharedPipe<S, W, H>,
 ) -> Answer<PipeHeard> {
-    let len = pipe.len();
-    if pipe.is_empty() != (len == 0) || pipe.is_full() != (len == pipe.capacity()) {
-        return Answer::NoSuch;
-    }
-    Answer::Gives(PipeHeard::Number(len))
+    let sizes = sizes!(pipe);
+    sizes.checked(PipeHeard::Number(sizes.len))
 }
 
 // Gives the wakers of tasks to the hand of all shared forms.

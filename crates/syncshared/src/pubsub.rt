@@ -1,7 +1,7 @@
 //! Publishers and subscribers, by the channel's own calls and by those of its handles. Whoever has a number stands in a table.
 ghost use Rattle.std.specs.Prelude.{◌≤◌};
 
-use crate::form::{Door, Doors, Form, over};
+use crate::form::{Door, Doors, Form, Sizes, over, sizes};
 use crate::play::{Script, Stage, serve};
 use esync_base::waitqueue::{Context, Hand, Poll};
 use esync_machine::primitive::{Answer, Turn};
@@ -125,46 +125,6 @@ fn ends<T: Drop>(place: Option<&mut Option<T>>) -> Answer<PubSubHeard<u32>> {
 // The first who stands in a table.
 fn first<T>(places: &Vec<Option<T>>) -> Option<&T> {
     places.iter().find_map(|place| place.as_ref())
-}
-
-/// What a handle says of what is held.
-#[derive(Clone, Copy)]
-pub struct Sizes {
-    pub len: usize,
-    pub free: usize,
-    pub capacity: usize,
-    pub is_empty: bool,
-    pub is_full: bool,
-}
-
-impl Sizes {
-    /// They agree with one another.
-    pub fn agree(self) -> bool {
-        self.len.checked_add(self.free) == Some(self.capacity)
-            && self.is_empty == (self.len == 0)
-            && self.is_full == (self.free == 0)
-    }
-}
-
-// One of the sizes, if they agree.
-fn number(sizes: Sizes, number: usize) -> Answer<PubSubHeard<u32>> {
-    if sizes.agree() {
-        Answer::Gives(PubSubHeard::Number(number))
-    } else {
-        Answer::NoSuch
-    }
-}
-
-macro_rules! sizes {
-    ($of:expr) => {
-        Sizes {
-            len: $of.len(),
-            free: $of.free_capacity(),
-            capacity: $of.capacity(),
-            is_empty: $of.is_empty(),
-            is_full: $of.is_full(),
-        }
-    };
 }
 
 impl<'c, S: LogState<4, Message = u32, Waker = u64>, H: Hand<u64>> PubSub<'c, S, H> {
@@ -346,12 +306,12 @@ impl<'c, S: LogState<4, Message = u32, Waker = u64>, H: Hand<u64>> PubSub<'c, S,
 
     fn len(&mut self) -> Answer<PubSubHeard<u32>> {
         let sizes = self.sizes();
-        number(sizes, sizes.len)
+        sizes.checked(PubSubHeard::Number(sizes.len))
     }
 
     fn free_capacity(&mut self) -> Answer<PubSubHeard<u32>> {
         let sizes = self.sizes();
-        number(sizes, sizes.free)
+        sizes.checked(PubSubHeard::Number(sizes.free))
     }
 
     fn sizes(&mut self) -> Sizes {

@@ -4,9 +4,8 @@
 //! the slot the side's next one, and made anew where it matters: while the other side does something, and where it is written or done with.
 ghost use Rattle.std.specs.Prelude.{◌<◌, IfOk, length};
 
-use crate::form::{Door, Doors, Form};
+use crate::form::{Door, Doors, Form, Sizes, sizes};
 use crate::play::{Script, Stage, serve};
-use crate::pubsub::Sizes;
 use esync_base::waitqueue::{Context, Hand, Poll};
 use esync_machine::primitive::{Answer, Turn};
 use esync_notes::Notes;
@@ -262,12 +261,12 @@ impl<'c, H: Hand<u64>> Zerocopy<'c, H> {
 
     fn len(&mut self) -> Answer<ZeroHeard<u32>> {
         let sizes = self.sizes();
-        count(sizes, sizes.len)
+        sizes.checked(ZeroHeard::Count(sizes.len))
     }
 
     fn free_capacity(&mut self) -> Answer<ZeroHeard<u32>> {
         let sizes = self.sizes();
-        count(sizes, sizes.free)
+        sizes.checked(ZeroHeard::Count(sizes.free))
     }
 
     fn sizes(&mut self) -> Sizes {
@@ -279,37 +278,16 @@ impl<'c, H: Hand<u64>> Zerocopy<'c, H> {
 
     fn sizes_by_sender(&mut self) -> Sizes {
         let received = receives_again(&mut self.receiver, self.is_receiving);
-        let sizes = Sizes {
-            len: self.sender.len(),
-            free: self.sender.free_capacity(),
-            capacity: self.sender.capacity(),
-            is_empty: self.sender.is_empty(),
-            is_full: self.sender.is_full(),
-        };
+        let sizes = sizes!(self.sender);
         drop(received);
         sizes
     }
 
     fn sizes_by_receiver(&mut self) -> Sizes {
         let sent = sends_again(&mut self.sender, self.is_sending);
-        let sizes = Sizes {
-            len: self.receiver.len(),
-            free: self.receiver.free_capacity(),
-            capacity: self.receiver.capacity(),
-            is_empty: self.receiver.is_empty(),
-            is_full: self.receiver.is_full(),
-        };
+        let sizes = sizes!(self.receiver);
         drop(sent);
         sizes
-    }
-}
-
-// One of the sizes, if they agree.
-fn count(sizes: Sizes, count: usize) -> Answer<ZeroHeard<u32>> {
-    if sizes.agree() {
-        Answer::Gives(ZeroHeard::Count(count))
-    } else {
-        Answer::NoSuch
     }
 }
 
