@@ -164,13 +164,9 @@ impl<'c, S: LogState<4, Message = u32, Waker = u64>, H: Hand<u64>> PubSub<'c, S,
         s: usize,
         cx: &Context<u64>,
     ) -> Turn<PubSubHeard<u32>, PubSubAsk<u32>> {
-        let Some(Some(subscriber)) = self.subscribers.get_mut(s) else {
-            return over();
-        };
-        match subscriber.next_message().poll(cx) {
-            Ok(Poll::Ready(read)) => Turn::over(PubSubHeard::Read(read)),
-            Ok(Poll::Pending) => Turn::waits(PubSubAsk::Message(s)),
-            Err(AllocError) => refused(PubSubAsk::Message(s)),
+        match self.subscribers.get_mut(s) {
+            Some(Some(subscriber)) => message(subscriber, s, cx),
+            _ => over(),
         }
     }
 
@@ -179,13 +175,9 @@ impl<'c, S: LogState<4, Message = u32, Waker = u64>, H: Hand<u64>> PubSub<'c, S,
         s: usize,
         cx: &Context<u64>,
     ) -> Turn<PubSubHeard<u32>, PubSubAsk<u32>> {
-        let Some(Some(subscriber)) = self.subscribers.get_mut(s) else {
-            return over();
-        };
-        match subscriber.next_message_pure().poll(cx) {
-            Ok(Poll::Ready(message)) => Turn::over(PubSubHeard::ReadPure(message)),
-            Ok(Poll::Pending) => Turn::waits(PubSubAsk::MessagePure(s)),
-            Err(AllocError) => refused(PubSubAsk::MessagePure(s)),
+        match self.subscribers.get_mut(s) {
+            Some(Some(subscriber)) => message_pure(subscriber, s, cx),
+            _ => over(),
         }
     }
 
@@ -329,6 +321,32 @@ impl<'c, S: LogState<4, Message = u32, Waker = u64>, H: Hand<u64>> PubSub<'c, S,
     }
 }
 
+// What a poll for what the subscriber reads next leaves.
+fn message<S: LogState<4, Message = u32, Waker = u64>, H: Hand<u64>>(
+    subscriber: &mut Sub<'_, SharedPubSub<S, u64, H, 4>>,
+    s: usize,
+    cx: &Context<u64>,
+) -> Turn<PubSubHeard<u32>, PubSubAsk<u32>> {
+    match subscriber.next_message().poll(cx) {
+        Ok(Poll::Ready(read)) => Turn::over(PubSubHeard::Read(read)),
+        Ok(Poll::Pending) => Turn::waits(PubSubAsk::Message(s)),
+        Err(AllocError) => refused(PubSubAsk::Message(s)),
+    }
+}
+
+// What a poll for the message that the subscriber reads next leaves.
+fn message_pure<S: LogState<4, Message = u32, Waker = u64>, H: Hand<u64>>(
+    subscriber: &mut Sub<'_, SharedPubSub<S, u64, H, 4>>,
+    s: usize,
+    cx: &Context<u64>,
+) -> Turn<PubSubHeard<u32>, PubSubAsk<u32>> {
+    match subscriber.next_message_pure().poll(cx) {
+        Ok(Poll::Ready(message)) => Turn::over(PubSubHeard::ReadPure(message)),
+        Ok(Poll::Pending) => Turn::waits(PubSubAsk::MessagePure(s)),
+        Err(AllocError) => refused(PubSubAsk::MessagePure(s)),
+    }
+}
+
 // The request stays: there was no memory for a clone.
 fn refused(ask: PubSubAsk<u32>) -> Turn<PubSubHeard<u32>, PubSubAsk<u32>> {
     Turn {
@@ -382,12 +400,24 @@ fn play_over<S: LogState<4, Message = u32, Waker = u64>, R: Wait, W: Write>(
     requires wakes { S.most ≤ 4 }
 {
     let channel: SharedPubSub<S, u64, &Notes<'_, R>, 4> = SharedPubSub::new(stage.notes);
+    play_on(stage, &channel, script, output)
+}
+
+// Plays the lines behind line 1 on this channel, at which nobody is.
+fn play_on<S: LogState<4, Message = u32, Waker = u64>, H: Hand<u64>, R: Wait, W: Write>(
+    stage: Stage<'_, '_, R>,
+    channel: &SharedPubSub<S, u64, H, 4>,
+    script: &mut Script<'_>,
+    output: &mut W,
+) -> Result<(), Fault> {
+    let subscribers = nobody(stage.alloc)?;
+    let publishers = nobody(stage.alloc)?;
     let form = PubSub {
-        channel: &channel,
+        channel,
         immediate: channel.immediate_publisher(),
         dyn_immediate: channel.dyn_immediate_publisher(),
-        subscribers: nobody(stage.alloc)?,
-        publishers: nobody(stage.alloc)?,
+        subscribers,
+        publishers,
         doors: stage.doors,
     };
     serve(stage, form, script, output)
