@@ -86,10 +86,10 @@ fn text_of(alloc: Global, mode: Mode, input: &[u8]) -> anyhow::Result<String> {
     let written = written_of(alloc, mode, input);
     let output = str::from_utf8(&written.output)?;
     let errors = str::from_utf8(&written.errors)?;
-    let mut notes = String::from_utf8(written.notes)?;
-    if matches!(mode, Mode::Reasons) {
-        notes = without_values(alloc, &notes)?;
-    }
+    let notes = match (mode, str::from_utf8(&written.notes)?) {
+        (Mode::Reasons, notes) => without_values(alloc, notes)?,
+        (_, notes) => String::from_str(alloc, notes)?,
+    };
     let status = written.status;
     Ok(format!(in alloc; "{output}{notes}{errors}status {status}\n")?)
 }
