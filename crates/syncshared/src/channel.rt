@@ -59,9 +59,7 @@ impl<'c, S: Store<Message = u32>, H: Hand<u64>> Form for Channel<'c, S, H> {
         match held {
             Held::Send(future) => send(future, cx),
             Held::DynSend(future) => dyn_send(future, cx),
-            Held::TrySend(message) => {
-                is_sent(self.channel.try_send_with_context(message, Some(cx)))
-            }
+            Held::TrySend(message) => self.try_send_by(message, cx),
             Held::Receive(future) => receive(future, cx),
             Held::DynReceive(future) => dyn_receive(future, cx),
             Held::TryReceive => is_received(self.poll_receive(cx), Held::TryReceive),
@@ -156,6 +154,17 @@ impl<'c, S: Store<Message = u32>, H: Hand<u64>> Channel<'c, S, H> {
         }
     }
 
+    fn try_send_by(
+        &mut self,
+        message: u32,
+        cx: &Context<u64>,
+    ) -> Turn<ChannelHeard<u32>, Held<'c, S, H>> {
+        match self.channel.try_send_with_context(message, Some(cx)) {
+            Ok(()) => Turn::over(ChannelHeard::Ready),
+            Err(TrySendError::Full(message)) => Turn::waits(Held::TrySend(message)),
+        }
+    }
+
     fn try_receive(&mut self) -> Result<u32, TryReceiveError> {
         match self.doors.next() {
             Door::Own => self.channel.try_receive(),
@@ -217,16 +226,6 @@ fn dyn_receive<'c, S: Store<Message = u32>, H: Hand<u64>>(
 ) -> Turn<ChannelHeard<u32>, Held<'c, S, H>> {
     let polled = future.poll(cx);
     is_received(polled, Held::DynReceive(future))
-}
-
-// What a try to send leaves of its request.
-fn is_sent<'c, S: Store<Message = u32>, H: Hand<u64>>(
-    tried: Result<(), TrySendError<u32>>,
-) -> Turn<ChannelHeard<u32>, Held<'c, S, H>> {
-    match tried {
-        Ok(()) => Turn::over(ChannelHeard::Ready),
-        Err(TrySendError::Full(message)) => Turn::waits(Held::TrySend(message)),
-    }
 }
 
 // What a poll leaves of a request for a message.

@@ -232,29 +232,38 @@ where
     if future.is_finished() {
         return over();
     }
-    let polled = future.poll(cx);
-    is_granted::<S, H, V>(polled, Held::Acquire(future))
+    let polled = match future.poll(cx) {
+        Poll::Ready(granted) => Poll::Ready(is_granted::<S, H, V>(granted)),
+        Poll::Pending => Poll::Pending,
+    };
+    after(polled, Held::Acquire(future))
 }
 
-// What a poll leaves of a request for permits.
+// What a grant leaves, or a refusal.
 fn is_granted<'s, S, H, V>(
-    polled: Poll<Result<Releaser<'s, S, H>, S::Error>>,
-    held: Held<'s, S, H>,
+    granted: Result<Releaser<'s, S, H>, S::Error>,
 ) -> Turn<V::Heard, Held<'s, S, H>>
 where
     S: PermitState<Waker = u64>,
     H: Hand<u64>,
     V: PermitWords<Error = S::Error>,
 {
-    match polled {
-        Poll::Ready(Ok(releaser)) => {
+    match granted {
+        Ok(releaser) => {
             let permits = releaser.permits();
             Turn {
                 answer: Answer::Gives(V::granted(Ok(permits))),
                 place: Some(Held::Releaser(releaser)),
             }
         }
-        Poll::Ready(Err(error)) => Turn::over(V::granted(Err(error))),
+        Err(error) => Turn::over(V::granted(Err(error))),
+    }
+}
+
+// What a poll leaves: the request, where it waits.
+fn after<A: Drop, H: Drop>(polled: Poll<Turn<A, H>>, held: H) -> Turn<A, H> {
+    match polled {
+        Poll::Ready(turn) => turn,
         Poll::Pending => Turn::waits(held),
     }
 }

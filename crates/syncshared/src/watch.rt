@@ -401,11 +401,13 @@ fn play_over<S: WatchValue<K, Value = u32, Waker = u64>, R: Wait, W: Write, cons
         receivers.push(None).map_err(|_| Fault::OutOfMemory)?;
     }
     let sender = watch.sender();
+    let cloned = sender.as_dyn().clone().map_err(|_| Fault::OutOfMemory)?;
+    let dyn_sender = watch.dyn_sender().into();
     let form = Watching {
         watch: &watch,
         sender,
-        cloned: sender.as_dyn().clone().map_err(|_| Fault::OutOfMemory)?,
-        dyn_sender: watch.dyn_sender().into(),
+        cloned,
+        dyn_sender,
         receivers,
         doors: stage.doors,
     };
