@@ -50,12 +50,18 @@ pub struct Places<H> {
 impl<H: Drop> Places<H> {
     /// All numbers are free.
     pub fn new(alloc: Global) -> Result<Self, AllocError> {
-        let mut places = Vec::with_capacity(alloc, REQS)?;
-        for _ in 0..REQS {
-            places.push(None)?;
-        }
+        let places = nobody(alloc)?;
         Ok(Places { places })
     }
+}
+
+/// A table of whoever a script knows by a number, in which all numbers are free.
+pub fn nobody<T: Drop>(alloc: Global) -> Result<Vec<Option<T>>, AllocError> {
+    let mut places = Vec::with_capacity(alloc, REQS)?;
+    for _ in 0..REQS {
+        places.push(None)?;
+    }
+    Ok(places)
 }
 
 /// Does what the command says to the shared form.

@@ -1,37 +1,60 @@
 //! Publishers and subscribers, by the channel's own calls and by those of its handles. Whoever has a number stands in a table.
-ghost use Rattle.std.specs.Prelude.{◌≤◌};
-
-use crate::form::{Door, Doors, Form, Sizes, over, sizes};
+use crate::form::{Door, Doors, Form, Sizes, nobody, over, sizes};
 use crate::play::{Script, Stage, serve};
 use esync_base::waitqueue::{Context, Hand, Poll};
 use esync_machine::primitive::{Answer, Turn};
 use esync_notes::Notes;
 use esync_pubsub::pubsub::machine::{PubSubAsk, PubSubCall, PubSubHeard};
 use esync_pubsub::pubsub::{
-    DynImmediatePublisher, Exhausted, ImmediatePub, LogState, Pub, PubSubBehavior, PubSubState,
-    PublishRequest, SharedPubSub, Sub,
+    DynImmediatePublisher, Error, Exhausted, ImmediatePub, LogState, Pub, PubSubBehavior,
+    PubSubState, PublishRequest, SharedPubSub, Sub,
 };
 use esync_script::opening::Capacity;
 use esync_script::pubsub::PubSubWords;
 use esync_words::fault::Fault;
-use esync_words::vocabulary::REQS;
-use std::alloc::{AllocError, Global};
+use std::alloc::AllocError;
 use std::io::Write;
 use std::sync::Wait;
 
+// A channel for many, however much it holds: who comes to it.
+trait Topic: PubSubBehavior<Message = u32, Waker = u64> {
+    // A subscriber, if there is a place for it.
+    fn join(&self, door: Door) -> Result<Sub<'_, Self>, Error>;
+
+    // A publisher, if there is a place for it.
+    fn add(&self, door: Door) -> Result<Pub<'_, Self>, Error>;
+}
+
+impl<S: LogState<K, Message = u32, Waker = u64>, H: Hand<u64>, const K: usize> Topic
+    for SharedPubSub<S, u64, H, K> {
+    fn join(&self, door: Door) -> Result<Sub<'_, Self>, Error> {
+        match door {
+            Door::Own | Door::Handle => self.subscriber(),
+            Door::Dynamic => self.dyn_subscriber(),
+        }
+    }
+
+    fn add(&self, door: Door) -> Result<Pub<'_, Self>, Error> {
+        match door {
+            Door::Own | Door::Handle => self.publisher(),
+            Door::Dynamic => self.dyn_publisher(),
+        }
+    }
+}
+
 // A channel for many, with who has a number.
 #[derive(Drop)]
-struct PubSub<'c, S: LogState<4, Message = u32, Waker = u64>, H: Hand<u64>> {
-    channel: &'c SharedPubSub<S, u64, H, 4>,
-    immediate: ImmediatePub<'c, SharedPubSub<S, u64, H, 4>>,
-    dyn_immediate: DynImmediatePublisher<'c, SharedPubSub<S, u64, H, 4>>,
-    subscribers: Vec<Option<Sub<'c, SharedPubSub<S, u64, H, 4>>>>,
-    publishers: Vec<Option<Pub<'c, SharedPubSub<S, u64, H, 4>>>>,
+struct PubSub<'c, B: Topic> {
+    channel: &'c B,
+    immediate: ImmediatePub<'c, B>,
+    dyn_immediate: DynImmediatePublisher<'c, B>,
+    subscribers: Vec<Option<Sub<'c, B>>>,
+    publishers: Vec<Option<Pub<'c, B>>>,
     doors: Doors,
 }
 
 // What stands at a number is what is asked for: its future borrows whom it is asked of, and is made anew at each poll.
-impl<'c, S: LogState<4, Message = u32, Waker = u64>, H: Hand<u64>> Form for PubSub<'c, S, H> {
+impl<'c, B: Topic> Form for PubSub<'c, B> {
     type Words = PubSubWords;
 
     type Held = PubSubAsk<u32>;
@@ -127,7 +150,7 @@ fn first<T>(places: &Vec<Option<T>>) -> Option<&T> {
     places.iter().find_map(|place| place.as_ref())
 }
 
-impl<'c, S: LogState<4, Message = u32, Waker = u64>, H: Hand<u64>> PubSub<'c, S, H> {
+impl<'c, B: Topic> PubSub<'c, B> {
     fn is_subscriber(&self, s: usize) -> bool {
         matches!(self.subscribers.get(s), Some(Some(_)))
     }
@@ -200,11 +223,7 @@ impl<'c, S: LogState<4, Message = u32, Waker = u64>, H: Hand<u64>> PubSub<'c, S,
         if place.is_some() {
             return Answer::NoSuch;
         }
-        let subscriber = match door {
-            Door::Own | Door::Handle => self.channel.subscriber(),
-            Door::Dynamic => self.channel.dyn_subscriber(),
-        };
-        Answer::Gives(PubSubHeard::Came(match subscriber {
+        Answer::Gives(PubSubHeard::Came(match self.channel.join(door) {
             Ok(subscriber) => {
                 *place = Some(subscriber);
                 Ok(())
@@ -221,11 +240,7 @@ impl<'c, S: LogState<4, Message = u32, Waker = u64>, H: Hand<u64>> PubSub<'c, S,
         if place.is_some() {
             return Answer::NoSuch;
         }
-        let publisher = match door {
-            Door::Own | Door::Handle => self.channel.publisher(),
-            Door::Dynamic => self.channel.dyn_publisher(),
-        };
-        Answer::Gives(PubSubHeard::Came(match publisher {
+        Answer::Gives(PubSubHeard::Came(match self.channel.add(door) {
             Ok(publisher) => {
                 *place = Some(publisher);
                 Ok(())
@@ -322,8 +337,8 @@ impl<'c, S: LogState<4, Message = u32, Waker = u64>, H: Hand<u64>> PubSub<'c, S,
 }
 
 // What a poll for what the subscriber reads next leaves.
-fn message<S: LogState<4, Message = u32, Waker = u64>, H: Hand<u64>>(
-    subscriber: &mut Sub<'_, SharedPubSub<S, u64, H, 4>>,
+fn message<B: Topic>(
+    subscriber: &mut Sub<'_, B>,
     s: usize,
     cx: &Context<u64>,
 ) -> Turn<PubSubHeard<u32>, PubSubAsk<u32>> {
@@ -335,8 +350,8 @@ fn message<S: LogState<4, Message = u32, Waker = u64>, H: Hand<u64>>(
 }
 
 // What a poll for the message that the subscriber reads next leaves.
-fn message_pure<S: LogState<4, Message = u32, Waker = u64>, H: Hand<u64>>(
-    subscriber: &mut Sub<'_, SharedPubSub<S, u64, H, 4>>,
+fn message_pure<B: Topic>(
+    subscriber: &mut Sub<'_, B>,
     s: usize,
     cx: &Context<u64>,
 ) -> Turn<PubSubHeard<u32>, PubSubAsk<u32>> {
@@ -356,8 +371,8 @@ fn refused(ask: PubSubAsk<u32>) -> Turn<PubSubHeard<u32>, PubSubAsk<u32>> {
 }
 
 // Publishes the message by a future, which is finished where it is ready.
-fn publishes<S: LogState<4, Message = u32, Waker = u64>, H: Hand<u64>>(
-    publisher: &Pub<'_, SharedPubSub<S, u64, H, 4>>,
+fn publishes<B: Topic>(
+    publisher: &Pub<'_, B>,
     message: u32,
     cx: &Context<u64>,
 ) -> Poll<Result<(), Exhausted<u32>>> {
@@ -371,8 +386,8 @@ fn publishes<S: LogState<4, Message = u32, Waker = u64>, H: Hand<u64>>(
 }
 
 // Publishes the message through a sink that stores it.
-fn sinks<S: LogState<4, Message = u32, Waker = u64>, H: Hand<u64>>(
-    publisher: &Pub<'_, SharedPubSub<S, u64, H, 4>>,
+fn sinks<B: Topic>(
+    publisher: &Pub<'_, B>,
     message: u32,
     cx: &Context<u64>,
 ) -> Poll<Result<(), Exhausted<u32>>> {
@@ -381,37 +396,21 @@ fn sinks<S: LogState<4, Message = u32, Waker = u64>, H: Hand<u64>>(
     sink.poll_flush(cx)
 }
 
-// A table in which all numbers are free.
-fn nobody<T: Drop>(alloc: Global) -> Result<Vec<Option<T>>, Fault> {
-    let mut places = Vec::new(alloc);
-    for _ in 0..REQS {
-        places.push(None).map_err(|_| Fault::OutOfMemory)?;
-    }
-    Ok(places)
-}
-
-// Plays the lines behind line 1 over a channel that keeps its messages so.
-fn play_over<S: LogState<4, Message = u32, Waker = u64>, R: Wait, W: Write>(
-    stage: Stage<'_, '_, R>,
-    script: &mut Script<'_>,
-    output: &mut W,
-) -> Result<(), Fault>
-    requires messages { 1 ≤ S.places }
-    requires wakes { S.most ≤ 4 }
-{
-    let channel: SharedPubSub<S, u64, &Notes<'_, R>, 4> = SharedPubSub::new(stage.notes);
-    play_on(stage, &channel, script, output)
-}
-
 // Plays the lines behind line 1 on this channel, at which nobody is.
-fn play_on<S: LogState<4, Message = u32, Waker = u64>, H: Hand<u64>, R: Wait, W: Write>(
+fn play_on<
+    S: LogState<K, Message = u32, Waker = u64>,
+    H: Hand<u64>,
+    R: Wait,
+    W: Write,
+    const K: usize,
+>(
     stage: Stage<'_, '_, R>,
-    channel: &SharedPubSub<S, u64, H, 4>,
+    channel: &SharedPubSub<S, u64, H, K>,
     script: &mut Script<'_>,
     output: &mut W,
 ) -> Result<(), Fault> {
-    let subscribers = nobody(stage.alloc)?;
-    let publishers = nobody(stage.alloc)?;
+    let subscribers = nobody(stage.alloc).map_err(|_| Fault::OutOfMemory)?;
+    let publishers = nobody(stage.alloc).map_err(|_| Fault::OutOfMemory)?;
     let form = PubSub {
         channel,
         immediate: channel.immediate_publisher(),
@@ -421,6 +420,15 @@ fn play_on<S: LogState<4, Message = u32, Waker = u64>, H: Hand<u64>, R: Wait, W:
         doors: stage.doors,
     };
     serve(stage, form, script, output)
+}
+
+// Plays the lines behind line 1 over a channel of so many messages. That it fits in memory is found where the number is written.
+macro_rules! play_over {
+    ($n:literal, $stage:ident, $script:ident, $output:ident) => {{
+        let channel: PubSubChannel<u32, u64, &Notes<'_, R>, $n, 4, 4, 4> =
+            PubSubChannel::new($stage.notes);
+        play_on($stage, &channel, $script, $output)
+    }};
 }
 
 /// Plays the lines behind line 1, where the first message has the number 0: a shared channel begins nowhere else.
@@ -435,10 +443,10 @@ pub fn play<R: Wait, W: Write>(
         return Err(Fault::NotACommand(1));
     }
     match capacity {
-        Capacity::One => play_over::<PubSubState<u32, u64, 1, 4, 4>, R, W>(stage, script, output),
-        Capacity::Two => play_over::<PubSubState<u32, u64, 2, 4, 4>, R, W>(stage, script, output),
-        Capacity::Three => play_over::<PubSubState<u32, u64, 3, 4, 4>, R, W>(stage, script, output),
-        Capacity::Four => play_over::<PubSubState<u32, u64, 4, 4, 4>, R, W>(stage, script, output),
-        Capacity::Eight => play_over::<PubSubState<u32, u64, 8, 4, 4>, R, W>(stage, script, output),
+        Capacity::One => play_over!(1, stage, script, output),
+        Capacity::Two => play_over!(2, stage, script, output),
+        Capacity::Three => play_over!(3, stage, script, output),
+        Capacity::Four => play_over!(4, stage, script, output),
+        Capacity::Eight => play_over!(8, stage, script, output),
     }
 }

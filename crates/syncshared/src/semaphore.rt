@@ -232,38 +232,35 @@ where
     if future.is_finished() {
         return over();
     }
-    let polled = match future.poll(cx) {
-        Poll::Ready(granted) => Poll::Ready(is_granted::<S, H, V>(granted)),
-        Poll::Pending => Poll::Pending,
-    };
-    after(polled, Held::Acquire(future))
+    let polled = held_by(future.poll(cx));
+    is_granted::<V, Held<'s, S, H>>(polled, Held::Acquire(future))
 }
 
-// What a grant leaves, or a refusal.
-fn is_granted<'s, S, H, V>(
-    granted: Result<Releaser<'s, S, H>, S::Error>,
-) -> Turn<V::Heard, Held<'s, S, H>>
-where
-    S: PermitState<Waker = u64>,
-    H: Hand<u64>,
-    V: PermitWords<Error = S::Error>,
-{
-    match granted {
-        Ok(releaser) => {
+// The answer to a poll, whose releaser is to stand at the number, with the number of its permits.
+fn held_by<'s, S: PermitState<Waker = u64>, H: Hand<u64>>(
+    polled: Poll<Result<Releaser<'s, S, H>, S::Error>>,
+) -> Poll<Result<(usize, Held<'s, S, H>), S::Error>> {
+    match polled {
+        Poll::Ready(Ok(releaser)) => {
             let permits = releaser.permits();
-            Turn {
-                answer: Answer::Gives(V::granted(Ok(permits))),
-                place: Some(Held::Releaser(releaser)),
-            }
+            Poll::Ready(Ok((permits, Held::Releaser(releaser))))
         }
-        Err(error) => Turn::over(V::granted(Err(error))),
+        Poll::Ready(Err(error)) => Poll::Ready(Err(error)),
+        Poll::Pending => Poll::Pending,
     }
 }
 
-// What a poll leaves: the request, where it waits.
-fn after<A: Drop, H: Drop>(polled: Poll<Turn<A, H>>, held: H) -> Turn<A, H> {
+// What a poll leaves of a request for permits.
+fn is_granted<V: PermitWords, P: Drop>(
+    polled: Poll<Result<(usize, P), V::Error>>,
+    held: P,
+) -> Turn<V::Heard, P> {
     match polled {
-        Poll::Ready(turn) => turn,
+        Poll::Ready(Ok((permits, releaser))) => Turn {
+            answer: Answer::Gives(V::granted(Ok(permits))),
+            place: Some(releaser),
+        },
+        Poll::Ready(Err(error)) => Turn::over(V::granted(Err(error))),
         Poll::Pending => Turn::waits(held),
     }
 }
@@ -303,16 +300,6 @@ pub fn play_greedy<R: Wait, W: Write>(
     play_over::<GreedyState<u64>, GreedyWords, R, W>(stage, permits, script, output)
 }
 
-// Plays the lines behind line 1 over a fair semaphore with a queue of `N` places.
-fn play_queue<const N: usize, R: Wait, W: Write>(
-    stage: Stage<'_, '_, R>,
-    permits: usize,
-    script: &mut Script<'_>,
-    output: &mut W,
-) -> Result<(), Fault> {
-    play_over::<FairState<u64, N>, FairWords, R, W>(stage, permits, script, output)
-}
-
 /// Plays the lines behind line 1 over a fair semaphore.
 pub fn play_fair<R: Wait, W: Write>(
     stage: Stage<'_, '_, R>,
@@ -322,10 +309,20 @@ pub fn play_fair<R: Wait, W: Write>(
     output: &mut W,
 ) -> Result<(), Fault> {
     match capacity {
-        Capacity::One => play_queue::<1, R, W>(stage, permits, script, output),
-        Capacity::Two => play_queue::<2, R, W>(stage, permits, script, output),
-        Capacity::Three => play_queue::<3, R, W>(stage, permits, script, output),
-        Capacity::Four => play_queue::<4, R, W>(stage, permits, script, output),
-        Capacity::Eight => play_queue::<8, R, W>(stage, permits, script, output),
+        Capacity::One => play_over::<FairState<u64, 1>, FairWords, R, W>(
+            stage, permits, script, output,
+        ),
+        Capacity::Two => play_over::<FairState<u64, 2>, FairWords, R, W>(
+            stage, permits, script, output,
+        ),
+        Capacity::Three => play_over::<FairState<u64, 3>, FairWords, R, W>(
+            stage, permits, script, output,
+        ),
+        Capacity::Four => play_over::<FairState<u64, 4>, FairWords, R, W>(
+            stage, permits, script, output,
+        ),
+        Capacity::Eight => play_over::<FairState<u64, 8>, FairWords, R, W>(
+            stage, permits, script, output,
+        ),
     }
 }

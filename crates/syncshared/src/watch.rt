@@ -1,13 +1,13 @@
 //! The watch, by its senders and receivers, and by those whose type doesn't say how many receivers it has room for.
-ghost use Rattle.std.specs.Prelude.{◌≤◌, ◌<◌};
+ghost use Rattle.std.specs.Prelude.{◌≤◌};
 
-use crate::form::{Door, Doors, Form, over};
+use crate::form::{Door, Doors, Form, nobody, over};
 use crate::play::{Script, Stage, serve};
 use esync_base::waitqueue::{Context, Hand, Poll};
 use esync_cells::watch::machine::{Await, Reading, WatchCall, WatchHeard};
 use esync_cells::watch::{
-    AnonRcv, DynAnonReceiver, DynReceiver, DynSender, Judge, Rcv, SharedWatch, Snd, WatchBehavior,
-    WatchState, WatchValue,
+    AnonRcv, DynAnonReceiver, DynReceiver, DynSender, Judge, Rcv, SharedWatch, Snd, Watch,
+    WatchBehavior, WatchValue,
 };
 use esync_machine::primitive::{Answer, Turn};
 use esync_notes::Notes;
@@ -17,9 +17,6 @@ use esync_words::fault::Fault;
 use std::alloc::AllocError;
 use std::io::Write;
 use std::sync::Wait;
-
-// How many receivers a script can have at a time.
-const RECEIVERS: usize = 16;
 
 // A watch of values, however many receivers it has room for: what it has that its senders and receivers don't have.
 trait Watches: WatchBehavior<Value = u32, Waker = u64> {
@@ -382,29 +379,25 @@ impl<'w, B: Watches> Watching<'w, B> {
     }
 }
 
-// Plays the lines behind line 1 over a watch in this state.
-fn play_over<S: WatchValue<K, Value = u32, Waker = u64>, R: Wait, W: Write, const K: usize>(
+// Plays the lines behind line 1 on this watch, which has no receivers.
+fn play_on<
+    S: WatchValue<K, Value = u32, Waker = u64>,
+    H: Hand<u64>,
+    R: Wait,
+    W: Write,
+    const K: usize,
+>(
     stage: Stage<'_, '_, R>,
-    value: Option<u32>,
+    watch: &SharedWatch<S, u64, H, K>,
     script: &mut Script<'_>,
     output: &mut W,
-) -> Result<(), Fault>
-    requires room { S.places ≤ K }
-    requires small { K < 65536 }
-{
-    let watch: SharedWatch<S, u64, &Notes<'_, R>, K> = match value {
-        Some(value) => SharedWatch::new_with(value, stage.notes),
-        None => SharedWatch::new(stage.notes),
-    };
-    let mut receivers = Vec::with_capacity(stage.alloc, RECEIVERS).map_err(|_| Fault::OutOfMemory)?;
-    for _ in 0..RECEIVERS {
-        receivers.push(None).map_err(|_| Fault::OutOfMemory)?;
-    }
+) -> Result<(), Fault> {
+    let receivers = nobody(stage.alloc).map_err(|_| Fault::OutOfMemory)?;
     let sender = watch.sender();
     let cloned = sender.as_dyn().clone().map_err(|_| Fault::OutOfMemory)?;
     let dyn_sender = watch.dyn_sender().into();
     let form = Watching {
-        watch: &watch,
+        watch,
         sender,
         cloned,
         dyn_sender,
@@ -412,6 +405,22 @@ fn play_over<S: WatchValue<K, Value = u32, Waker = u64>, R: Wait, W: Write, cons
         doors: stage.doors,
     };
     serve(stage, form, script, output)
+}
+
+// Plays the lines behind line 1 over a watch with places for so many receivers.
+fn play_over<const N: usize, R: Wait, W: Write>(
+    stage: Stage<'_, '_, R>,
+    value: Option<u32>,
+    script: &mut Script<'_>,
+    output: &mut W,
+) -> Result<(), Fault>
+    requires { N ≤ 8 }
+{
+    let watch: Watch<u32, u64, &Notes<'_, R>, N, N> = match value {
+        Some(value) => Watch::new_with(value, stage.notes),
+        None => Watch::new(stage.notes),
+    };
+    play_on(stage, &watch, script, output)
 }
 
 /// Plays the lines behind line 1 over a watch.
@@ -423,20 +432,10 @@ pub fn play<R: Wait, W: Write>(
     output: &mut W,
 ) -> Result<(), Fault> {
     match capacity {
-        Capacity::One => play_over::<WatchState<u32, u64, 1>, R, W, 1>(
-            stage, value, script, output,
-        ),
-        Capacity::Two => play_over::<WatchState<u32, u64, 2>, R, W, 2>(
-            stage, value, script, output,
-        ),
-        Capacity::Three => {
-            play_over::<WatchState<u32, u64, 3>, R, W, 3>(stage, value, script, output)
-        }
-        Capacity::Four => {
-            play_over::<WatchState<u32, u64, 4>, R, W, 4>(stage, value, script, output)
-        }
-        Capacity::Eight => {
-            play_over::<WatchState<u32, u64, 8>, R, W, 8>(stage, value, script, output)
-        }
+        Capacity::One => play_over::<1, R, W>(stage, value, script, output),
+        Capacity::Two => play_over::<2, R, W>(stage, value, script, output),
+        Capacity::Three => play_over::<3, R, W>(stage, value, script, output),
+        Capacity::Four => play_over::<4, R, W>(stage, value, script, output),
+        Capacity::Eight => play_over::<8, R, W>(stage, value, script, output),
     }
 }
