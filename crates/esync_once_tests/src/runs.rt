@@ -51,21 +51,40 @@ type Lazy = LazyRun<u32, Given<u32>, u64, 16, 1>;
 fn nothing_is_there_once_the_value_was_taken_out(rt: HostRuntime) -> Result<(), Fail> {
     let mut machine: Lazy = Requests::new(LazyHolder::new(Given { value: 7 }));
     let commands = vec![in rt.alloc();
+        Command::Call(LazyCall::Get),
         Command::Start(0, NoAsk {}),
+        Command::Poll(0, 1),
         Command::Call(LazyCall::Get),
         Command::Call(LazyCall::Into),
         Command::Call(LazyCall::Get),
+        Command::Call(LazyCall::Into),
+        Command::Start(0, NoAsk {}),
+        Command::End(0),
     ]?;
     let replies = run_lazy(rt.alloc(), &mut machine, commands)?;
     are(
         &rt,
         replies.as_slice(),
         &[
+            (Answer::Gives(7), None),
+            (Answer::NoSuch, None),
             (Answer::NoSuch, None),
             (Answer::Gives(7), None),
             (Answer::Gives(7), None),
+            (Answer::NoSuch, None),
+            (Answer::NoSuch, None),
+            (Answer::NoSuch, None),
             (Answer::NoSuch, None),
         ],
     );
+    Ok(())
+}
+
+#[test]
+fn the_value_can_be_taken_out_at_once(rt: HostRuntime) -> Result<(), Fail> {
+    let mut machine: Lazy = Requests::new(LazyHolder::new(Given { value: 8 }));
+    let commands = vec![in rt.alloc(); Command::Call(LazyCall::Into)]?;
+    let replies = run_lazy(rt.alloc(), &mut machine, commands)?;
+    are(&rt, replies.as_slice(), &[(Answer::Gives(8), None)]);
     Ok(())
 }

@@ -11,7 +11,6 @@
 mod channel;
 mod compare;
 mod form;
-mod lazy;
 mod mutex;
 mod once;
 mod pipe;

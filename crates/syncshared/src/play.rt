@@ -1,6 +1,6 @@
 //! Plays a script over the shared form of the primitive that its first line names.
 use crate::form::{Doors, Form, Places, turn};
-use crate::{channel, lazy, mutex, once, pipe, pubsub, semaphore, signal, watch, zerocopy};
+use crate::{channel, mutex, once, pipe, pubsub, semaphore, signal, watch, zerocopy};
 use esync_notes::Notes;
 use esync_priority::prio::{Max, Min};
 use esync_script::opening::Opening;
@@ -84,7 +84,8 @@ pub fn play<R: Wait, W: Write>(
             pubsub::play(stage, capacity, first, &mut script, output)
         }
         Opening::Once => once::play(stage, &mut script, output),
-        Opening::Lazy(value) => lazy::play(stage, value, &mut script, output),
+        // Its calls ask that its closure can be called, which can't be said of a value that a form keeps. Tests show what it does.
+        Opening::Lazy(_) => Err(Fault::NotACommand(1)),
         Opening::Mutex(value, part) => mutex::play(stage, value, part, &mut script, output),
         Opening::Watch(capacity, value) => watch::play(stage, capacity, value, &mut script, output),
         Opening::Zerocopy(capacity) => zerocopy::play(stage, capacity, &mut script, output),

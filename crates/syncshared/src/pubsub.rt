@@ -7,7 +7,7 @@ use esync_notes::Notes;
 use esync_pubsub::pubsub::machine::{PubSubAsk, PubSubCall, PubSubHeard};
 use esync_pubsub::pubsub::{
     DynImmediatePublisher, Error, Exhausted, ImmediatePub, LogState, Pub, PubSubBehavior,
-    PubSubState, PublishRequest, SharedPubSub, Sub,
+    PubSubChannel, PublishRequest, SharedPubSub, Sub,
 };
 use esync_script::opening::Capacity;
 use esync_script::pubsub::PubSubWords;
