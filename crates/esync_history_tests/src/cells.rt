@@ -60,7 +60,10 @@ fn plays_once(
     is_set: bool,
 ) -> Result<(), NewError> {
     let once: OnceRun<u32, TaskId, 1, 1> = Requests::new(OnceState::new());
-    let look = (OnceCall::IsSet, told(Answer::Gives(OnceHeard::IsSet(is_set))));
+    let look = (
+        OnceCall::IsSet,
+        told(Answer::Gives(OnceHeard::IsSet(is_set))),
+    );
     plays(rt, alloc, once, &[], tasks, turns, look)
 }
 

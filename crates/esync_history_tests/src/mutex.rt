@@ -29,7 +29,15 @@ fn runs(
     let tasks: &[&[MutexAct]] = &[&[lock(0), Act::Call(Command::End(end))], &[lock(1)]];
     let turns = [(turns, Outcome::Limit, None), (1, outcome, None)];
     let held = Answer::Gives(MutexHeard::Tried(Err(TryLockError {})));
-    plays(rt, alloc, mutex, &[], tasks, &turns, (MutexCall::TryLock(2), told(held)))
+    plays(
+        rt,
+        alloc,
+        mutex,
+        &[],
+        tasks,
+        &turns,
+        (MutexCall::TryLock(2), told(held)),
+    )
 }
 
 #[test]

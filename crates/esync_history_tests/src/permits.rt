@@ -34,7 +34,10 @@ fn plays_greedy(
     turns: &[Turns<'_, GreedyHeard>],
 ) -> Result<(), NewError> {
     let semaphore: GreedyRun<TaskId, 2, 1> = Requests::new(GreedyState::new(0));
-    let look = (PermitCall::Permits, told(Answer::Gives(PermitHeard::Count(0))));
+    let look = (
+        PermitCall::Permits,
+        told(Answer::Gives(PermitHeard::Count(0))),
+    );
     plays(rt, alloc, semaphore, &[], tasks, turns, look)
 }
 

@@ -22,12 +22,14 @@ fn runs(
     look: (ChannelCall<u32>, ChannelAnswer),
 ) -> Result<(), NewError> {
     let channel: PriorityRun<u32, TaskId, Max, 2, 4, 1> = Requests::new(ChannelState::new());
-    let sends = [(0, 1), (1, 3), (2, 2)].map(|(r, message)| {
-        [Act::Await(r, ChannelAsk::Send(message))]
-    });
-    let tasks = [&sends[0][..], &sends[1][..], &sends[2][..], acts];
+    let tasks = &[
+        &[Act::Await(0, ChannelAsk::Send(1))],
+        &[Act::Await(1, ChannelAsk::Send(3))],
+        &[Act::Await(2, ChannelAsk::Send(2))],
+        acts,
+    ];
     let look = (look.0, told(look.1));
-    plays(rt, alloc, channel, &[], &tasks, turns, look)
+    plays(rt, alloc, channel, &[], tasks, turns, look)
 }
 
 fn received(message: u32) -> (ChannelCall<u32>, ChannelAnswer) {

@@ -44,7 +44,10 @@ fn holds_after(
 ) -> Result<(), NewError> {
     let topic: PubSubRun<u32, TaskId, 2, 1, 1, 1, 11, 4> = Requests::new(Events::new_at(0));
     let turns = [(turns, Outcome::Limit, None), (1, outcome, None)];
-    let look = (PubSubCall::Len, told(Answer::Gives(PubSubHeard::Number(held))));
+    let look = (
+        PubSubCall::Len,
+        told(Answer::Gives(PubSubHeard::Number(held))),
+    );
     plays(rt, alloc, topic, BEFORE, &[PUBLISHES, reads], &turns, look)
 }
 

@@ -65,7 +65,8 @@ fn have_heard<M, H: Eq, const K: usize>(
     rt: &impl Abort,
     executor: &Executor<M>,
     heard: &[&[Answer<H>]],
-) where
+)
+where
     M: Awaits<Waker = TaskId, Reply = Reply<Answer<H>, TaskId, K>> + Drop,
     M::Ask: Drop,
     M::Command: Drop,

@@ -112,15 +112,22 @@ impl Clone for Scarce<'_> {
 
 type ScarceHeard<'a> = WatchHeard<Scarce<'a>>;
 
-// How many acts are over that these replies answer, and the value of which the last one told.
-fn last_told<'a, const K: usize>(
-    replies: &[Reply<Answer<ScarceHeard<'a>>, TaskId, K>],
-) -> Option<(usize, Option<u32>)> {
-    let value = match &replies.last()?.answer {
+// How many acts of the task are over, and the value of which the last one told.
+fn last_told<'a, M, const K: usize>(
+    executor: &Executor<M>,
+    task: usize,
+) -> Option<(usize, Option<u32>)>
+where
+    M: Awaits<Waker = TaskId, Reply = Reply<Answer<ScarceHeard<'a>>, TaskId, K>> + Drop,
+    M::Ask: Drop,
+    M::Command: Drop,
+{
+    let heard = executor.heard(task)?;
+    let value = match &heard.last()?.answer {
         Answer::Gives(WatchHeard::Waited(scarce)) => Some(scarce.value),
         _ => None,
     };
-    Some((replies.len(), value))
+    Some((heard.len(), value))
 }
 
 // Runs these tasks over the watch, first without memory for the value of which they hear, and then with it.
@@ -138,11 +145,11 @@ where
 {
     let mut executor = Executor::new(alloc, watch, tasks)?;
     same!(rt; executor.run(9), Outcome::Limit);
-    same!(rt; executor.heard(0).and_then(|replies| last_told(replies)), Some((1, None)));
+    same!(rt; last_told(&executor, 0), Some((1, None)));
     is_refused.set(false);
     same!(rt; executor.run(1), Outcome::Done);
-    same!(rt; executor.heard(0).and_then(|replies| last_told(replies)), Some((2, Some(5))));
-    same!(rt; executor.heard(1).and_then(|replies| last_told(replies)), Some((1, None)));
+    same!(rt; last_told(&executor, 0), Some((2, Some(5))));
+    same!(rt; last_told(&executor, 1), Some((1, None)));
     Ok(())
 }
 
