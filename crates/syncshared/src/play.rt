@@ -1,23 +1,24 @@
 //! Plays a script over the shared form of the primitive that its first line names.
 use crate::form::{Doors, Form, Places, turn};
 use crate::{channel, mutex, once, pipe, pubsub, semaphore, signal, watch, zerocopy};
+use esync_machine::primitive::Command;
 use esync_notes::Notes;
 use esync_priority::prio::{Max, Min};
 use esync_script::opening::Opening;
 use esync_words::fault::Fault;
+use esync_words::lines::LONGEST;
 use esync_words::play::Opens;
 use esync_words::printing::print_reply;
-use esync_words::vocabulary::read_command;
+use esync_words::vocabulary::{Vocabulary, read_command};
 use esync_words::words::Words;
 use std::alloc::Global;
 use std::io::Write;
-use std::str::Lines;
 use std::sync::Wait;
 
 /// The lines of a script that are left, with their numbers.
 #[derive(Drop)]
 pub struct Script<'t> {
-    lines: Lines<'t>,
+    rest: &'t str,
     number: u64,
 }
 
@@ -25,15 +26,20 @@ impl<'t> Script<'t> {
     /// The whole text.
     pub fn new(text: &'t str) -> Self {
         Script {
-            lines: text.lines(),
+            rest: text,
             number: 0,
         }
     }
 
-    // The next line.
+    // The next line, without its line feed.
     fn next(&mut self) -> Option<&'t str> {
         self.number = self.number.saturating_add(1);
-        self.lines.next()
+        if self.rest.is_empty() {
+            return None;
+        }
+        let (line, rest) = self.rest.split_once('\n').unwrap_or((self.rest, ""));
+        self.rest = rest;
+        Some(line)
     }
 
     // The line that was taken last is no command.
@@ -102,8 +108,18 @@ pub struct Stage<'n, 'r, R> {
     pub doors: Doors,
 }
 
+// The words of a line, which may have so many bytes and no more.
+fn words_of(line: &str) -> Option<Words<'_>> {
+    (line.len() <= LONGEST).then_some(Words::of(line))
+}
+
+// The command that a line says.
+fn command_of<V: Vocabulary>(line: &str) -> Option<Command<V::Ask, u64, V::Call>> {
+    read_command::<V>(words_of(line)?)
+}
+
 fn opening_of(line: &str) -> Option<Opening> {
-    let mut words = Words::of(line);
+    let mut words = words_of(line)?;
     let name = words.word()?;
     Opening::opening(name, words)
 }
@@ -120,7 +136,7 @@ pub fn serve<F: Form, R: Wait, W: Write>(
         let Some(line) = script.next() else {
             return Ok(());
         };
-        let Some(command) = read_command::<F::Words>(Words::of(line)) else {
+        let Some(command) = command_of::<F::Words>(line) else {
             return Err(script.not_a_command());
         };
         let answer = turn(&mut form, &mut places, command);
