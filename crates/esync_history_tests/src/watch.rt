@@ -1,8 +1,7 @@
-use crate::runs::{plays, told};
+use crate::runs::ends_after;
 use esync_base::waitqueue::TaskId;
 use esync_cells::watch::{Change, Judge};
-use esync_history::executor::{Act, Executor, NewError, Outcome};
-use esync_machine::run::{Awaits, Reply};
+use esync_history::executor::{Act, Executor, Outcome};
 use esync_notes::same;
 use esync_run::primitive::{Answer, Command};
 use esync_run::requests::Requests;
@@ -10,6 +9,7 @@ use esync_run::watch::{Await, Reading, WatchCall, WatchCommand, WatchHeard, Watc
 use std::alloc::{AllocError, Global};
 use std::cell::Cell;
 use std::process::Abort;
+use std::test::Fail;
 
 // Lets no value pass, and changes none.
 #[derive(Clone, Copy)]
@@ -39,56 +39,43 @@ impl<T> Change<T> for Never {
     ghost a_change_tells = { λ _ _ _. refl };
 }
 
+type Watch = WatchRun<u32, TaskId, Never, Never, 2, 16, 16, 2>;
+
 type WatchAct = Act<Await<Never>, WatchCommand<u32, TaskId, Never, Never>>;
 
-// Sends a value.
-const SENDS: &[WatchAct] = &[
-    Act::Call(Command::Call(WatchCall::Id)),
-    Act::Call(Command::Call(WatchCall::Send(5))),
-];
+fn calls(call: WatchCall<u32, Never, Never>) -> WatchAct {
+    Act::Call(Command::Call(call))
+}
 
-// Makes a receiver and awaits another value.
-const AWAITS_A_CHANGE: &[WatchAct] = &[
-    Act::Call(Command::Call(WatchCall::Receiver(0))),
-    Act::Await(
-        0,
-        Await {
-            receiver: 0,
-            read: Reading::Changed,
-        },
-    ),
-];
+fn reads(read: Reading<Never>) -> WatchAct {
+    Act::Await(0, Await { receiver: 0, read })
+}
 
-// Makes a receiver and awaits a value that never comes.
-const AWAITS_NONE: &[WatchAct] = &[
-    Act::Call(Command::Call(WatchCall::Receiver(0))),
-    Act::Await(
-        0,
-        Await {
-            receiver: 0,
-            read: Reading::GetAnd(Never {}),
-        },
-    ),
-];
-
-// One task does these acts, and another one sends a value: five turns. Then the value is there.
+// One task makes a receiver and awaits a value so, and another one sends a value: five turns.
 fn ends(
     rt: &impl Abort,
     alloc: Global,
-    awaits: &[WatchAct],
+    read: Reading<Never>,
     outcome: Outcome,
-) -> Result<(), NewError> {
-    let watch: WatchRun<u32, TaskId, Never, Never, 1, 1, 1, 1> = Requests::new(Watched::new());
-    let turns = [(4, Outcome::Limit, None), (1, outcome, None)];
-    let found = Answer::Gives(WatchHeard::Found(Some(5)));
-    let look = (WatchCall::TryGet, told(found));
-    plays(rt, alloc, watch, &[], &[awaits, SENDS], &turns, look)
+) -> Result<(), Fail> {
+    let watch: Watch = Requests::new(Watched::new());
+    let receives = vec![in alloc; calls(WatchCall::Receiver(0)), reads(read)]?;
+    let sends = vec![in alloc; calls(WatchCall::Id), calls(WatchCall::Send(5))]?;
+    ends_after(
+        rt,
+        alloc,
+        watch,
+        vec![in alloc; receives, sends]?,
+        4,
+        outcome,
+    )?;
+    Ok(())
 }
 
 #[test]
-fn a_new_value_reaches_the_receiver_that_waits(rt: HostRuntime) -> Result<(), NewError> {
-    ends(&rt, rt.alloc(), AWAITS_A_CHANGE, Outcome::Done)?;
-    ends(&rt, rt.alloc(), AWAITS_NONE, Outcome::Stalled)
+fn a_new_value_reaches_the_receiver_that_waits(rt: HostRuntime) -> Result<(), Fail> {
+    ends(&rt, rt.alloc(), Reading::Changed, Outcome::Done)?;
+    ends(&rt, rt.alloc(), Reading::GetAnd(Never {}), Outcome::Stalled)
 }
 
 // A value whose clone has no memory while the cell says so.
@@ -110,18 +97,10 @@ impl Clone for Scarce<'_> {
     }
 }
 
-type ScarceHeard<'a> = WatchHeard<Scarce<'a>>;
+type ScarceWatch<'a> = WatchRun<Scarce<'a>, TaskId, Never, Never, 2, 16, 16, 2>;
 
 // How many acts of the task are over, and the value of which the last one told.
-fn last_told<'a, M, const K: usize>(
-    executor: &Executor<M>,
-    task: usize,
-) -> Option<(usize, Option<u32>)>
-where
-    M: Awaits<Waker = TaskId, Reply = Reply<Answer<ScarceHeard<'a>>, TaskId, K>> + Drop,
-    M::Ask: Drop,
-    M::Command: Drop,
-{
+fn told(executor: &Executor<ScarceWatch<'_>>, task: usize) -> Option<(usize, Option<u32>)> {
     let heard = executor.heard(task)?;
     let value = match &heard.last()?.answer {
         Answer::Gives(WatchHeard::Waited(scarce)) => Some(scarce.value),
@@ -130,36 +109,12 @@ where
     Some((heard.len(), value))
 }
 
-// Runs these tasks over the watch, first without memory for the value of which they hear, and then with it.
-fn hear_with_memory<'a, M, const K: usize>(
-    rt: &impl Abort,
-    alloc: Global,
-    watch: M,
-    tasks: Vec<Vec<Act<M::Ask, M::Command>>>,
-    is_refused: &Cell<bool>,
-) -> Result<(), NewError>
-where
-    M: Awaits<Waker = TaskId, Reply = Reply<Answer<ScarceHeard<'a>>, TaskId, K>> + Drop,
-    M::Ask: Drop,
-    M::Command: Drop,
-{
-    let mut executor = Executor::new(alloc, watch, tasks)?;
-    same!(rt; executor.run(9), Outcome::Limit);
-    same!(rt; last_told(&executor, 0), Some((1, None)));
-    is_refused.set(false);
-    same!(rt; executor.run(1), Outcome::Done);
-    same!(rt; last_told(&executor, 0), Some((2, Some(5))));
-    same!(rt; last_told(&executor, 1), Some((1, None)));
-    Ok(())
-}
-
-type ScarceAct<'a> = Act<Await<Never>, WatchCommand<Scarce<'a>, TaskId, Never, Never>>;
-
 // A task makes a receiver and awaits a change, and another one sends this value.
-fn scarce_tasks<'a>(
+fn scarce_executor<'a>(
     alloc: Global,
     scarce: Scarce<'a>,
-) -> Result<Vec<Vec<ScarceAct<'a>>>, AllocError> {
+) -> Result<Executor<ScarceWatch<'a>>, Fail> {
+    let watch: ScarceWatch<'a> = Requests::new(Watched::new());
     let read = Await {
         receiver: 0,
         read: Reading::Changed,
@@ -169,19 +124,22 @@ fn scarce_tasks<'a>(
         Act::Await(0, read),
     ]?;
     let sends = vec![in alloc; Act::Call(Command::Call(WatchCall::Send(scarce)))]?;
-    Ok(vec![in alloc; receives, sends]?)
+    Ok(Executor::new(alloc, watch, vec![in alloc; receives, sends]?)?)
 }
 
 #[test]
-fn want_of_memory_is_no_answer_that_is_kept(rt: HostRuntime) -> Result<(), NewError> {
+fn want_of_memory_is_no_answer_that_is_kept(rt: HostRuntime) -> Result<(), Fail> {
     let is_refused = Cell::new(true);
     let scarce = Scarce {
         is_refused: &is_refused,
         value: 5,
     };
-    let tasks = scarce_tasks(rt.alloc(), scarce)?;
-    let watch: WatchRun<Scarce<'_>, TaskId, Never, Never, 1, 1, 1, 1> = Requests::new(
-        Watched::new(),
-    );
-    hear_with_memory(&rt, rt.alloc(), watch, tasks, &is_refused)
+    let mut executor = scarce_executor(rt.alloc(), scarce)?;
+    same!(rt; executor.run(9), Outcome::Limit);
+    same!(rt; told(&executor, 0), Some((1, None)));
+    is_refused.set(false);
+    same!(rt; executor.run(1), Outcome::Done);
+    same!(rt; told(&executor, 0), Some((2, Some(5))));
+    same!(rt; told(&executor, 1), Some((1, None)));
+    Ok(())
 }

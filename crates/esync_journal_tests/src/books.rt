@@ -10,7 +10,7 @@ use esync_channel::channel::{ChannelState, TrySendError};
 use esync_history::recorded::{Receipt, Recorded, audit};
 use esync_machine::primitive::{Answer, Command};
 use esync_machine::requests::Requests;
-use esync_machine::run::Keep;
+use esync_machine::run::Machine;
 use esync_notes::{holds, same};
 use std::alloc::Global;
 use std::marker::Brand;
@@ -18,13 +18,11 @@ use std::process::Abort;
 use std::sync::ledger::{Blank, Ledger};
 use std::test::Fail;
 
+type Channel = ChannelRun<u32, TaskId, 1, 16, 1>;
+
 type Asked = ChannelCommand<u32, TaskId>;
 
-type Replied = ChannelReply<u32, TaskId, 1>;
-
-type ChannelReceipt = Receipt<Asked, Replied>;
-
-type Channel = ChannelRun<u32, TaskId, 1, 1, 1>;
+type ChannelReceipt = Receipt<Asked, ChannelReply<u32, TaskId, 1>>;
 
 const SEND: Asked = Command::Call(ChannelCall::TrySend(7));
 
@@ -37,33 +35,29 @@ fn is(rt: &impl Abort, receipt: &ChannelReceipt, number: usize, heard: ChannelHe
 }
 
 // What a seat of another book hears, whose channel is full.
-fn refused<M, L: Ledger>(alloc: Global, blank: Blank, channel: M) -> Result<ChannelReceipt, Fail>
-where
-    M: Keep<Waker = TaskId, Command = Asked, Reply = Replied> + Drop,
+fn refused<L: Ledger>(alloc: Global, blank: Blank) -> Result<ChannelReceipt, Fail>
     requires ledger { blank.name ≡ L.name }
     requires parts { blank.parts ≡ L.parts }
     requires room { 1 < blank.parts }
 {
-    let mut channel = channel;
+    let mut channel: Channel = Requests::new(ChannelState::new());
     channel.step(SEND);
     let (recorded, mut seats) = Recorded::<_, L>::new(alloc, blank, channel, 1)?;
     let mut seat = seats.seat();
     Ok(recorded.into_book().record(&mut seat, SEND)?)
 }
 
-fn two_seats<M, L: Ledger>(
+fn two_seats<L: Ledger>(
     rt: &impl Abort,
     alloc: Global,
     blank: Blank,
-    channel: M,
     other: ChannelReceipt,
 ) -> Result<(), Fail>
-where
-    M: Keep<Waker = TaskId, Command = Asked, Reply = Replied> + Drop,
     requires ledger { blank.name ≡ L.name }
     requires parts { blank.parts ≡ L.parts }
     requires room { 2 < blank.parts }
 {
+    let channel: Channel = Requests::new(ChannelState::new());
     let (recorded, mut seats) = Recorded::<_, L>::new(alloc, blank, channel, 2)?;
     same!(rt; seats.seats_left(), 2);
     let mut first = seats.seat();
@@ -88,29 +82,22 @@ where
     Ok(())
 }
 
-// Two seats take turns at the channel, and another book is that of a channel which is filled first.
-fn take_turns<M>(rt: &impl Abort, alloc: Global, channel: M, filled: M) -> Result<(), Fail>
-where
-    M: Keep<Waker = TaskId, Command = Asked, Reply = Replied> + Drop,
-{
-    let other = refused::<M, Brand>(alloc, Blank::new(2), filled)?;
-    let full = ChannelHeard::TrySent(Err(TrySendError::Full(7)));
-    is(rt, &other, 0, full);
-    two_seats::<M, Brand>(rt, alloc, Blank::new(3), channel, other)
-}
-
-fn channel() -> Channel {
-    Requests::new(ChannelState::new())
-}
-
 #[test]
 fn two_seats_take_turns(rt: HostRuntime) -> Result<(), Fail> {
-    take_turns(&rt, rt.alloc(), channel(), channel())
+    let other = refused::<Brand>(rt.alloc(), Blank::new(2))?;
+    is(
+        &rt,
+        &other,
+        0,
+        ChannelHeard::TrySent(Err(TrySendError::Full(7))),
+    );
+    two_seats::<Brand>(&rt, rt.alloc(), Blank::new(3), other)
 }
 
 #[test]
 fn two_books_are_settled_with_their_own_seats(rt: HostRuntime) -> Result<(), Fail> {
-    let settled = settle_two(rt.alloc(), channel(), channel(), SEND)?;
-    holds!(rt; settled == (Some(1), Some(0)));
+    let one: Channel = Requests::new(ChannelState::new());
+    let other: Channel = Requests::new(ChannelState::new());
+    holds!(rt; settle_two(rt.alloc(), one, other, SEND)? == (Some(1), Some(0)));
     Ok(())
 }
