@@ -1,9 +1,9 @@
 -- Rows of optional items.
-use Rattle.std.proofs.Common.{◌≡◌, ℕ, zero, suc, ◌+◌, ◌-◌, ◌<◌, List, [], ◌∷◌, ◌++◌, length, Some, None, Option, refl, sym, ◌∙◌, ap, get_or, set, take, append_assoc, arith}
+use Rattle.std.proofs.Common.{◌≡◌, ℕ, zero, suc, ◌+◌, ◌-◌, ◌<◌, ◌≤◌, min, List, [], ◌∷◌, ◌++◌, length, Some, None, Option, refl, sym, ◌∙◌, ap, get_or, set, take, append_assoc, length-append, arith}
 use Rattle.std.specs.Prelude.{map, slice_get}
 use Rattle.std.specs.Iterator.{YieldsFirst}
 use Rattle.std.proofs.Math.ListN.{replicate}
-use Rattle.std.proofs.lemmas.List.{length_push}
+use Rattle.std.proofs.lemmas.List.{length_push, length-take, take_all}
 use Rattle.esync_base.specs.Rows.{items_of, row_of, IsRow}
 use Rattle.esync_base.specs.Registration.{slot_wakers}
 
@@ -87,3 +87,11 @@ hand_next us vs ws i o at so_far =
     ∙ append_assoc us (take i vs) (slot_wakers o)
     ∙ ap (λ p. us ++ (take i vs ++ slot_wakers p)) (sym at)
     ∙ ap (λ xs. us ++ xs) (sym (take_next vs i))
+
+-- and when no other is left
+pub hand_all : {A : Type 0} (us vs ws : List A) (i : ℕ) → length vs ≤ i → ws ≡ us ++ take i vs → ws ≡ us ++ vs
+hand_all us vs ws i left so_far = so_far ∙ ap (λ xs. us ++ xs) (take_all i vs left)
+
+-- so far there are no more of them
+pub hand_within : {A : Type 0} (us vs ws : List A) (i : ℕ) → ws ≡ us ++ take i vs → length ws ≡ length us + min i (length vs)
+hand_within us vs ws i so_far = ap length so_far ∙ length-append us (take i vs) ∙ ap (λ k. length us + k) (length-take i vs)
