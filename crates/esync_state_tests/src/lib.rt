@@ -1,8 +1,10 @@
-//! Worked examples of the states and of runs, and each call once with its answer and its wakes.
+//! What no recorded run and no script says of the states and of what they are made of, and each kind of run once.
 #![tactic(auto)]
 
 #[cfg(test)]
 mod channel;
+#[cfg(test)]
+mod defaults;
 #[cfg(test)]
 mod deque;
 #[cfg(test)]
@@ -16,8 +18,6 @@ mod pipe;
 #[cfg(test)]
 mod pipe_runs;
 #[cfg(test)]
-mod priority_channel;
-#[cfg(test)]
 mod registrations;
 #[cfg(test)]
 mod ring_buffer;
@@ -25,8 +25,6 @@ mod ring_buffer;
 mod runs;
 #[cfg(test)]
 mod shown;
-#[cfg(test)]
-mod signal;
 #[cfg(test)]
 mod wakers;
 #[cfg(test)]

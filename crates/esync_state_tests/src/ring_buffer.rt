@@ -74,42 +74,13 @@ fn an_emptied_ring_keeps_its_place(rt: HostRuntime) {
     holds!(rt; ring.push_bufs() == (0..4, 0..0));
 }
 
-// Of the bytes so many are written.
-fn writes(rt: &impl Abort, ring: &mut ByteRing<4>, bytes: &[u8], written: usize) {
-    same!(rt; ring.write(bytes), written);
-}
-
-// A read into a slice of 8 places that takes these bytes, and leaves the others as they are.
-fn reads(rt: &impl Abort, ring: &mut ByteRing<4>, bytes: &[u8]) {
-    let mut to = [0; 8];
-    holds!(rt; bytes.len() <= 8);
-    same!(rt; ring.read(&mut to), bytes.len());
-    holds!(rt; &to[..bytes.len()] == bytes);
-    for byte in &to[bytes.len()..] {
-        same!(rt; *byte, 0);
-    }
-}
-
+// What a pipe doesn't ask.
 #[test]
-fn bytes_go_on_behind_the_wrap(rt: HostRuntime) {
+fn a_ring_without_bytes_gives_none(rt: HostRuntime) {
     let mut ring: ByteRing<4> = ByteRing::new();
-    let mut to = [0; 2];
-    writes(&rt, &mut ring, &[1, 2, 3], 3);
-    same!(rt; ring.read(&mut to), 2);
-    same!(rt; to, [1, 2]);
-    writes(&rt, &mut ring, &[4, 5, 6, 7], 3);
-    holds!(rt; ring.is_full());
-    holds!(rt; ring.filled() == [3, 4].as_slice());
-    same!(rt; ring.len(), 4);
-    reads(&rt, &mut ring, &[3, 4, 5, 6]);
     holds!(rt; ring.is_empty());
-    reads(&rt, &mut ring, &[]);
+    same!(rt; ring.read(&mut [0; 2]), 0);
     holds!(rt; ring.filled().is_empty());
-    writes(&rt, &mut ring, &[8], 1);
-    holds!(rt; ring.len() == 1);
-    ring.consume(1);
-    holds!(rt; ring.is_empty());
-    writes(&rt, &mut ring, &[9, 10], 2);
-    ring.clear();
-    holds!(rt; ring.is_empty());
+    same!(rt; ring.write(&[1, 2, 3, 4, 5]), 4);
+    holds!(rt; ring.is_full());
 }

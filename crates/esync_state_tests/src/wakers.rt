@@ -11,11 +11,6 @@ pub fn hands_out(rt: &impl Abort, wakes: &Wakes<u64, 1>, waker: Option<u64>) {
     same!(rt; wakes.as_slice(), [waker].as_slice());
 }
 
-/// The wakers that were handed out, of two at most, are these.
-pub fn hand_out(rt: &impl Abort, wakes: &Wakes<u64, 2>, wakers: [Option<u64>; 2]) {
-    same!(rt; wakes.as_slice(), wakers.as_slice());
-}
-
 type Replies<A, const K: usize> = Result<Vec<Reply<Answer<A>, u64, K>>, AllocError>;
 
 /// Each reply has this answer, and hands out this waker alone or none.

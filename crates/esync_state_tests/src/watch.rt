@@ -1,6 +1,7 @@
+//! What no recorded run says of a watch: changes and values of any kind, and who is counted.
 use crate::wakers::hands_out;
-use esync_base::waitqueue::{Context, Poll, Wakes};
-use esync_cells::watch::{Change, Exhausted, Judge, WatchState};
+use esync_base::waitqueue::{Context, Wakes};
+use esync_cells::watch::{Change, Judge, WatchState};
 use esync_notes::{holds, same};
 use std::alloc::AllocError;
 use std::cell::Cell;
@@ -79,65 +80,18 @@ impl Clone for Scarce<'_> {
 
 type One = WatchState<u32, u64, 1>;
 
-fn sends(rt: &impl Abort, watch: &mut One, value: u32, answer: Result<(), Exhausted<u32>>) {
+// A change that is sent. Nobody waits for it.
+fn changes<C: Change<u32>>(rt: &impl Abort, watch: &mut One, change: &C) {
     let mut wakes = Wakes::new();
-    holds!(rt; watch.send(value, &mut wakes) == answer);
+    holds!(rt; watch.send_modify(change, &mut wakes) == Ok(()));
     hands_out(rt, &wakes, None);
 }
 
-fn changes<C: Change<u32>>(
-    rt: &impl Abort,
-    watch: &mut One,
-    change: &C,
-    answer: Result<(), Exhausted<()>>,
-    handed_out: Option<u64>,
-) {
+// A change that is sent where it tells. Nobody waits for it.
+fn changes_if<C: Change<u32>>(rt: &impl Abort, watch: &mut One, change: &C) {
     let mut wakes = Wakes::new();
-    holds!(rt; watch.send_modify(change, &mut wakes) == answer);
-    hands_out(rt, &wakes, handed_out);
-}
-
-fn changes_if<C: Change<u32>>(
-    rt: &impl Abort,
-    watch: &mut One,
-    change: &C,
-    answer: Result<(), Exhausted<()>>,
-    handed_out: Option<u64>,
-) {
-    let mut wakes = Wakes::new();
-    holds!(rt; watch.send_if_modified(change, &mut wakes) == answer);
-    hands_out(rt, &wakes, handed_out);
-}
-
-fn changed(rt: &impl Abort, watch: &One, seen: &mut u64, answer: Option<u32>) {
-    holds!(rt; watch.try_changed(seen) == Ok(answer));
-}
-
-#[test]
-fn a_receiver_hears_of_the_latest_value_once(rt: HostRuntime) {
-    let mut watch: One = WatchState::new();
-    let mut seen = 0;
-    sends(&rt, &mut watch, 25, Ok(()));
-    holds!(rt; watch.try_changed_and(&Below(5), &mut seen) == Ok(None));
-    changed(&rt, &watch, &mut seen, Some(25));
-    sends(&rt, &mut watch, 1, Ok(()));
-    watch.clear();
-    holds!(rt; !watch.contains_value());
-    changed(&rt, &watch, &mut seen, None);
-    sends(&rt, &mut watch, 2, Ok(()));
-    changed(&rt, &watch, &mut seen, Some(2));
-    changed(&rt, &watch, &mut seen, None);
-    holds!(rt; watch.try_get_and(&Below(5), &mut seen) == Ok(Some(2)));
-    same!(rt; watch.get_msg_id(), 3);
-}
-
-#[test]
-fn nobody_has_news_of_the_first_value(rt: HostRuntime) {
-    let watch: One = WatchState::new_with(7);
-    let mut seen = 0;
-    changed(&rt, &watch, &mut seen, None);
-    holds!(rt; watch.try_get(&mut seen) == Ok(Some(7)));
-    holds!(rt; watch.contains_value());
+    holds!(rt; watch.send_if_modified(change, &mut wakes) == Ok(()));
+    hands_out(rt, &wakes, None);
 }
 
 #[test]
@@ -151,21 +105,6 @@ fn receivers_are_counted(rt: HostRuntime) {
     watch.drop_receiver();
     holds!(rt; watch.add_receiver());
     same!(rt; watch.receivers(), 2);
-}
-
-#[test]
-fn end_of_the_versions(rt: HostRuntime) {
-    let mut watch: One = WatchState::new_at(u64::MAX - 1);
-    let mut seen = 0;
-    let asked = Cell::new(false);
-    sends(&rt, &mut watch, 1, Ok(()));
-    sends(&rt, &mut watch, 2, Err(Exhausted(2)));
-    changes(&rt, &mut watch, &Asked(&asked), Err(Exhausted(())), None);
-    changes_if(&rt, &mut watch, &Asked(&asked), Err(Exhausted(())), None);
-    holds!(rt; !asked.get());
-    changed(&rt, &watch, &mut seen, Some(1));
-    watch.clear();
-    holds!(rt; watch.try_get(&mut seen) == Ok(None));
 }
 
 // Nothing is to be had of a value whose clone is refused, and nobody has seen it.
@@ -196,30 +135,21 @@ fn a_refused_clone_is_not_seen(rt: HostRuntime) {
     }
 }
 
+// What is news, if anything.
+fn hears(rt: &impl Abort, watch: &One, seen: &mut u64, news: Option<u32>) {
+    holds!(rt; watch.try_changed(seen) == Ok(news));
+}
+
 #[test]
-fn polls_wait_for_news(rt: HostRuntime) {
+fn a_change_is_news_where_it_tells_or_is_sent(rt: HostRuntime) {
     let mut watch: One = WatchState::new();
-    let mut seen = 0;
-    let one = Context::from_waker(1);
-    let two = Context::from_waker(2);
-    let mut wakes: Wakes<u64, 1> = Wakes::new();
-    holds!(rt;
-        watch.poll_changed_and(&Below(5), &mut seen, &one, &mut wakes) == Ok(Poll::Pending)
-    );
-    hands_out(&rt, &wakes, None);
-    wakes.clear();
-    holds!(rt; watch.poll_get(&mut seen, &two, &mut wakes) == Ok(Poll::Pending));
-    hands_out(&rt, &wakes, Some(1));
-    changes_if(&rt, &mut watch, &Put(9), Ok(()), Some(2));
-    wakes.clear();
-    holds!(rt; watch.poll_changed(&mut seen, &two, &mut wakes) == Ok(Poll::Ready(9)));
-    hands_out(&rt, &wakes, None);
-    wakes.clear();
-    holds!(rt; watch.poll_get_and(&Below(5), &mut seen, &one, &mut wakes) == Ok(Poll::Pending));
-    hands_out(&rt, &wakes, None);
-    let asked = Cell::new(false);
-    changes_if(&rt, &mut watch, &Asked(&asked), Ok(()), None);
+    let (mut seen, asked) = (0, Cell::new(false));
+    changes_if(&rt, &mut watch, &Put(9));
+    hears(&rt, &watch, &mut seen, Some(9));
+    changes_if(&rt, &mut watch, &Asked(&asked));
     holds!(rt; asked.get());
-    changes(&rt, &mut watch, &Asked(&asked), Ok(()), Some(1));
+    hears(&rt, &watch, &mut seen, None);
+    changes(&rt, &mut watch, &Asked(&asked));
+    hears(&rt, &watch, &mut seen, Some(9));
     same!(rt; watch.get_msg_id(), 2);
 }
