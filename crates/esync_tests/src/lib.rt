@@ -1,4 +1,4 @@
-//! What no clause says of the shared channels, the signal and the mutex, by upstream's paths: what each call answers, and which
+//! What no clause says of the shared channels and the mutex, by upstream's paths: what each call answers, and which
 //! wakers the hand gets.
 #![tactic(auto)]
 
