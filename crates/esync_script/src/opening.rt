@@ -399,16 +399,23 @@ fn serve_pipe<T: Telling, R: Read + Drop, W: Write>(
     )
 }
 
-// A script over a channel for many of at most `n` messages.
-macro_rules! serve_log {
-    ($n:literal, $first:ident, $telling:ident, $lines:ident, $output:ident) => {
-        serve::<PubSubWords, _, T, R, W>(
-            $telling,
-            pubsub::<PubSubState<u32, u64, $n, 4, 4>>($first),
-            $lines,
-            $output,
-        )
-    };
+// A script over a channel for many of at most `N` messages.
+fn serve_log<const N: usize, T: Telling, R: Read + Drop, W: Write>(
+    telling: &mut T,
+    first: u64,
+    lines: &mut Lines<R>,
+    output: &mut W,
+) -> Result<(), Fault>
+    requires some { 1 ≤ N }
+    requires few { N ≤ 8 }
+    ensures { PlaysPubSub ⟦<u64 as PartialEq>⟧.eq T.tells N first lines.old.number lines.old.left (W.contents output.old) (W.contents output.new) result }
+{
+    serve::<PubSubWords, _, T, R, W>(
+        telling,
+        pubsub::<PubSubState<u32, u64, N, 4, 4>>(first),
+        lines,
+        output,
+    )
 }
 
 fn serve_pubsub<T: Telling, R: Read + Drop, W: Write>(
@@ -420,7 +427,10 @@ fn serve_pubsub<T: Telling, R: Read + Drop, W: Write>(
 ) -> Result<(), Fault>
     ensures { PlaysPubSub ⟦<u64 as PartialEq>⟧.eq T.tells (places capacity) first lines.old.number lines.old.left (W.contents output.old) (W.contents output.new) result }
 {
-    at_capacity!(capacity, serve_log!(first, telling, lines, output))
+    at_capacity!(
+        capacity,
+        at_places!(serve_log::<T, R, W>(telling, first, lines, output))
+    )
 }
 
 // The number of places of this capacity.
