@@ -1,56 +1,60 @@
-use crate::runs::ends_after;
+ghost use Rattle.std.specs.Prelude.{◌<◌, IfOk, length};
+
+use crate::runs::{plays, told};
 use esync_base::waitqueue::TaskId;
-use esync_history::executor::{Act, Outcome};
-use esync_machine::run::Machine;
-use esync_notes::holds;
+use esync_history::executor::{Act, NewError, Outcome};
 use esync_run::primitive::{Answer, Command};
 use esync_run::requests::Requests;
 use esync_run::zerocopy_channel::{Lent, ZeroCall, ZeroCommand, ZeroHeard, ZeroRun};
 use esync_zerocopy::zerocopy_channel::{ChannelState, Side};
-use std::alloc::Global;
+use std::alloc::{AllocError, Global};
 use std::process::Abort;
-use std::test::Fail;
-
-type Slots = ZeroRun<u32, TaskId, 16, 1>;
 
 type SlotAct = Act<Side, ZeroCommand<u32, TaskId>>;
 
-fn calls(call: ZeroCall<u32>) -> SlotAct {
-    Act::Call(Command::Call(call))
+// Receives the only slot, gives it back and receives it again.
+const RECEIVES: &[SlotAct] = &[
+    Act::Await(0, Side::Receiver),
+    Act::Call(Command::Call(ZeroCall::Done(Side::Receiver))),
+    Act::Await(1, Side::Receiver),
+];
+
+// Sends the slot twice, with 7 and with 8.
+const SENDS: &[SlotAct] = &[
+    Act::Await(8, Side::Sender),
+    Act::Call(Command::Call(ZeroCall::Write(7))),
+    Act::Call(Command::Call(ZeroCall::Done(Side::Sender))),
+    Act::Await(9, Side::Sender),
+    Act::Call(Command::Call(ZeroCall::Write(8))),
+    Act::Call(Command::Call(ZeroCall::Done(Side::Sender))),
+];
+
+// The only slot.
+fn slot(alloc: Global) -> Result<Vec<u32>, AllocError>
+    ensures { IfOk result (λ slots. 0 < length slots.items) }
+{
+    Ok(vec![in alloc; 0]?)
 }
 
-// A task receives the only slot, and another one sends it twice, with 7 and with 8. The first may give it back and receive it again.
-// After so many turns it shows this value.
-fn shows_after(
+// A task does these acts, and another one sends: after so many turns they have still to go on, and one more ends the run so. Then the
+// slot shows this value.
+fn slot_shows(
     rt: &impl Abort,
     alloc: Global,
-    gives_back: bool,
+    receives: &[SlotAct],
     turns: usize,
     outcome: Outcome,
     value: u32,
-) -> Result<(), Fail> {
-    let mut receiver = vec![in alloc; Act::Await(0, Side::Receiver)]?;
-    if gives_back {
-        receiver.push(calls(ZeroCall::Done(Side::Receiver)))?;
-        receiver.push(Act::Await(1, Side::Receiver))?;
-    }
-    let mut sender = Vec::new(alloc);
-    for (r, message) in [(8, 7), (9, 8)] {
-        sender.push(Act::Await(r, Side::Sender))?;
-        sender.push(calls(ZeroCall::Write(message)))?;
-        sender.push(calls(ZeroCall::Done(Side::Sender)))?;
-    }
-    let slots: Slots = Requests::new(ChannelState::new(vec![in alloc; 0]?));
-    let tasks = vec![in alloc; receiver, sender]?;
-    let (mut slots, _heard) = ends_after(rt, alloc, slots, tasks, turns, outcome)?;
-    let reply = slots.step(Command::Call(ZeroCall::Try(Side::Receiver)));
-    let shown = ZeroHeard::Tried(Some(Lent::Held(0, value)));
-    holds!(rt; reply.answer == Answer::Gives(shown));
-    Ok(())
+) -> Result<(), NewError> {
+    let channel: ZeroRun<u32, TaskId, 10, 1> = Requests::new(ChannelState::new(slot(alloc)?));
+    let turns = [(turns, Outcome::Limit, None), (1, outcome, None)];
+    let shown = Answer::Gives(ZeroHeard::Tried(Some(Lent::Held(0, value))));
+    let look = (ZeroCall::Try(Side::Receiver), told(shown));
+    plays(rt, alloc, channel, &[], &[receives, SENDS], &turns, look)
 }
 
 #[test]
-fn a_slot_that_is_given_back_reaches_the_task_that_sends(rt: HostRuntime) -> Result<(), Fail> {
-    shows_after(&rt, rt.alloc(), true, 11, Outcome::Done, 8)?;
-    shows_after(&rt, rt.alloc(), false, 5, Outcome::Stalled, 7)
+fn a_slot_that_is_given_back_reaches_the_task_that_sends(rt: HostRuntime) -> Result<(), NewError> {
+    slot_shows(&rt, rt.alloc(), RECEIVES, 11, Outcome::Done, 8)?;
+    slot_shows(&rt, rt.alloc(), &RECEIVES[..1], 5, Outcome::Stalled, 7)
 }
