@@ -10,7 +10,7 @@ use esync_channel::channel::{ChannelState, TrySendError};
 use esync_history::recorded::{Receipt, Recorded, audit};
 use esync_machine::primitive::{Answer, Command};
 use esync_machine::requests::Requests;
-use esync_machine::run::Machine;
+use esync_machine::run::Keep;
 use esync_notes::{holds, same};
 use std::alloc::Global;
 use std::marker::Brand;
@@ -18,11 +18,13 @@ use std::process::Abort;
 use std::sync::ledger::{Blank, Ledger};
 use std::test::Fail;
 
-type Channel = ChannelRun<u32, TaskId, 1, 16, 1>;
-
 type Asked = ChannelCommand<u32, TaskId>;
 
-type ChannelReceipt = Receipt<Asked, ChannelReply<u32, TaskId, 1>>;
+type Replied = ChannelReply<u32, TaskId, 1>;
+
+type ChannelReceipt = Receipt<Asked, Replied>;
+
+type Channel = ChannelRun<u32, TaskId, 1, 1, 1>;
 
 const SEND: Asked = Command::Call(ChannelCall::TrySend(7));
 
@@ -35,29 +37,33 @@ fn is(rt: &impl Abort, receipt: &ChannelReceipt, number: usize, heard: ChannelHe
 }
 
 // What a seat of another book hears, whose channel is full.
-fn refused<L: Ledger>(alloc: Global, blank: Blank) -> Result<ChannelReceipt, Fail>
+fn refused<M, L: Ledger>(alloc: Global, blank: Blank, channel: M) -> Result<ChannelReceipt, Fail>
+where
+    M: Keep<Waker = TaskId, Command = Asked, Reply = Replied> + Drop,
     requires ledger { blank.name ≡ L.name }
     requires parts { blank.parts ≡ L.parts }
     requires room { 1 < blank.parts }
 {
-    let mut channel: Channel = Requests::new(ChannelState::new());
+    let mut channel = channel;
     channel.step(SEND);
     let (recorded, mut seats) = Recorded::<_, L>::new(alloc, blank, channel, 1)?;
     let mut seat = seats.seat();
     Ok(recorded.into_book().record(&mut seat, SEND)?)
 }
 
-fn two_seats<L: Ledger>(
+fn two_seats<M, L: Ledger>(
     rt: &impl Abort,
     alloc: Global,
     blank: Blank,
+    channel: M,
     other: ChannelReceipt,
 ) -> Result<(), Fail>
+where
+    M: Keep<Waker = TaskId, Command = Asked, Reply = Replied> + Drop,
     requires ledger { blank.name ≡ L.name }
     requires parts { blank.parts ≡ L.parts }
     requires room { 2 < blank.parts }
 {
-    let channel: Channel = Requests::new(ChannelState::new());
     let (recorded, mut seats) = Recorded::<_, L>::new(alloc, blank, channel, 2)?;
     same!(rt; seats.seats_left(), 2);
     let mut first = seats.seat();
@@ -82,22 +88,29 @@ fn two_seats<L: Ledger>(
     Ok(())
 }
 
+// Two seats take turns at the channel, and another book is that of a channel which is filled first.
+fn take_turns<M>(rt: &impl Abort, alloc: Global, channel: M, filled: M) -> Result<(), Fail>
+where
+    M: Keep<Waker = TaskId, Command = Asked, Reply = Replied> + Drop,
+{
+    let other = refused::<M, Brand>(alloc, Blank::new(2), filled)?;
+    let full = ChannelHeard::TrySent(Err(TrySendError::Full(7)));
+    is(rt, &other, 0, full);
+    two_seats::<M, Brand>(rt, alloc, Blank::new(3), channel, other)
+}
+
+fn channel() -> Channel {
+    Requests::new(ChannelState::new())
+}
+
 #[test]
 fn two_seats_take_turns(rt: HostRuntime) -> Result<(), Fail> {
-    let other = refused::<Brand>(rt.alloc(), Blank::new(2))?;
-    is(
-        &rt,
-        &other,
-        0,
-        ChannelHeard::TrySent(Err(TrySendError::Full(7))),
-    );
-    two_seats::<Brand>(&rt, rt.alloc(), Blank::new(3), other)
+    take_turns(&rt, rt.alloc(), channel(), channel())
 }
 
 #[test]
 fn two_books_are_settled_with_their_own_seats(rt: HostRuntime) -> Result<(), Fail> {
-    let one: Channel = Requests::new(ChannelState::new());
-    let other: Channel = Requests::new(ChannelState::new());
-    holds!(rt; settle_two(rt.alloc(), one, other, SEND)? == (Some(1), Some(0)));
+    let settled = settle_two(rt.alloc(), channel(), channel(), SEND)?;
+    holds!(rt; settled == (Some(1), Some(0)));
     Ok(())
 }

@@ -7,6 +7,7 @@ use esync_channel::channel::machine::{ChannelCall, ChannelRun};
 use esync_history::recorded::{Recorded, Seat};
 use esync_machine::primitive::Command;
 use esync_machine::requests::Requests;
+use esync_machine::run::Keep;
 use esync_notes::holds;
 use std::alloc::Global;
 use std::marker::Brand;
@@ -17,8 +18,6 @@ use std::sync::ledger::{Blank, Ledger};
 use std::test::Fail;
 use std::thread;
 use std::thread::Threads;
-
-type Channel = ChannelRun<u32, TaskId, 4, 16, 1>;
 
 // How often a thread looks for the other's flag.
 const LOOKS: usize = 50_000_000;
@@ -34,40 +33,52 @@ fn sees(flag: &AtomicBool) -> bool {
     false
 }
 
-// Sends a message, puts its own flag up, and looks for the other's.
-fn meets<L: Ledger, R: Wait>(
+// Makes the call, puts its own flag up, and looks for the other's.
+fn meets<M: Keep + Drop, L: Ledger, R: Wait>(
     rt: &R,
-    recorded: &Recorded<Channel, L>,
+    recorded: &Recorded<M, L>,
     seat: Seat<L>,
+    call: M::Command,
     own: &AtomicBool,
     other: &AtomicBool,
-) -> bool {
+) -> bool
+where
+    M::Command: Copy,
+    M::Reply: Copy,
+{
     let mut seat = seat;
-    let send = Command::Call(ChannelCall::TrySend(7));
-    let sent = recorded.call(rt, &mut seat, send).is_ok();
+    let called = recorded.call(rt, &mut seat, call).is_ok();
     own.store(true, Ordering::SeqCst);
-    sent && sees(other)
+    called && sees(other)
 }
 
-// Two threads send to one channel, and each waits for the other.
-fn both_meet<L: Ledger + Send + Sync, R: Threads + Wait + Abort + Sync>(
+// Two threads make the call of one machine, and each waits for the other.
+fn both_meet<M, L, R>(
     rt: &R,
     alloc: Global,
     blank: Blank,
+    machine: M,
+    call: M::Command,
 ) -> Result<(), Fail>
+where
+    M: Keep + Drop + Send,
+    M::Command: Copy + Send,
+    M::Reply: Copy + Send,
+    M::Waker: Send,
+    L: Ledger + Send + Sync,
+    R: Threads + Wait + Abort + Sync,
     requires ledger { blank.name ≡ L.name }
     requires parts { blank.parts ≡ L.parts }
     requires room { 2 < blank.parts }
 {
-    let channel: Channel = Requests::new(ChannelState::new());
-    let (recorded, mut seats) = Recorded::<Channel, L>::new(alloc, blank, channel, 2)?;
+    let (recorded, mut seats) = Recorded::<M, L>::new(alloc, blank, machine, 2)?;
     let (first, second) = (seats.seat(), seats.seat());
     let (one, two) = (AtomicBool::new(false), AtomicBool::new(false));
     let (shared, left, right) = (&recorded, &one, &two);
     let both = thread::join(
         rt,
-        move || meets(rt, shared, first, left, right),
-        move || meets(rt, shared, second, right, left),
+        move || meets(rt, shared, first, call, left, right),
+        move || meets(rt, shared, second, call, right, left),
     );
     holds!(rt; both == (true, true));
     Ok(())
@@ -75,5 +86,7 @@ fn both_meet<L: Ledger + Send + Sync, R: Threads + Wait + Abort + Sync>(
 
 #[test]
 fn two_threads_that_share_a_channel_meet(rt: HostRuntime) -> Result<(), Fail> {
-    both_meet::<Brand, _>(&rt, rt.alloc(), Blank::new(3))
+    let channel: ChannelRun<u32, TaskId, 4, 1, 1> = Requests::new(ChannelState::new());
+    let send = Command::Call(ChannelCall::TrySend(7));
+    both_meet::<_, Brand, _>(&rt, rt.alloc(), Blank::new(3), channel, send)
 }

@@ -1,13 +1,14 @@
 //! Threads that share a recorded machine, each with a seat of its own.
 ghost use Rattle.std.specs.Prelude.{◌≡◌, ◌<◌};
 
+use esync_base::kept::Kept;
 use esync_base::waitqueue::{TaskId, Wakes};
 use esync_cells::signal::SignalState;
 use esync_cells::signal::machine::{SignalCall, SignalCommand, SignalHeard, SignalRun};
 use esync_channel::channel::ChannelState;
 use esync_channel::channel::machine::{ChannelCall, ChannelCommand, ChannelHeard, ChannelRun};
 use esync_history::recorded::{Book, Entry, Receipt, Recorded, Seat, Seats, audit};
-use esync_machine::primitive::{Answer, Command};
+use esync_machine::primitive::{Answer, Command, Primitive};
 use esync_machine::requests::Requests;
 use esync_machine::run::{Keep, Reply};
 use esync_notes::{holds, same};
@@ -31,6 +32,9 @@ use std::thread::Threads;
 
 const CALLS: usize = 50;
 
+// For each seat and each of these lists of answers, how many of the seat's calls were answered with one of the list.
+type Counts = [[usize; 5]; 2];
+
 // How many of the seat's calls were answered with one of these.
 fn answered<C, H: Eq, const K: usize>(
     receipts: &[Receipt<C, Reply<Answer<H>, TaskId, K>>],
@@ -42,6 +46,22 @@ fn answered<C, H: Eq, const K: usize>(
         .filter(|receipt| receipt.entry.seat == seat)
         .filter(|receipt| answers.contains(&receipt.entry.reply.answer))
         .count()
+}
+
+// How many of the seat's calls were answered with one of each of these lists.
+fn counts<C, H: Eq, const K: usize>(
+    receipts: &[Receipt<C, Reply<Answer<H>, TaskId, K>>],
+    seat: usize,
+    answers: &[&[Answer<H>]; 5],
+) -> [usize; 5] {
+    let [first, second, third, fourth, fifth] = answers;
+    [
+        answered(receipts, seat, first),
+        answered(receipts, seat, second),
+        answered(receipts, seat, third),
+        answered(receipts, seat, fourth),
+        answered(receipts, seat, fifth),
+    ]
 }
 
 // Fifty calls of one seat, of these two in turn.
@@ -127,22 +147,46 @@ where
     has_both(rt, alloc, recorded.into_book(), seats, one?, two?, look)
 }
 
-// Two threads make fifty calls each, of their own two in turn. A look at the machine as it was sees this. Returns the receipts.
-fn call_by_two<M, R>(
+// Two threads make fifty calls each, of their own two in turn. A look at the machine as it was sees this. Tells how often each was answered
+// with one of these.
+fn count_calls<M, H, R, const K: usize>(
     rt: &R,
     alloc: Global,
     machine: M,
     calls: [[M::Command; 2]; 2],
-    look: (M::Command, M::Reply),
-) -> Result<Vec<Receipt<M::Command, M::Reply>>, Fail>
+    look: (M::Command, Reply<Answer<H>, TaskId, K>),
+    answers: &[&[Answer<H>]; 5],
+) -> Result<Counts, Fail>
 where
-    M: Keep + Drop + Send,
+    M: Keep<Waker = TaskId, Reply = Reply<Answer<H>, TaskId, K>> + Drop + Send,
     M::Command: Copy + Eq + Send,
-    M::Reply: Copy + Eq + Send,
-    M::Waker: Send,
+    H: Copy + Eq + Send,
     R: Threads + Wait + Abort + Sync,
 {
-    call_under::<M, Brand, R>(rt, alloc, Blank::new(3), machine, calls, look)
+    let receipts = call_under::<M, Brand, R>(rt, alloc, Blank::new(3), machine, calls, look)?;
+    Ok([counts(&receipts, 0, answers), counts(&receipts, 1, answers)])
+}
+
+// Two threads make fifty calls each, of their own two in turn. A look at the machine as it was sees this. Tells how often each was answered
+// with one of these.
+fn call_by_two<P, R, const REQS: usize, const K: usize>(
+    rt: &R,
+    alloc: Global,
+    machine: Requests<P, REQS, K>,
+    calls: [[Command<P::Ask, TaskId, P::Call>; 2]; 2],
+    look: (P::Call, Reply<Answer<P::Heard>, TaskId, K>),
+    answers: &[&[Answer<P::Heard>]; 5],
+) -> Result<Counts, Fail>
+where
+    P: Primitive<K, Waker = TaskId> + Kept + Drop + Send,
+    P::Ask: Copy + Eq + Send,
+    P::Held: Copy + Send,
+    P::Call: Copy + Eq + Send,
+    P::Heard: Copy + Eq + Send,
+    R: Threads + Wait + Abort + Sync,
+{
+    let look = (Command::Call(look.0), look.1);
+    count_calls(rt, alloc, machine, calls, look, answers)
 }
 
 mod cells;
@@ -179,72 +223,59 @@ fn takes(r: usize) -> [Command<Amount, TaskId, PermitCall>; 2] {
 // Two threads send and receive.
 #[test]
 fn two_threads_call_a_recorded_channel(rt: HostRuntime) -> Result<(), Fail> {
-    let channel: ChannelRun<u32, TaskId, 4, 16, 1> = Requests::new(ChannelState::new());
-    let look = (
-        Command::Call(ChannelCall::Len),
-        told(ChannelHeard::Number(0)),
-    );
-    call_by_two(&rt, rt.alloc(), channel, [sends(1), sends(2)], look)?;
+    let channel: ChannelRun<u32, TaskId, 4, 1, 1> = Requests::new(ChannelState::new());
+    let look = (ChannelCall::Len, told(ChannelHeard::Number(0)));
+    let calls = [sends(1), sends(2)];
+    call_by_two(&rt, rt.alloc(), channel, calls, look, &[&[]; 5])?;
     Ok(())
 }
 
 // Two threads send and receive by priority.
 #[test]
 fn two_threads_call_a_recorded_priority_channel(rt: HostRuntime) -> Result<(), Fail> {
-    let channel: PriorityRun<u32, TaskId, Max, 4, 16, 1> = Requests::new(PriorityState::new());
-    let look = (
-        Command::Call(ChannelCall::Len),
-        told(ChannelHeard::Number(0)),
-    );
-    call_by_two(&rt, rt.alloc(), channel, [sends(1), sends(2)], look)?;
+    let channel: PriorityRun<u32, TaskId, Max, 4, 1, 1> = Requests::new(PriorityState::new());
+    let look = (ChannelCall::Len, told(ChannelHeard::Number(0)));
+    let calls = [sends(1), sends(2)];
+    call_by_two(&rt, rt.alloc(), channel, calls, look, &[&[]; 5])?;
     Ok(())
 }
 
 // Two threads write and read.
-fn pipe(rt: &(impl Threads + Wait + Abort + Sync), alloc: Global) -> Result<(), Fail> {
-    let pipe: PipeRun<TaskId, 4, 16, 2> = Requests::new(PipeState::new());
-    let look = (Command::Call(PipeCall::Len), told(PipeHeard::Number(0)));
-    call_by_two(rt, alloc, pipe, [writes(1), writes(2)], look)?;
-    Ok(())
-}
-
 #[test]
 fn two_threads_call_a_recorded_pipe(rt: HostRuntime) -> Result<(), Fail> {
-    pipe(&rt, rt.alloc())
+    let pipe: PipeRun<TaskId, 4, 1, 2> = Requests::new(PipeState::new());
+    let look = (PipeCall::Len, told(PipeHeard::Number(0)));
+    let calls = [writes(1), writes(2)];
+    call_by_two(&rt, rt.alloc(), pipe, calls, look, &[&[]; 5])?;
+    Ok(())
 }
 
 // Two threads signal and take.
 #[test]
 fn two_threads_call_a_recorded_signal(rt: HostRuntime) -> Result<(), Fail> {
-    let signal: SignalRun<u32, TaskId, 16, 1> = Requests::new(SignalState::new());
-    let look = (
-        Command::Call(SignalCall::Signaled),
-        told(SignalHeard::Signaled(false)),
-    );
-    call_by_two(&rt, rt.alloc(), signal, [signals(1), signals(2)], look)?;
+    let signal: SignalRun<u32, TaskId, 1, 1> = Requests::new(SignalState::new());
+    let look = (SignalCall::Signaled, told(SignalHeard::Signaled(false)));
+    let calls = [signals(1), signals(2)];
+    call_by_two(&rt, rt.alloc(), signal, calls, look, &[&[]; 5])?;
     Ok(())
 }
 
 // Two threads take permits and give them back.
 #[test]
 fn two_threads_call_a_recorded_greedy_semaphore(rt: HostRuntime) -> Result<(), Fail> {
-    let semaphore: GreedyRun<TaskId, 16, 1> = Requests::new(GreedyState::new(4));
-    let look = (
-        Command::Call(PermitCall::Permits),
-        told(PermitHeard::Count(4)),
-    );
-    call_by_two(&rt, rt.alloc(), semaphore, [takes(0), takes(1)], look)?;
+    let semaphore: GreedyRun<TaskId, 2, 1> = Requests::new(GreedyState::new(4));
+    let look = (PermitCall::Permits, told(PermitHeard::Count(4)));
+    let calls = [takes(0), takes(1)];
+    call_by_two(&rt, rt.alloc(), semaphore, calls, look, &[&[]; 5])?;
     Ok(())
 }
 
 // Two threads take permits and give them back.
 #[test]
 fn two_threads_call_a_recorded_fair_semaphore(rt: HostRuntime) -> Result<(), Fail> {
-    let semaphore: FairRun<TaskId, 4, 16, 1> = Requests::new(FairState::new(4));
-    let look = (
-        Command::Call(PermitCall::Permits),
-        told(PermitHeard::Count(4)),
-    );
-    call_by_two(&rt, rt.alloc(), semaphore, [takes(0), takes(1)], look)?;
+    let semaphore: FairRun<TaskId, 4, 2, 1> = Requests::new(FairState::new(4));
+    let look = (PermitCall::Permits, told(PermitHeard::Count(4)));
+    let calls = [takes(0), takes(1)];
+    call_by_two(&rt, rt.alloc(), semaphore, calls, look, &[&[]; 5])?;
     Ok(())
 }

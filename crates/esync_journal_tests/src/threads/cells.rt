@@ -1,5 +1,5 @@
 //! Threads that share a recorded cell: a watch, a value that is set once, one that is made when it is first asked for, or a mutex.
-use super::{CALLS, answered, call_by_two, told};
+use super::{CALLS, call_by_two, told};
 use esync_base::waitqueue::TaskId;
 use esync_cells::lazy_lock::Given;
 use esync_cells::lazy_lock::machine::{LazyCall, LazyHolder, LazyRun};
@@ -43,25 +43,38 @@ impl Change<u32> for Never {
     ghost a_change_tells = { λ _ _ _. refl };
 }
 
+type WatchAnswer = Answer<WatchHeard<u32>>;
+
+const SENT_OR_FOUND: [&[WatchAnswer]; 5] = [
+    &[Answer::Gives(WatchHeard::Sent(Ok(())))],
+    &[
+        Answer::Gives(WatchHeard::Found(None)),
+        Answer::Gives(WatchHeard::Found(Some(1))),
+        Answer::Gives(WatchHeard::Found(Some(2))),
+    ],
+    &[],
+    &[],
+    &[],
+];
+
+// A watch with the receiver 0.
+fn watch() -> WatchRun<u32, TaskId, Never, Never, 1, 1, 1, 1> {
+    let mut watch = Requests::new(Watched::new());
+    watch.step(Command::Call(WatchCall::Receiver(0)));
+    watch
+}
+
 // One thread sends its numbers, which the other reads.
 #[test]
 fn two_threads_call_a_recorded_watch(rt: HostRuntime) -> Result<(), Fail> {
-    let mut watch: WatchRun<u32, TaskId, Never, Never, 4, 16, 16, 4> = Requests::new(
-        Watched::new(),
-    );
-    watch.step(Command::Call(WatchCall::Receiver(0)));
     let sends = [1, 2].map(|number| Command::Call(WatchCall::Send(number)));
     let changed = Command::Call(WatchCall::Read(0, Reading::Changed));
     let reads = [Command::Call(WatchCall::TryGet), changed];
-    let look = (
-        Command::Call(WatchCall::Contains),
-        told(WatchHeard::HasValue(false)),
-    );
-    let receipts = call_by_two(&rt, rt.alloc(), watch, [sends, reads], look)?;
-    let sent = [Answer::Gives(WatchHeard::Sent(Ok(())))];
-    let found = [None, Some(1), Some(2)].map(|value| Answer::Gives(WatchHeard::Found(value)));
-    same!(rt; answered(&receipts, 0, &sent), CALLS);
-    same!(rt; answered(&receipts, 1, &found), CALLS);
+    let look = (WatchCall::Contains, told(WatchHeard::HasValue(false)));
+    let calls = [sends, reads];
+    let [one, two] = call_by_two(&rt, rt.alloc(), watch(), calls, look, &SENT_OR_FOUND)?;
+    same!(rt; one, [CALLS, 0, 0, 0, 0]);
+    same!(rt; two, [0, CALLS, 0, 0, 0]);
     Ok(())
 }
 
@@ -70,51 +83,55 @@ fn sets(value: u32) -> [OnceCommand<u32, TaskId>; 2] {
     [set, Command::Call(OnceCall::TryGet)]
 }
 
-fn has_set(set: Result<(), InitError<u32>>) -> Answer<OnceHeard<u32>> {
-    Answer::Gives(OnceHeard::HasSet(set))
-}
+type OnceAnswer = Answer<OnceHeard<u32>>;
+
+const SETS: [&[OnceAnswer]; 5] = [
+    &[Answer::Gives(OnceHeard::HasSet(Ok(())))],
+    &[Answer::Gives(OnceHeard::HasSet(Err(InitError::Set(1))))],
+    &[Answer::Gives(OnceHeard::HasSet(Err(InitError::Set(2))))],
+    &[Answer::Gives(OnceHeard::Found(Some(1)))],
+    &[Answer::Gives(OnceHeard::Found(Some(2)))],
+];
 
 // Two threads set a value and look. One of them sets it, once, and both see what it set.
 #[test]
 fn two_threads_call_a_recorded_once_lock(rt: HostRuntime) -> Result<(), Fail> {
-    let once: OnceRun<u32, TaskId, 16, 1> = Requests::new(OnceState::new());
-    let look = (
-        Command::Call(OnceCall::IsSet),
-        told(OnceHeard::IsSet(false)),
-    );
-    let receipts = call_by_two(&rt, rt.alloc(), once, [sets(1), sets(2)], look)?;
-    let (winner, value) = if answered(&receipts, 0, &[has_set(Ok(()))]) == 1 {
-        (0, 1)
+    let once: OnceRun<u32, TaskId, 1, 1> = Requests::new(OnceState::new());
+    let look = (OnceCall::IsSet, told(OnceHeard::IsSet(false)));
+    let calls = [sets(1), sets(2)];
+    let [one, two] = call_by_two(&rt, rt.alloc(), once, calls, look, &SETS)?;
+    let half = CALLS / 2;
+    let (winner, loser) = if one[0] == 1 {
+        ([1, half - 1, 0, half, 0], [0, 0, half, half, 0])
     } else {
-        (1, 2)
+        ([0, half, 0, 0, half], [1, 0, half - 1, 0, half])
     };
-    let found = Answer::Gives(OnceHeard::Found(Some(value)));
-    for (seat, own) in [(0, 1), (1, 2)] {
-        let sets = if seat == winner { 1 } else { 0 };
-        let refused = has_set(Err(InitError::Set(own)));
-        same!(rt; answered(&receipts, seat, &[has_set(Ok(()))]), sets);
-        same!(rt; answered(&receipts, seat, &[refused]), CALLS / 2 - sets);
-        same!(rt; answered(&receipts, seat, &[found]), CALLS / 2);
-    }
+    same!(rt; one, winner);
+    same!(rt; two, loser);
     Ok(())
 }
+
+const SEVEN_OR_NOTHING: [&[Answer<u32>]; 5] = [
+    &[Answer::Gives(7), Answer::NoSuch],
+    &[Answer::Gives(7)],
+    &[Answer::NoSuch],
+    &[],
+    &[],
+];
 
 // Two threads ask for a value. The second takes it out after its first look, and then nothing is there.
 #[test]
 fn two_threads_call_a_recorded_lazy_lock(rt: HostRuntime) -> Result<(), Fail> {
-    let lazy: LazyRun<u32, Given<u32>, TaskId, 16, 1> = Requests::new(LazyHolder::new(Given {
+    let lazy: LazyRun<u32, Given<u32>, TaskId, 1, 1> = Requests::new(LazyHolder::new(Given {
         value: 7,
     }));
     let asks = [Command::Call(LazyCall::Get); 2];
     let takes = [Command::Call(LazyCall::Get), Command::Call(LazyCall::Into)];
-    let look = (Command::Call(LazyCall::Get), told(7));
-    let receipts = call_by_two(&rt, rt.alloc(), lazy, [asks, takes], look)?;
-    same!(rt;
-        answered(&receipts, 0, &[Answer::Gives(7), Answer::NoSuch]),
-        CALLS
-    );
-    same!(rt; answered(&receipts, 1, &[Answer::Gives(7)]), 2);
-    same!(rt; answered(&receipts, 1, &[Answer::NoSuch]), CALLS - 2);
+    let look = (LazyCall::Get, told(7));
+    let calls = [asks, takes];
+    let [one, two] = call_by_two(&rt, rt.alloc(), lazy, calls, look, &SEVEN_OR_NOTHING)?;
+    same!(rt; one[0], CALLS);
+    same!(rt; two, [CALLS, 2, CALLS - 2, 0, 0]);
     Ok(())
 }
 
@@ -122,27 +139,34 @@ fn locks(r: usize) -> [MutexCommand<(u32, u32), u32, TaskId>; 2] {
     [Command::Call(MutexCall::TryLock(r)), Command::End(r)]
 }
 
+type MutexAnswer = Answer<MutexHeard<(u32, u32), u32>>;
+
+const LOCKED: MutexAnswer = Answer::Gives(MutexHeard::Tried(Ok(())));
+
+const REFUSED: MutexAnswer = Answer::Gives(MutexHeard::Tried(Err(TryLockError {})));
+
+const TRIES: [&[MutexAnswer]; 5] = [
+    &[LOCKED, REFUSED],
+    &[LOCKED],
+    &[Answer::Done],
+    &[REFUSED],
+    &[Answer::NoSuch],
+];
+
 // Two threads try to lock, and end what they locked. As many ends of each find a guard as its tries have locked.
 #[test]
 fn two_threads_call_a_recorded_mutex(rt: HostRuntime) -> Result<(), Fail> {
-    let mutex: MutexRun<(u32, u32), u32, Second, TaskId, 16, 1> = Requests::new(Guarded::new(
+    let mutex: MutexRun<(u32, u32), u32, Second, TaskId, 3, 1> = Requests::new(Guarded::new(
         (4, 6),
         Second {},
     ));
-    let look = (
-        Command::Call(MutexCall::TryLock(2)),
-        told(MutexHeard::Tried(Ok(()))),
-    );
-    let receipts = call_by_two(&rt, rt.alloc(), mutex, [locks(0), locks(1)], look)?;
-    let [locked, refused] = [Ok(()), Err(TryLockError {})].map(|tried| {
-        Answer::Gives(MutexHeard::Tried(tried))
-    });
-    for seat in [0, 1] {
-        let ends = answered(&receipts, seat, &[Answer::Done]);
-        let vain = answered(&receipts, seat, &[Answer::NoSuch]);
-        same!(rt; answered(&receipts, seat, &[locked, refused]), CALLS / 2);
-        same!(rt; answered(&receipts, seat, &[locked]), ends);
-        same!(rt; answered(&receipts, seat, &[refused]), vain);
+    let look = (MutexCall::TryLock(2), told(MutexHeard::Tried(Ok(()))));
+    let calls = [locks(0), locks(1)];
+    let counts = call_by_two(&rt, rt.alloc(), mutex, calls, look, &TRIES)?;
+    for [tried, locked, ended, refused, vain] in counts {
+        same!(rt; tried, CALLS / 2);
+        same!(rt; locked, ended);
+        same!(rt; refused, vain);
     }
     Ok(())
 }

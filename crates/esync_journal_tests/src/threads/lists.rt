@@ -1,5 +1,7 @@
 //! Threads that share a recorded list of messages: that of publishers and subscribers, or the slots of a zero-copy channel.
-use super::{CALLS, answered, call_by_two, told};
+ghost use Rattle.std.specs.Prelude.{◌<◌, IfOk, length};
+
+use super::{CALLS, call_by_two, told};
 use esync_base::waitqueue::TaskId;
 use esync_machine::primitive::{Answer, Command};
 use esync_machine::requests::Requests;
@@ -9,9 +11,10 @@ use esync_pubsub::pubsub::machine::{Events, PubSubCall, PubSubCommand, PubSubHea
 use esync_pubsub::pubsub::{TryPublishError, WaitResult};
 use esync_zerocopy::zerocopy_channel::machine::{Lent, ZeroCall, ZeroCommand, ZeroHeard, ZeroRun};
 use esync_zerocopy::zerocopy_channel::{ChannelState, Side};
+use std::alloc::{AllocError, Global};
 use std::test::Fail;
 
-type Topic = PubSubRun<u32, TaskId, 4, 4, 4, 16, 16, 4>;
+type Topic = PubSubRun<u32, TaskId, 4, 2, 2, 2, 1, 4>;
 
 // A topic with the publishers and the subscribers 0 and 1.
 fn topic() -> Topic {
@@ -29,33 +32,32 @@ fn publishes(number: usize, message: u32) -> [PubSubCommand<u32, TaskId>; 2] {
     [publish, Command::Call(PubSubCall::Next(number))]
 }
 
+const PUBLISHED_OR_READ: [&[Answer<PubSubHeard<u32>>]; 5] = [
+    &[
+        Answer::Gives(PubSubHeard::TriedPublish(Ok(()))),
+        Answer::Gives(PubSubHeard::TriedPublish(Err(TryPublishError::Full(5)))),
+        Answer::Gives(PubSubHeard::TriedPublish(Err(TryPublishError::Full(6)))),
+    ],
+    &[
+        Answer::Gives(PubSubHeard::Tried(None)),
+        Answer::Gives(PubSubHeard::Tried(Some(WaitResult::Message(5)))),
+        Answer::Gives(PubSubHeard::Tried(Some(WaitResult::Message(6)))),
+    ],
+    &[],
+    &[],
+    &[],
+];
+
 // Two threads publish to both, and read.
 #[test]
 fn two_threads_call_a_recorded_pubsub_channel(rt: HostRuntime) -> Result<(), Fail> {
-    let (one, two) = (publishes(0, 5), publishes(1, 6));
-    let look = (Command::Call(PubSubCall::Len), told(PubSubHeard::Number(0)));
-    let receipts = call_by_two(&rt, rt.alloc(), topic(), [one, two], look)?;
-    let published = [
-        Ok(()),
-        Err(TryPublishError::Full(5)),
-        Err(TryPublishError::Full(6)),
-    ]
-    .map(|published| Answer::Gives(PubSubHeard::TriedPublish(published)));
-    let read = [
-        None,
-        Some(WaitResult::Message(5)),
-        Some(WaitResult::Message(6)),
-    ]
-    .map(|read| Answer::Gives(PubSubHeard::Tried(read)));
-    for seat in [0, 1] {
-        same!(rt; answered(&receipts, seat, &published), CALLS / 2);
-        same!(rt; answered(&receipts, seat, &read), CALLS / 2);
+    let calls = [publishes(0, 5), publishes(1, 6)];
+    let look = (PubSubCall::Len, told(PubSubHeard::Number(0)));
+    let counts = call_by_two(&rt, rt.alloc(), topic(), calls, look, &PUBLISHED_OR_READ)?;
+    for seat in counts {
+        same!(rt; seat, [CALLS / 2, CALLS / 2, 0, 0, 0]);
     }
     Ok(())
-}
-
-fn tried(lent: Option<Lent<u32>>) -> Answer<ZeroHeard<u32>> {
-    Answer::Gives(ZeroHeard::Tried(lent))
 }
 
 // The side tries its next slot, and is done with it.
@@ -66,30 +68,45 @@ fn turns(side: Side) -> [ZeroCommand<u32, TaskId>; 2] {
     ]
 }
 
-// One thread sends slots, and the other gives them back. Each slot has its own value.
+const LENT_OR_DONE: [&[Answer<ZeroHeard<u32>>]; 5] = [
+    &[
+        Answer::Gives(ZeroHeard::Tried(None)),
+        Answer::Gives(ZeroHeard::Tried(Some(Lent::Spare(0)))),
+        Answer::Gives(ZeroHeard::Tried(Some(Lent::Spare(1)))),
+        Answer::Gives(ZeroHeard::Tried(Some(Lent::Spare(2)))),
+        Answer::Gives(ZeroHeard::Tried(Some(Lent::Spare(3)))),
+    ],
+    &[
+        Answer::Gives(ZeroHeard::Tried(None)),
+        Answer::Gives(ZeroHeard::Tried(Some(Lent::Held(0, 5)))),
+        Answer::Gives(ZeroHeard::Tried(Some(Lent::Held(1, 6)))),
+        Answer::Gives(ZeroHeard::Tried(Some(Lent::Held(2, 7)))),
+        Answer::Gives(ZeroHeard::Tried(Some(Lent::Held(3, 8)))),
+    ],
+    &[Answer::Done, Answer::NoSuch],
+    &[Answer::Done],
+    &[],
+];
+
+// Four slots, each with its own value.
+fn slots(alloc: Global) -> Result<Vec<u32>, AllocError>
+    ensures { IfOk result (λ slots. 0 < length slots.items) }
+{
+    Ok(vec![in alloc; 5, 6, 7, 8]?)
+}
+
+// One thread sends slots, and the other gives them back.
 #[test]
 fn two_threads_call_a_recorded_zerocopy_channel(rt: HostRuntime) -> Result<(), Fail> {
-    let slots = vec![in rt.alloc(); 5, 6, 7, 8]?;
-    let channel: ZeroRun<u32, TaskId, 16, 1> = Requests::new(ChannelState::new(slots));
-    let (sends, gives_back) = (turns(Side::Sender), turns(Side::Receiver));
-    let look = (
-        Command::Call(ZeroCall::FreeCapacity),
-        told(ZeroHeard::Count(4)),
-    );
-    let receipts = call_by_two(&rt, rt.alloc(), channel, [sends, gives_back], look)?;
-    let spare = [0, 1, 2, 3].map(|slot| tried(Some(Lent::Spare(slot))));
-    let held = [(0, 5), (1, 6), (2, 7), (3, 8)].map(|(slot, value)| tried(Some(Lent::Held(
-        slot, value,
-    ))));
-    for (seat, lent) in [(0, spare), (1, held)] {
-        let [first, second, third, fourth] = lent;
-        let tries = [tried(None), first, second, third, fourth];
-        same!(rt; answered(&receipts, seat, &tries), CALLS / 2);
-        same!(rt;
-            answered(&receipts, seat, &[Answer::Done, Answer::NoSuch]),
-            CALLS / 2
-        );
-    }
-    holds!(rt; answered(&receipts, 0, &[Answer::Done]) >= 4);
+    let slots = slots(rt.alloc())?;
+    let channel: ZeroRun<u32, TaskId, 1, 1> = Requests::new(ChannelState::new(slots));
+    let calls = [turns(Side::Sender), turns(Side::Receiver)];
+    let look = (ZeroCall::FreeCapacity, told(ZeroHeard::Count(4)));
+    let [sender, receiver] = call_by_two(&rt, rt.alloc(), channel, calls, look, &LENT_OR_DONE)?;
+    same!(rt; sender[0], CALLS / 2);
+    same!(rt; receiver[1], CALLS / 2);
+    same!(rt; sender[2], CALLS / 2);
+    same!(rt; receiver[2], CALLS / 2);
+    holds!(rt; sender[3] >= 4);
     Ok(())
 }

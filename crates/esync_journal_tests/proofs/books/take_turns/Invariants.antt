@@ -1,4 +1,4 @@
-use Rattle.esync_journal_tests.proofs.books.two_seats_take_turns.Given as goal
+use Rattle.esync_journal_tests.proofs.books.take_turns.Given as goal
 
 abbrev pub ghosts-refused : goal.ghosts-refused
 ghosts-refused g a = record { name = a.blank.name; parts = a.blank.parts }
