@@ -1,4 +1,6 @@
 //! Publishers and subscribers, by the channel's own calls and by those of its handles. Whoever has a number stands in a table.
+ghost use Rattle.std.specs.Prelude.{◌≤◌};
+
 use crate::form::{Door, Doors, Form, Sizes, nobody, over, sizes};
 use crate::play::{Script, Stage, serve};
 use esync_base::waitqueue::{Context, Hand, Poll};
@@ -422,13 +424,19 @@ fn play_on<
     serve(stage, form, script, output)
 }
 
-// Plays the lines behind line 1 over a channel of so many messages. That it fits in memory is found where the number is written.
-macro_rules! play_over {
-    ($n:literal, $stage:ident, $script:ident, $output:ident) => {{
-        let channel: PubSubChannel<u32, u64, &Notes<'_, R>, $n, 4, 4, 4> =
-            PubSubChannel::new($stage.notes);
-        play_on($stage, &channel, $script, $output)
-    }};
+// Plays the lines behind line 1 over a channel of at most `N` messages.
+fn play_over<const N: usize, R: Wait, W: Write>(
+    stage: Stage<'_, '_, R>,
+    script: &mut Script<'_>,
+    output: &mut W,
+) -> Result<(), Fault>
+    requires some { 1 ≤ N }
+    requires few { N ≤ 8 }
+{
+    let channel: PubSubChannel<u32, u64, &Notes<'_, R>, N, 4, 4, 4> = PubSubChannel::new(
+        stage.notes,
+    );
+    play_on(stage, &channel, script, output)
 }
 
 /// Plays the lines behind line 1, where the first message has the number 0: a shared channel begins nowhere else.
@@ -443,10 +451,10 @@ pub fn play<R: Wait, W: Write>(
         return Err(Fault::NotACommand(1));
     }
     match capacity {
-        Capacity::One => play_over!(1, stage, script, output),
-        Capacity::Two => play_over!(2, stage, script, output),
-        Capacity::Three => play_over!(3, stage, script, output),
-        Capacity::Four => play_over!(4, stage, script, output),
-        Capacity::Eight => play_over!(8, stage, script, output),
+        Capacity::One => play_over::<1, R, W>(stage, script, output),
+        Capacity::Two => play_over::<2, R, W>(stage, script, output),
+        Capacity::Three => play_over::<3, R, W>(stage, script, output),
+        Capacity::Four => play_over::<4, R, W>(stage, script, output),
+        Capacity::Eight => play_over::<8, R, W>(stage, script, output),
     }
 }
