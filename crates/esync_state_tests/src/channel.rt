@@ -9,11 +9,9 @@ type One = ChannelState<u32, u64, 1>;
 
 // It holds a message, or none.
 fn has(rt: &impl Abort, channel: &One, messages: usize) {
-    same!(rt; channel.len(), messages);
-    same!(rt; channel.is_empty(), messages == 0);
-    same!(rt; channel.is_full(), messages == 1);
-    same!(rt; channel.free_capacity().wrapping_add(messages), 1);
-    same!(rt; channel.capacity(), 1);
+    let (free, capacity) = (channel.free_capacity(), channel.capacity());
+    same!(rt; (channel.len(), free.wrapping_add(messages), capacity), (messages, 1, 1));
+    same!(rt; (channel.is_empty(), channel.is_full()), (messages == 0, messages == 1));
 }
 
 fn receives_in_context(

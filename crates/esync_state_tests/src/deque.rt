@@ -66,6 +66,25 @@ fn ring_of_no_place_is_full_and_empty(rt: HostRuntime) {
     is_empty(&rt, &mut ring);
 }
 
+// It holds these, oldest first.
+fn holds_items<const N: usize>(rt: &impl Abort, ring: &Deque<u32, N>, items: &[u32]) {
+    holds!(rt; ring.len() == items.len());
+    for (i, item) in items.iter().enumerate() {
+        holds!(rt; i < ring.len());
+        same!(rt; *ring.get(i), *item);
+    }
+}
+
+// The second one is removed, and then the one that took its place is replaced.
+fn changes_the_second(rt: &impl Abort, ring: &mut Deque<u32, 4>) {
+    holds!(rt; ring.len() == 4);
+    same!(rt; ring.remove(1), 4);
+    stands_at(rt, ring, &[2, 3, 0]);
+    holds_items(rt, ring, &[3, 5, 6]);
+    holds!(rt; ring.len() == 3);
+    same!(rt; ring.replace(1, 7), 5);
+}
+
 #[test]
 fn items_behind_a_removed_one_move_up(rt: HostRuntime) {
     let mut ring: Deque<u32, 4> = Deque::new();
@@ -73,14 +92,7 @@ fn items_behind_a_removed_one_move_up(rt: HostRuntime) {
     gives(&rt, &mut ring, &[1, 2]);
     takes(&rt, &mut ring, &[5, 6]);
     stands_at(&rt, &ring, &[2, 3, 0, 1]);
-    holds!(rt; ring.len() == 4);
-    same!(rt; ring.remove(1), 4);
-    stands_at(&rt, &ring, &[2, 3, 0]);
-    holds!(rt; ring.len() == 3);
-    same!(rt; *ring.get(0), 3);
-    same!(rt; *ring.get(1), 5);
-    same!(rt; *ring.get(2), 6);
-    same!(rt; ring.replace(1, 7), 5);
+    changes_the_second(&rt, &mut ring);
     gives(&rt, &mut ring, &[3, 7, 6]);
     is_empty(&rt, &mut ring);
 }

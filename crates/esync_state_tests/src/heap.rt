@@ -72,16 +72,27 @@ fn the_least_of_seven_leaves_first(rt: HostRuntime) {
     is_emptied(&rt, &mut queue, &[1, 2, 3, 4, 5, 5, 9]);
 }
 
+// The first one is this.
+fn looks(rt: &impl Abort, queue: &PrioQueue<u32, Max, 7>, item: Option<u32>) {
+    holds!(rt; queue.peek() == item.as_ref());
+}
+
 #[test]
 fn a_look_takes_nothing_out(rt: HostRuntime) {
     let mut queue: PrioQueue<u32, Max, 7> = PrioQueue::new();
-    holds!(rt; queue.peek().is_none());
+    looks(&rt, &queue, None);
     holds!(rt; queue.is_empty());
     takes_in(&rt, &mut queue, &[3, 9, 5]);
-    holds!(rt; queue.peek() == Some(&9));
+    looks(&rt, &queue, Some(9));
     same!(rt; queue.len(), 3);
     same!(rt; pop(&mut queue), Some(9));
-    holds!(rt; queue.peek() == Some(&5));
+    looks(&rt, &queue, Some(5));
+}
+
+#[test]
+fn a_cleared_queue_is_empty(rt: HostRuntime) {
+    let mut queue: PrioQueue<u32, Max, 7> = PrioQueue::new();
+    takes_in(&rt, &mut queue, &[3, 5]);
     holds!(rt; !queue.is_full());
     queue.clear();
     holds!(rt; queue.is_empty());

@@ -8,11 +8,9 @@ type Three = PipeState<u64, 3>;
 
 // It holds this number of bytes.
 fn has(rt: &impl Abort, pipe: &Three, bytes: usize) {
-    same!(rt; pipe.len(), bytes);
-    same!(rt; pipe.is_empty(), bytes == 0);
-    same!(rt; pipe.is_full(), bytes == 3);
-    same!(rt; pipe.free_capacity().wrapping_add(bytes), 3);
-    same!(rt; pipe.capacity(), 3);
+    let (free, capacity) = (pipe.free_capacity(), pipe.capacity());
+    same!(rt; (pipe.len(), free.wrapping_add(bytes), capacity), (bytes, 3, 3));
+    same!(rt; (pipe.is_empty(), pipe.is_full()), (bytes == 0, bytes == 3));
 }
 
 #[test]

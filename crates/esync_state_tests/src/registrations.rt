@@ -98,10 +98,15 @@ fn a_list_gives_its_wakers_in_order(rt: HostRuntime) {
     same!(rt; wakes.len(), 2);
     same!(rt; wakes.get(1), Some(3));
     let mut given = wakes.iter();
-    same!(rt; given.next(), Some(5));
-    same!(rt; given.next(), Some(3));
-    same!(rt; given.next(), None);
-    same!(rt; given.next(), None);
+    same!(rt; (given.next(), given.next()), (Some(5), Some(3)));
+    same!(rt; (given.next(), given.next()), (None, None));
+}
+
+#[test]
+fn a_loop_goes_over_the_wakers_of_a_list(rt: HostRuntime) {
+    let mut wakes: Wakes<u32, 3> = Wakes::new();
+    wakes.push(5);
+    wakes.push(3);
     let mut last = None;
     for waker in &wakes {
         last = Some(waker);

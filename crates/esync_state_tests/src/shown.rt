@@ -32,7 +32,7 @@ fn shows_among(
     text: &str,
 ) -> Result<(), AllocError> {
     let shown = format!(in alloc; "{value:?}")?;
-    assert!(*rt; shown.contains(text), "{shown}");
+    holds!(rt; shown.contains(text));
     Ok(())
 }
 

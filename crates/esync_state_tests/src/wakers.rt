@@ -13,6 +13,17 @@ pub fn hands_out(rt: &impl Abort, wakes: &Wakes<u64, 1>, waker: Option<u64>) {
 
 type Replies<A, const K: usize> = Result<Vec<Reply<Answer<A>, u64, K>>, AllocError>;
 
+// A reply has this answer, and hands out this waker alone or none.
+fn is<A: PartialEq, const K: usize>(
+    rt: &impl Abort,
+    reply: &Reply<Answer<A>, u64, K>,
+    answer: &Answer<A>,
+    waker: Option<u64>,
+) {
+    holds!(rt; reply.answer == *answer);
+    same!(rt; (reply.wakes.get(0), reply.wakes.get(1)), (waker, None));
+}
+
 /// Each reply has this answer, and hands out this waker alone or none.
 pub fn are<A: PartialEq + Drop, const K: usize>(
     rt: &impl Abort,
@@ -22,9 +33,7 @@ pub fn are<A: PartialEq + Drop, const K: usize>(
     let replies = replies?;
     same!(rt; replies.len(), want.len());
     for (reply, (answer, waker)) in replies.iter().zip(want) {
-        holds!(rt; reply.answer == *answer);
-        same!(rt; reply.wakes.get(0), *waker);
-        same!(rt; reply.wakes.get(1), None);
+        is(rt, reply, answer, *waker);
     }
     Ok(())
 }

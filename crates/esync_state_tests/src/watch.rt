@@ -116,6 +116,14 @@ fn is_not_seen(rt: &impl Abort, watch: &mut WatchState<Scarce<'_>, u64, 1>, seen
     same!(rt; *seen, 0);
 }
 
+// The value is news.
+fn is_heard(rt: &impl Abort, watch: &WatchState<Scarce<'_>, u64, 1>, seen: &mut u64, value: u32) {
+    match watch.try_changed(seen) {
+        Ok(Some(copy)) => same!(rt; copy.value, value),
+        _ => rt.abort(),
+    }
+}
+
 #[test]
 fn a_refused_clone_is_not_seen(rt: HostRuntime) {
     let is_refused = Cell::new(true);
@@ -129,10 +137,7 @@ fn a_refused_clone_is_not_seen(rt: HostRuntime) {
     holds!(rt; watch.send(value, &mut wakes).is_ok());
     is_not_seen(&rt, &mut watch, &mut seen);
     is_refused.set(false);
-    match watch.try_changed(&mut seen) {
-        Ok(Some(copy)) => same!(rt; copy.value, 3),
-        _ => holds!(rt; false),
-    }
+    is_heard(&rt, &watch, &mut seen, 3);
 }
 
 // What is news, if anything.
