@@ -1,8 +1,7 @@
 use embassy_sync::blocking_mutex::CriticalSectionMutex;
 use embassy_sync::channel::ChannelState;
-use embassy_sync::signal::Signal;
-use embassy_sync::waitqueue::{Context, Poll, Wakes};
-use esync_notes::{Notes, holds, same, woken};
+use embassy_sync::waitqueue::Wakes;
+use esync_notes::{holds, same};
 use std::sync::Wait;
 use std::thread;
 
@@ -40,19 +39,4 @@ fn two_threads_share_a_channel_state(rt: HostRuntime) {
     holds!(rt; sent);
     let left = channel.into_inner().len();
     holds!(rt; (received == Some(7) && left == 0) || (received == None && left == 1));
-}
-
-#[test]
-fn a_wait_acts_anew_after_it_was_ready(rt: HostRuntime) {
-    let notes = Notes::new(&rt);
-    let signal: Signal<u32, u64, _> = Signal::new(&notes);
-    let cx = Context::from_waker(1);
-    let mut wait = signal.wait();
-    signal.signal(5);
-    holds!(rt; wait.poll(&cx) == Poll::Ready(5));
-    holds!(rt; wait.poll(&cx) == Poll::Pending);
-    woken!(&rt, &notes, &[]);
-    signal.signal(6);
-    woken!(&rt, &notes, &[1]);
-    holds!(rt; wait.poll(&cx) == Poll::Ready(6));
 }
