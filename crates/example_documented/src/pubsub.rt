@@ -1,5 +1,5 @@
 use crate::bell::Bell;
-use embassy_sync::pubsub::{Pub, PubSubBehavior, PubSubChannel, Sub};
+use embassy_sync::pubsub::{Error, Pub, PubSubBehavior, PubSubChannel, Sub};
 use embassy_sync::waitqueue::Context;
 use std::io;
 use std::sync::Wait;
@@ -8,22 +8,19 @@ use std::sync::Wait;
 pub fn example<R: Print + Wait>(rt: &R) -> io::Result<()> {
     let bell = Bell::new(rt);
     let channel: PubSubChannel<u32, u64, _, 4, 4, 4, 4> = PubSubChannel::new(&bell);
-    let Ok(mut sub0) = channel.subscriber() else {
-        return println!(rt; "pubsub: no place for a subscriber");
-    };
-    let Ok(pub0) = channel.publisher() else {
-        return println!(rt; "pubsub: no place for a publisher");
-    };
-    publish_and_hear(rt, &pub0, &mut sub0)
+    publish_and_hear(rt, channel.subscriber(), channel.publisher())
 }
 
 fn publish_and_hear<B: PubSubBehavior<Message = u32, Waker = u64>>(
     rt: &impl Print,
-    publisher: &Pub<'_, B>,
-    subscriber: &mut Sub<'_, B>,
+    sub0: Result<Sub<'_, B>, Error>,
+    pub0: Result<Pub<'_, B>, Error>,
 ) -> io::Result<()> {
-    publish(rt, publisher)?;
-    hear(rt, subscriber)
+    let (Ok(mut sub0), Ok(pub0)) = (sub0, pub0) else {
+        return println!(rt; "pubsub: no place for a subscriber or a publisher");
+    };
+    publish(rt, &pub0)?;
+    hear(rt, &mut sub0)
 }
 
 // The first waits where the channel is full. The second lets the oldest message go there, which some subscribers may miss.

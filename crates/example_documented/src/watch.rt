@@ -8,23 +8,20 @@ use std::sync::Wait;
 pub fn example<R: Print + Wait>(rt: &R) -> io::Result<()> {
     let bell = Bell::new(rt);
     let watch: Watch<u8, u64, _, 2, 2> = Watch::new(&bell);
-    let Some(mut rcv0) = watch.receiver() else {
-        return println!(rt; "watch: no place for a receiver");
-    };
-    let Some(mut rcv1) = watch.dyn_receiver() else {
-        return println!(rt; "watch: no place for a receiver");
-    };
-    hear_and_read(rt, &watch.sender(), &mut rcv0, &mut rcv1)
+    hear_and_read(rt, &watch.sender(), watch.receiver(), watch.dyn_receiver())
 }
 
 fn hear_and_read<B: WatchBehavior<Value = u8, Waker = u64>>(
     rt: &impl Print,
     snd: &Snd<'_, B>,
-    rcv0: &mut Rcv<'_, B>,
-    rcv1: &mut Rcv<'_, B>,
+    rcv0: Option<Rcv<'_, B>>,
+    rcv1: Option<Rcv<'_, B>>,
 ) -> io::Result<()> {
-    hear(rt, snd, rcv0)?;
-    read(rt, snd, rcv1)
+    let (Some(mut rcv0), Some(mut rcv1)) = (rcv0, rcv1) else {
+        return println!(rt; "watch: no place for a receiver");
+    };
+    hear(rt, snd, &mut rcv0)?;
+    read(rt, snd, &mut rcv1)
 }
 
 // Each change is heard once, by a poll or a try.
