@@ -13,9 +13,6 @@ use futures::{Sink, Stream};
 use std::alloc::{AllocError, Global};
 use std::sync::{Mutex, Wait};
 
-#[cfg(test)]
-mod tests;
-
 /// Where a task of `futures` leaves its waker.
 #[derive(Drop)]
 pub struct Registration {
