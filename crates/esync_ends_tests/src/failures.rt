@@ -84,29 +84,55 @@ fn left_by(
     (output, errors, status)
 }
 
+// Behind so many reads one fails in this way. It is told so, and nothing is written.
+fn leaves_nothing(
+    rt: &impl Abort,
+    alloc: Global,
+    count: usize,
+    kind: ErrorKind,
+    (told, ended): (&str, u8),
+) -> Result<(), Fail> {
+    let (output, errors, status) = left_by(alloc, (count, kind), usize::MAX);
+    let errors = str::from_utf8(&errors)?;
+    same!(rt; (count, output.len(), errors, status), (count, 0, told, ended));
+    Ok(())
+}
+
+// As behind each number of reads.
+fn each_leaves_nothing(
+    rt: &impl Abort,
+    alloc: Global,
+    kind: ErrorKind,
+    told: (&str, u8),
+) -> Result<(), Fail> {
+    for count in 0..=SCRIPT.len() {
+        leaves_nothing(rt, alloc, count, kind, told)?;
+    }
+    Ok(())
+}
+
 #[test]
 fn a_read_that_fails_leaves_nothing(rt: HostRuntime) -> Result<(), Fail> {
-    for (kind, told, ended) in [
-        (ErrorKind::Other, "input or output failed\n", 3),
-        (ErrorKind::OutOfMemory, "out of memory\n", 4),
-    ] {
-        for count in 0..=SCRIPT.len() {
-            let (output, errors, status) = left_by(rt.alloc(), (count, kind), usize::MAX);
-            assert_eq!(rt; output.len(), 0, "behind {count} reads");
-            assert_eq!(rt; str::from_utf8(&errors)?, told, "behind {count} reads");
-            assert_eq!(rt; status, ended, "behind {count} reads");
-        }
-    }
+    let failed = ("input or output failed\n", 3);
+    each_leaves_nothing(&rt, rt.alloc(), ErrorKind::Other, failed)?;
+    let no_memory = ("out of memory\n", 4);
+    each_leaves_nothing(&rt, rt.alloc(), ErrorKind::OutOfMemory, no_memory)
+}
+
+// The write behind these bytes fails. They stay written, and it is told.
+fn leaves_what_was_written(rt: &impl Abort, alloc: Global, written: &[u8]) -> Result<(), Fail> {
+    let failing = (usize::MAX, ErrorKind::Other);
+    let (output, errors, status) = left_by(alloc, failing, written.len());
+    same!(rt; output.as_slice(), written);
+    let errors = str::from_utf8(&errors)?;
+    same!(rt; (written.len(), errors, status), (written.len(), "input or output failed\n", 3));
     Ok(())
 }
 
 #[test]
 fn nothing_is_written_behind_a_write_that_fails(rt: HostRuntime) -> Result<(), Fail> {
     for count in 0..UNTOLD.len() {
-        let (output, errors, status) = left_by(rt.alloc(), (usize::MAX, ErrorKind::Other), count);
-        same!(rt; output.as_slice(), &UNTOLD.as_bytes()[..count]);
-        same!(rt; str::from_utf8(&errors)?, "input or output failed\n");
-        assert_eq!(rt; status, 3, "behind {count} writes");
+        leaves_what_was_written(&rt, rt.alloc(), &UNTOLD.as_bytes()[..count])?;
     }
     Ok(())
 }
