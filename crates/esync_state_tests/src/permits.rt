@@ -1,9 +1,34 @@
-//! What no recorded run says of semaphores: one at which nobody can wait.
+//! What no recorded run says of semaphores: polls of a greedy state that are no requests, and a fair one at which nobody can wait.
 use crate::wakers::hands_out;
-use esync_base::waitqueue::{Context, Wakes};
-use esync_notes::holds;
-use esync_permits::semaphore::{FairPoll, FairState, WaitQueueFull};
+use esync_base::waitqueue::{Context, Poll, Wakes};
+use esync_notes::{holds, same};
+use esync_permits::semaphore::{FairPoll, FairState, GreedyState, WaitQueueFull};
 use std::process::Abort;
+
+// A poll for at least 2 permits with waker 2.
+fn polls_for_all(
+    rt: &impl Abort,
+    state: &mut GreedyState<u64>,
+    answer: Poll<usize>,
+    woken: Option<u64>,
+) {
+    let mut wakes = Wakes::new();
+    holds!(rt; state.poll_acquire_all(2, &Context::from_waker(2), &mut wakes) == answer);
+    hands_out(rt, &wakes, woken);
+}
+
+#[test]
+fn a_greedy_poll_for_all(rt: HostRuntime) {
+    let mut state: GreedyState<u64> = GreedyState::new(0);
+    let mut wakes = Wakes::new();
+    holds!(rt; state.poll_acquire(1, &Context::from_waker(1), &mut wakes) == Poll::Pending);
+    hands_out(&rt, &wakes, None);
+    polls_for_all(&rt, &mut state, Poll::Pending, Some(1));
+    state.set(4, &mut wakes);
+    same!(rt; state.permits(), 4);
+    hands_out(&rt, &wakes, Some(2));
+    polls_for_all(&rt, &mut state, Poll::Ready(4), None);
+}
 
 type NoPlaces = FairState<u64, 0>;
 
