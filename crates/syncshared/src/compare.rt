@@ -1,6 +1,6 @@
 //! Whether a shared form answers and wakes as the machine does.
-use crate::form::{Door, Doors};
 use crate::play::play;
+use esync_forms::form::{Door, Doors};
 use esync_script::play_text;
 use esync_words::fault::Fault;
 use esync_words::play::Replies;

@@ -8,22 +8,13 @@
 //! of the machine, or after how many one is another.
 #![tactic(auto)]
 
-mod channel;
 mod compare;
-mod form;
-mod mutex;
-mod once;
-mod pipe;
+mod over;
 mod play;
-mod pubsub;
-mod semaphore;
-mod signal;
-mod watch;
-mod zerocopy;
 
 use crate::compare::compare;
-use crate::form::{Door, Doors};
 use crate::play::play;
+use esync_forms::form::{Door, Doors};
 use std::process::ExitCode;
 use std::{env, fs, io};
 

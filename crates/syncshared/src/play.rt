@@ -1,6 +1,6 @@
 //! Plays a script over the shared form of the primitive that its first line names.
-use crate::form::{Doors, Form, Places, turn};
-use crate::{channel, mutex, once, pipe, pubsub, semaphore, signal, watch, zerocopy};
+use crate::over;
+use esync_forms::form::{Doors, Form, Places, turn};
 use esync_machine::primitive::Command;
 use esync_notes::Notes;
 use esync_priority::prio::{Max, Min};
@@ -67,34 +67,28 @@ pub fn play<R: Wait, W: Write>(
         doors,
     };
     match opening {
-        Opening::Channel(capacity) => channel::play(stage, capacity, &mut script, output),
-        Opening::Max(capacity) => channel::play_by::<Max, R, W>(
-            stage,
-            capacity,
-            &mut script,
-            output,
-        ),
-        Opening::Min(capacity) => channel::play_by::<Min, R, W>(
-            stage,
-            capacity,
-            &mut script,
-            output,
-        ),
-        Opening::Signal => signal::play(stage, &mut script, output),
-        Opening::Greedy(permits) => semaphore::play_greedy(stage, permits, &mut script, output),
+        Opening::Channel(capacity) => over::channel(stage, capacity, &mut script, output),
+        Opening::Max(capacity) => {
+            over::priority::<Max, R, W>(stage, capacity, &mut script, output)
+        }
+        Opening::Min(capacity) => {
+            over::priority::<Min, R, W>(stage, capacity, &mut script, output)
+        }
+        Opening::Signal => over::signal(stage, &mut script, output),
+        Opening::Greedy(permits) => over::greedy(stage, permits, &mut script, output),
         Opening::Fair(capacity, permits) => {
-            semaphore::play_fair(stage, capacity, permits, &mut script, output)
+            over::fair(stage, capacity, permits, &mut script, output)
         }
-        Opening::Pipe(capacity) => pipe::play(stage, capacity, &mut script, output),
+        Opening::Pipe(capacity) => over::pipe(stage, capacity, &mut script, output),
         Opening::PubSub(capacity, first) => {
-            pubsub::play(stage, capacity, first, &mut script, output)
+            over::pubsub(stage, capacity, first, &mut script, output)
         }
-        Opening::Once => once::play(stage, &mut script, output),
+        Opening::Once => over::once(stage, &mut script, output),
         // Its calls ask that its closure can be called, which can't be said of a value that a form keeps. Tests show what it does.
         Opening::Lazy(_) => Err(Fault::NotACommand(1)),
-        Opening::Mutex(value, part) => mutex::play(stage, value, part, &mut script, output),
-        Opening::Watch(capacity, value) => watch::play(stage, capacity, value, &mut script, output),
-        Opening::Zerocopy(capacity) => zerocopy::play(stage, capacity, &mut script, output),
+        Opening::Mutex(value, part) => over::mutex(stage, value, part, &mut script, output),
+        Opening::Watch(capacity, value) => over::watch(stage, capacity, value, &mut script, output),
+        Opening::Zerocopy(capacity) => over::zerocopy(stage, capacity, &mut script, output),
     }
 }
 
@@ -124,23 +118,29 @@ fn opening_of(line: &str) -> Option<Opening> {
     Opening::opening(name, words)
 }
 
-/// Gives each line that is left to the shared form, and prints what it answers and the wakers that its hand was given.
-pub fn serve<F: Form, R: Wait, W: Write>(
+/// Gives each line that is left to the shared form, in these words, and prints what it answers and the wakers that its hand was given.
+pub fn serve<V, F, R, W>(
     stage: Stage<'_, '_, R>,
     mut form: F,
     script: &mut Script<'_>,
     output: &mut W,
-) -> Result<(), Fault> {
+) -> Result<(), Fault>
+where
+    V: Vocabulary,
+    F: Form<Ask = V::Ask, Call = V::Call, Heard = V::Heard>,
+    R: Wait,
+    W: Write,
+{
     let mut places = Places::new(stage.alloc).map_err(|_| Fault::OutOfMemory)?;
     for _ in 0..u64::MAX {
         let Some(line) = script.next() else {
             return Ok(());
         };
-        let Some(command) = command_of::<F::Words>(line) else {
+        let Some(command) = command_of::<V>(line) else {
             return Err(script.not_a_command());
         };
         let answer = turn(&mut form, &mut places, command);
-        print_reply::<F::Words, W>(&answer, stage.notes.given().as_slice(), output)?;
+        print_reply::<V, W>(&answer, stage.notes.given().as_slice(), output)?;
     }
     // No script has so many lines.
     Err(Fault::InputOutput)

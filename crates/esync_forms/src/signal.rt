@@ -1,40 +1,40 @@
 //! The signal, by its own calls, by futures that are made for each wait, and by one that waits again and again.
 use crate::form::{Door, Doors, Form};
-use crate::play::{Script, Stage, serve};
 use esync_base::waitqueue::{Context, Hand, Poll};
-use esync_cells::signal::machine::{SignalCall, SignalHeard, Wait as Waits};
+use esync_cells::signal::machine::{SignalCall, SignalHeard, Wait};
 use esync_cells::signal::{Signal, SignalWait};
 use esync_machine::primitive::{Answer, Turn};
-use esync_notes::Notes;
-use esync_script::signal::SignalWords;
-use esync_words::fault::Fault;
-use std::io::Write;
-use std::sync::Wait;
 
-// A signal, whose waits go each of its ways in turn.
+/// A signal, whose waits go each of its ways in turn.
 #[derive(Drop)]
-struct Signaling<'s, H> {
+pub struct Signaling<'s, H> {
     signal: &'s Signal<u32, u64, H>,
     // A future acts anew after it was ready.
     again: SignalWait<'s, u32, u64, H>,
     doors: Doors,
 }
 
+/// By which way a wait is polled.
 #[derive(Drop)]
-enum Held<'s, H> {
-    // The signal itself is polled.
+pub enum Held<'s, H> {
+    /// The signal itself is polled.
     Own,
+    /// A future of its own is polled.
     Future(SignalWait<'s, u32, u64, H>),
-    // The future that waits again and again is polled.
+    /// The future that waits again and again is polled.
     Again,
 }
 
 impl<'s, H: Hand<u64>> Form for Signaling<'s, H> {
-    type Words = SignalWords;
+    type Ask = Wait;
+
+    type Call = SignalCall<u32>;
+
+    type Heard = SignalHeard<u32>;
 
     type Held = Held<'s, H>;
 
-    fn begin(&mut self, _ask: Waits) -> Option<Self::Held> {
+    fn begin(&mut self, _ask: Wait) -> Option<Self::Held> {
         Some(match self.doors.next() {
             Door::Own => Held::Own,
             Door::Handle => Held::Future(self.signal.wait()),
@@ -70,6 +70,17 @@ impl<'s, H: Hand<u64>> Form for Signaling<'s, H> {
     }
 }
 
+impl<'s, H: Hand<u64>> Signaling<'s, H> {
+    /// This signal, which is called by these ways.
+    pub fn new(signal: &'s Signal<u32, u64, H>, doors: Doors) -> Self {
+        Signaling {
+            signal,
+            again: signal.wait(),
+            doors,
+        }
+    }
+}
+
 fn wait<'s, H: Hand<u64>>(
     mut future: SignalWait<'s, u32, u64, H>,
     cx: &Context<u64>,
@@ -84,19 +95,4 @@ fn has_waited<H: Drop>(polled: Poll<u32>, held: H) -> Turn<SignalHeard<u32>, H> 
         Poll::Ready(value) => Turn::over(SignalHeard::Waited(value)),
         Poll::Pending => Turn::waits(held),
     }
-}
-
-/// Plays the lines behind line 1 over a signal.
-pub fn play<R: Wait, W: Write>(
-    stage: Stage<'_, '_, R>,
-    script: &mut Script<'_>,
-    output: &mut W,
-) -> Result<(), Fault> {
-    let signal: Signal<u32, u64, &Notes<'_, R>> = Signal::new(stage.notes);
-    let form = Signaling {
-        signal: &signal,
-        again: signal.wait(),
-        doors: stage.doors,
-    };
-    serve(stage, form, script, output)
 }

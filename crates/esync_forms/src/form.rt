@@ -1,47 +1,46 @@
-//! Shared forms that scripts play, and the table of what stands at a script's numbers.
+//! What commands do to a shared form, and the table of what stands at the numbers of its requests.
 use esync_base::waitqueue::Context;
 use esync_machine::primitive::{Answer, Command, Turn};
-use esync_words::vocabulary::{REQS, Vocabulary};
 use std::alloc::{AllocError, Global};
 use std::fmt::{self, Display, Formatter};
 
-/// What a request of these words asks for.
-pub type AskOf<F> = <<F as Form>::Words as Vocabulary>::Ask;
+/// How many numbers there are for requests, and for whoever has a number besides.
+pub const NUMBERS: usize = 16;
 
-/// A call of these words.
-pub type CallOf<F> = <<F as Form>::Words as Vocabulary>::Call;
-
-/// What is answered in these words.
-pub type HeardOf<F> = <<F as Form>::Words as Vocabulary>::Heard;
-
-/// A shared form with its handles: what a script does to it is what its user would write.
+/// A shared form with its handles: what a command does to it is what its user would write.
 pub trait Form: Drop {
-    type Words: Vocabulary;
+    /// What a request asks for.
+    type Ask: Drop;
+
+    type Call: Drop;
+
+    /// What is answered.
+    type Heard: Drop;
 
     /// A future, or what it left at its number: a releaser, or a guard.
     type Held: Drop;
 
     /// A future for this, if whom it names is there.
-    fn begin(&mut self, ask: AskOf<Self>) -> Option<Self::Held>;
+    fn begin(&mut self, ask: Self::Ask) -> Option<Self::Held>;
 
     /// Polls what stands at a number.
-    fn poll(&mut self, held: Self::Held, cx: &Context<u64>) -> Turn<HeardOf<Self>, Self::Held>;
+    fn poll(&mut self, held: Self::Held, cx: &Context<u64>) -> Turn<Self::Heard, Self::Held>;
 
     /// Makes a call, which is lent the place of the number that it concerns.
-    fn call(&mut self, call: CallOf<Self>, place: &mut Option<Self::Held>) -> Answer<HeardOf<Self>>;
+    fn call(&mut self, call: Self::Call, place: &mut Option<Self::Held>) -> Answer<Self::Heard>;
 
     /// The number that the call concerns, if it does one.
-    fn number(_call: &CallOf<Self>) -> Option<usize> {
+    fn number(_call: &Self::Call) -> Option<usize> {
         None
     }
 
     /// The call ends what stands at a number.
-    fn leaves(&self, _call: &CallOf<Self>, _held: &Self::Held) -> bool {
+    fn leaves(&self, _call: &Self::Call, _held: &Self::Held) -> bool {
         false
     }
 }
 
-/// What stands at the numbers of a script.
+/// What stands at the numbers.
 #[derive(Drop)]
 pub struct Places<H> {
     places: Vec<Option<H>>,
@@ -55,10 +54,10 @@ impl<H: Drop> Places<H> {
     }
 }
 
-/// A table of whoever a script knows by a number, in which all numbers are free.
+/// A table of whoever is known by a number, in which all numbers are free.
 pub fn nobody<T: Drop>(alloc: Global) -> Result<Vec<Option<T>>, AllocError> {
-    let mut places = Vec::with_capacity(alloc, REQS)?;
-    for _ in 0..REQS {
+    let mut places = Vec::with_capacity(alloc, NUMBERS)?;
+    for _ in 0..NUMBERS {
         places.push(None)?;
     }
     Ok(places)
@@ -68,8 +67,8 @@ pub fn nobody<T: Drop>(alloc: Global) -> Result<Vec<Option<T>>, AllocError> {
 pub fn turn<F: Form>(
     form: &mut F,
     places: &mut Places<F::Held>,
-    command: Command<AskOf<F>, u64, CallOf<F>>,
-) -> Answer<HeardOf<F>> {
+    command: Command<F::Ask, u64, F::Call>,
+) -> Answer<F::Heard> {
     match command {
         Command::Start(r, ask) => start(form, places.places.get_mut(r), ask),
         Command::Poll(r, waker) => poll(form, places.places.get_mut(r), waker),
@@ -81,8 +80,8 @@ pub fn turn<F: Form>(
 fn start<F: Form>(
     form: &mut F,
     place: Option<&mut Option<F::Held>>,
-    ask: AskOf<F>,
-) -> Answer<HeardOf<F>> {
+    ask: F::Ask,
+) -> Answer<F::Heard> {
     let Some(place) = place else {
         return Answer::NoSuch;
     };
@@ -101,7 +100,7 @@ fn poll<F: Form>(
     form: &mut F,
     place: Option<&mut Option<F::Held>>,
     waker: u64,
-) -> Answer<HeardOf<F>> {
+) -> Answer<F::Heard> {
     let Some(place) = place else {
         return Answer::NoSuch;
     };
@@ -124,11 +123,7 @@ fn end<H: Drop, A>(place: Option<&mut Option<H>>) -> Answer<A> {
     Answer::Done
 }
 
-fn make<F: Form>(
-    form: &mut F,
-    places: &mut Places<F::Held>,
-    call: CallOf<F>,
-) -> Answer<HeardOf<F>> {
+fn make<F: Form>(form: &mut F, places: &mut Places<F::Held>, call: F::Call) -> Answer<F::Heard> {
     for place in places.places.iter_mut() {
         sweep(form, place, &call);
     }
@@ -143,7 +138,7 @@ fn make<F: Form>(
 }
 
 // Frees the number where the call ends what stands there.
-fn sweep<F: Form>(form: &F, place: &mut Option<F::Held>, call: &CallOf<F>) {
+fn sweep<F: Form>(form: &F, place: &mut Option<F::Held>, call: &F::Call) {
     if let Some(held) = place.take() {
         if !form.leaves(call, &held) {
             *place = Some(held);

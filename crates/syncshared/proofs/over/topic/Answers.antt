@@ -1,7 +1,7 @@
 use Rattle.std.proofs.Common.{ℕ, ◌+◌, ◌*◌, ◌<◌, ◌≤◌, ◌^◌, arith}
 use prog.Memory.{up}
 use Rattle.esync_script.proofs.Room.{up_to_eight}
-use Rattle.syncshared.proofs.pubsub.play_over.Goals as goal
+use Rattle.syncshared.proofs.over.topic.Goals as goal
 
 -- the bytes of a shared channel of n messages, for four subscribers and four publishers
 abbrev room : ℕ → ℕ
@@ -13,5 +13,5 @@ fits = up_to_eight (λ n. room n < 2 ^ 63) (omega arith) (omega arith) (omega ar
 pub new-channel-requires : goal.new-channel-requires
 new-channel-requires g c = (fits g.row.N c.requires.few, (c.requires.some, (omega arith, omega arith)))
 
-pub play_on-requires : goal.play_on-requires
-play_on-requires g c = fits g.row.N c.requires.few
+pub log-requires : goal.log-requires
+log-requires g c = fits g.row.N c.requires.few

@@ -1,96 +1,69 @@
 //! The greedy and the fair semaphore, by their own calls, and as what implements `Semaphore`.
 use crate::form::{Door, Doors, Form, over};
-use crate::play::{Script, Stage, serve};
 use esync_base::waitqueue::{Context, Hand, Poll};
 use esync_machine::primitive::{Answer, Turn};
-use esync_notes::Notes;
 use esync_permits::semaphore::machine::{PermitCall, PermitHeard};
 use esync_permits::semaphore::{
-    Acquire, Amount, FairState, GreedyState, PermitState, Semaphore, SemaphoreReleaser,
-    SharedSemaphore, WaitQueueFull,
+    Acquire, Amount, PermitState, Semaphore, SemaphoreReleaser, SharedSemaphore, WaitQueueFull,
 };
-use esync_script::opening::Capacity;
-use esync_script::semaphore::{FairWords, GreedyWords};
-use esync_words::fault::Fault;
-use esync_words::vocabulary::Vocabulary;
 use std::convert::Infallible;
-use std::io::Write;
 use std::marker::PhantomData;
-use std::sync::Wait;
 
-// What the words of a semaphore say of its answers.
-trait PermitWords: Vocabulary<Ask = Amount, Call = PermitCall> {
-    // Why a request is refused.
+/// What a request for permits hears.
+pub trait Granted: Drop {
+    /// Why a request is refused.
     type Error: Drop;
 
-    // What a request hears.
-    fn granted(heard: Result<usize, Self::Error>) -> Self::Heard;
-
-    // The permits that a try took.
-    fn tried(taken: Option<usize>) -> Self::Heard;
-
-    // A number of permits.
-    fn count(permits: usize) -> Self::Heard;
+    fn granted(heard: Result<usize, Self::Error>) -> Self;
 }
 
-impl PermitWords for GreedyWords {
+impl Granted for usize {
     type Error = Infallible;
 
-    fn granted(heard: Result<usize, Infallible>) -> PermitHeard<usize> {
+    fn granted(heard: Result<usize, Infallible>) -> usize {
         match heard {
-            Ok(permits) => PermitHeard::Granted(permits),
+            Ok(permits) => permits,
             Err(never) => match never {},
         }
     }
-
-    fn tried(taken: Option<usize>) -> PermitHeard<usize> {
-        PermitHeard::Tried(taken)
-    }
-
-    fn count(permits: usize) -> PermitHeard<usize> {
-        PermitHeard::Count(permits)
-    }
 }
 
-impl PermitWords for FairWords {
+impl Granted for Result<usize, WaitQueueFull> {
     type Error = WaitQueueFull;
 
-    fn granted(heard: Result<usize, WaitQueueFull>) -> PermitHeard<Result<usize, WaitQueueFull>> {
-        PermitHeard::Granted(heard)
-    }
-
-    fn tried(taken: Option<usize>) -> PermitHeard<Result<usize, WaitQueueFull>> {
-        PermitHeard::Tried(taken)
-    }
-
-    fn count(permits: usize) -> PermitHeard<Result<usize, WaitQueueFull>> {
-        PermitHeard::Count(permits)
+    fn granted(heard: Result<usize, WaitQueueFull>) -> Self {
+        heard
     }
 }
 
 type Releaser<'s, S, H> = SemaphoreReleaser<&'s SharedSemaphore<S, u64, H>>;
 
-// A semaphore, whose calls are made in turn by its own name and by that of the trait. It is told of in these words.
+/// A semaphore, whose calls are made in turn by its own name and by that of the trait. A request hears a `G`.
 #[derive(Drop)]
-struct Permits<'s, S, H, V> {
+pub struct Permits<'s, S, H, G> {
     semaphore: &'s SharedSemaphore<S, u64, H>,
     doors: Doors,
-    words: PhantomData<V>,
+    heard: PhantomData<G>,
 }
 
+/// A future, or the releaser that it left.
 #[derive(Drop)]
-enum Held<'s, S: PermitState<Waker = u64>, H: Hand<u64>> {
+pub enum Held<'s, S: PermitState<Waker = u64>, H: Hand<u64>> {
     Acquire(Acquire<'s, S, u64, H>),
     Releaser(Releaser<'s, S, H>),
 }
 
-impl<'s, S, H, V> Form for Permits<'s, S, H, V>
+impl<'s, S, H, G> Form for Permits<'s, S, H, G>
 where
     S: PermitState<Waker = u64>,
     H: Hand<u64>,
-    V: PermitWords<Error = S::Error>,
+    G: Granted<Error = S::Error>,
 {
-    type Words = V;
+    type Ask = Amount;
+
+    type Call = PermitCall;
+
+    type Heard = PermitHeard<G>;
 
     type Held = Held<'s, S, H>;
 
@@ -101,9 +74,9 @@ where
         }))
     }
 
-    fn poll(&mut self, held: Self::Held, cx: &Context<u64>) -> Turn<V::Heard, Self::Held> {
+    fn poll(&mut self, held: Self::Held, cx: &Context<u64>) -> Turn<PermitHeard<G>, Self::Held> {
         match held {
-            Held::Acquire(future) => acquire::<S, H, V>(future, cx),
+            Held::Acquire(future) => acquire::<S, H, G>(future, cx),
             Held::Releaser(releaser) => Turn {
                 answer: Answer::NoSuch,
                 place: Some(Held::Releaser(releaser)),
@@ -118,10 +91,10 @@ where
         }
     }
 
-    fn call(&mut self, call: PermitCall, place: &mut Option<Self::Held>) -> Answer<V::Heard> {
+    fn call(&mut self, call: PermitCall, place: &mut Option<Self::Held>) -> Answer<PermitHeard<G>> {
         match call {
             PermitCall::Try(_, amount) => self.try_at(amount, place),
-            PermitCall::Disarm(_) => disarm_at::<S, H, V>(place),
+            PermitCall::Disarm(_) => disarm_at::<S, H, G>(place),
             PermitCall::Release(permits) => {
                 self.release(permits);
                 Answer::Done
@@ -130,17 +103,26 @@ where
                 self.set(permits);
                 Answer::Done
             }
-            PermitCall::Permits => Answer::Gives(V::count(self.semaphore.permits())),
+            PermitCall::Permits => Answer::Gives(PermitHeard::Count(self.semaphore.permits())),
         }
     }
 }
 
-impl<'s, S, H, V> Permits<'s, S, H, V>
+impl<'s, S, H, G> Permits<'s, S, H, G>
 where
     S: PermitState<Waker = u64>,
     H: Hand<u64>,
-    V: PermitWords<Error = S::Error>,
+    G: Granted<Error = S::Error>,
 {
+    /// This semaphore, which is called by these ways.
+    pub fn new(semaphore: &'s SharedSemaphore<S, u64, H>, doors: Doors) -> Self {
+        Permits {
+            semaphore,
+            doors,
+            heard: PhantomData,
+        }
+    }
+
     fn acquire(&mut self, permits: usize) -> Acquire<'s, S, u64, H> {
         match self.doors.next() {
             Door::Own => self.semaphore.acquire(permits),
@@ -184,7 +166,11 @@ where
     }
 
     // Takes permits for a free number.
-    fn try_at(&mut self, amount: Amount, place: &mut Option<Held<'s, S, H>>) -> Answer<V::Heard> {
+    fn try_at(
+        &mut self,
+        amount: Amount,
+        place: &mut Option<Held<'s, S, H>>,
+    ) -> Answer<PermitHeard<G>> {
         if place.is_some() {
             return Answer::NoSuch;
         }
@@ -193,26 +179,26 @@ where
             Amount::AllFrom(min) => self.try_acquire_all(min),
         };
         let Some(releaser) = taken else {
-            return Answer::Gives(V::tried(None));
+            return Answer::Gives(PermitHeard::Tried(None));
         };
         let permits = releaser.permits();
         *place = Some(Held::Releaser(releaser));
-        Answer::Gives(V::tried(Some(permits)))
+        Answer::Gives(PermitHeard::Tried(Some(permits)))
     }
 }
 
 // Frees the number of a releaser.
-fn disarm_at<'s, S, H, V>(place: &mut Option<Held<'s, S, H>>) -> Answer<V::Heard>
+fn disarm_at<'s, S, H, G>(place: &mut Option<Held<'s, S, H>>) -> Answer<PermitHeard<G>>
 where
     S: PermitState<Waker = u64>,
     H: Hand<u64>,
-    V: PermitWords<Error = S::Error>,
+    G: Granted<Error = S::Error>,
 {
     let Some(held) = place.take() else {
         return Answer::NoSuch;
     };
     match held {
-        Held::Releaser(releaser) => Answer::Gives(V::count(releaser.disarm())),
+        Held::Releaser(releaser) => Answer::Gives(PermitHeard::Count(releaser.disarm())),
         Held::Acquire(future) => {
             *place = Some(Held::Acquire(future));
             Answer::NoSuch
@@ -220,20 +206,20 @@ where
     }
 }
 
-fn acquire<'s, S, H, V>(
+fn acquire<'s, S, H, G>(
     mut future: Acquire<'s, S, u64, H>,
     cx: &Context<u64>,
-) -> Turn<V::Heard, Held<'s, S, H>>
+) -> Turn<PermitHeard<G>, Held<'s, S, H>>
 where
     S: PermitState<Waker = u64>,
     H: Hand<u64>,
-    V: PermitWords<Error = S::Error>,
+    G: Granted<Error = S::Error>,
 {
     if future.is_finished() {
         return over();
     }
     let polled = held_by(future.poll(cx));
-    is_granted::<V, Held<'s, S, H>>(polled, Held::Acquire(future))
+    is_granted::<G, Held<'s, S, H>>(polled, Held::Acquire(future))
 }
 
 // The answer to a poll, whose releaser is to stand at the number, with the number of its permits.
@@ -251,78 +237,16 @@ fn held_by<'s, S: PermitState<Waker = u64>, H: Hand<u64>>(
 }
 
 // What a poll leaves of a request for permits.
-fn is_granted<V: PermitWords, P: Drop>(
-    polled: Poll<Result<(usize, P), V::Error>>,
+fn is_granted<G: Granted, P: Drop>(
+    polled: Poll<Result<(usize, P), G::Error>>,
     held: P,
-) -> Turn<V::Heard, P> {
+) -> Turn<PermitHeard<G>, P> {
     match polled {
         Poll::Ready(Ok((permits, releaser))) => Turn {
-            answer: Answer::Gives(V::granted(Ok(permits))),
+            answer: Answer::Gives(PermitHeard::Granted(G::granted(Ok(permits)))),
             place: Some(releaser),
         },
-        Poll::Ready(Err(error)) => Turn::over(V::granted(Err(error))),
+        Poll::Ready(Err(error)) => Turn::over(PermitHeard::Granted(G::granted(Err(error)))),
         Poll::Pending => Turn::waits(held),
-    }
-}
-
-// Plays the lines behind line 1 over a semaphore of this state, told of in these words.
-fn play_over<S, V, R, W>(
-    stage: Stage<'_, '_, R>,
-    permits: usize,
-    script: &mut Script<'_>,
-    output: &mut W,
-) -> Result<(), Fault>
-where
-    S: PermitState<Waker = u64>,
-    V: PermitWords<Error = S::Error>,
-    R: Wait,
-    W: Write,
-{
-    let semaphore: SharedSemaphore<S, u64, &Notes<'_, R>> = SharedSemaphore::new(
-        permits,
-        stage.notes,
-    );
-    let form: Permits<'_, S, &Notes<'_, R>, V> = Permits {
-        semaphore: &semaphore,
-        doors: stage.doors,
-        words: PhantomData,
-    };
-    serve(stage, form, script, output)
-}
-
-/// Plays the lines behind line 1 over a greedy semaphore.
-pub fn play_greedy<R: Wait, W: Write>(
-    stage: Stage<'_, '_, R>,
-    permits: usize,
-    script: &mut Script<'_>,
-    output: &mut W,
-) -> Result<(), Fault> {
-    play_over::<GreedyState<u64>, GreedyWords, R, W>(stage, permits, script, output)
-}
-
-/// Plays the lines behind line 1 over a fair semaphore.
-pub fn play_fair<R: Wait, W: Write>(
-    stage: Stage<'_, '_, R>,
-    capacity: Capacity,
-    permits: usize,
-    script: &mut Script<'_>,
-    output: &mut W,
-) -> Result<(), Fault> {
-    match capacity {
-        Capacity::One => play_over::<FairState<u64, 1>, FairWords, R, W>(
-            stage, permits, script, output,
-        ),
-        Capacity::Two => play_over::<FairState<u64, 2>, FairWords, R, W>(
-            stage, permits, script, output,
-        ),
-        Capacity::Three => play_over::<FairState<u64, 3>, FairWords, R, W>(
-            stage, permits, script, output,
-        ),
-        Capacity::Four => play_over::<FairState<u64, 4>, FairWords, R, W>(
-            stage, permits, script, output,
-        ),
-        Capacity::Eight => play_over::<FairState<u64, 8>, FairWords, R, W>(
-            stage, permits, script, output,
-        ),
     }
 }

@@ -2,35 +2,32 @@
 ghost use Rattle.std.specs.Prelude.{◌≡◌, ◌≤◌, IfOk, OnErr, length};
 
 use crate::form::{Door, Doors, Form, over, sizes};
-use crate::play::{Script, Stage, serve};
 use bumpalo::Bump;
 use esync_base::waitqueue::{Context, Hand, Poll, TaskId};
 use esync_machine::primitive::{Answer, Turn};
-use esync_notes::Notes;
 use esync_pipe::bytes::Bytes;
 use esync_pipe::pipe::machine::{PipeAsk, PipeCall, PipeHeard};
 use esync_pipe::pipe::{
-    ByteState, DynamicPipe, DynamicReader, DynamicWriteFuture, DynamicWriter, PipeState,
-    SharedPipe, TryReadError, TryWriteError, WriteAllFuture, WriteFuture,
+    ByteState, DynamicPipe, DynamicReader, DynamicWriteFuture, DynamicWriter, SharedPipe,
+    TryReadError, TryWriteError, WriteAllFuture, WriteFuture,
 };
-use esync_script::opening::Capacity;
-use esync_script::pipe::PipeWords;
-use esync_words::fault::Fault;
-use std::io::Write;
-use std::sync::Wait;
 
 // A row for the bytes of an answer.
 type Row = [u8; 16];
 
-// A pipe that is split anew wherever one of its ends is called, and whose futures are made anew for each poll.
+/// A pipe that is split anew wherever one of its ends is called, and whose futures are made anew for each poll.
 #[derive(Drop)]
-struct Split<S, H> {
+pub struct Split<S, H> {
     pipe: SharedPipe<S, u64, H>,
     doors: Doors,
 }
 
 impl<S: ByteState<Waker = u64>, H: Hand<u64> + Drop> Form for Split<S, H> {
-    type Words = PipeWords;
+    type Ask = PipeAsk;
+
+    type Call = PipeCall;
+
+    type Heard = PipeHeard;
 
     type Held = PipeAsk;
 
@@ -74,6 +71,11 @@ impl<S: ByteState<Waker = u64>, H: Hand<u64> + Drop> Form for Split<S, H> {
 }
 
 impl<S: ByteState<Waker = u64>, H: Hand<u64> + Drop> Split<S, H> {
+    /// This pipe, which is called by these ways.
+    pub fn new(pipe: SharedPipe<S, u64, H>, doors: Doors) -> Self {
+        Split { pipe, doors }
+    }
+
     fn write(&mut self, from: &[u8], cx: &Context<u64>) -> Poll<usize> {
         match self.doors.next() {
             Door::Own => {
@@ -177,10 +179,17 @@ impl<S: ByteState<Waker = u64>, H: Hand<u64> + Drop> Split<S, H> {
     }
 }
 
-// A pipe of tasks, as the ends of any pipe take it.
+/// A pipe of tasks, as the ends of any pipe take it.
 #[derive_where(Clone, Copy)]
-struct Lent<'c, S, H> {
+pub struct Lent<'c, S, H> {
     pipe: &'c SharedPipe<S, TaskId, H>,
+}
+
+impl<'c, S: ByteState<Waker = TaskId>, H: Hand<TaskId>> Lent<'c, S, H> {
+    /// This pipe.
+    pub fn new(pipe: &'c SharedPipe<S, TaskId, H>) -> Self {
+        Lent { pipe }
+    }
 }
 
 impl<S: ByteState<Waker = TaskId>, H: Hand<TaskId>> DynamicPipe for Lent<'_, S, H> {
@@ -212,9 +221,9 @@ impl<S: ByteState<Waker = TaskId>, H: Hand<TaskId>> DynamicPipe for Lent<'_, S, 
     }
 }
 
-// A pipe whose futures that write stand at their numbers from poll to poll, and whose bytes are read by an end of any pipe.
+/// A pipe whose futures that write stand at their numbers from poll to poll, and whose bytes are read by an end of any pipe.
 #[derive(Drop)]
-struct Lasting<'c, S, H> {
+pub struct Lasting<'c, S, H> {
     pipe: &'c SharedPipe<S, TaskId, H>,
     // The bytes that are to be written.
     written: &'c Bump,
@@ -223,8 +232,9 @@ struct Lasting<'c, S, H> {
     doors: Doors,
 }
 
+/// A future that writes, or what is read by a future that is made anew for each poll.
 #[derive(Drop)]
-enum Held<'c, S, H> {
+pub enum Held<'c, S, H> {
     Write(WriteFuture<'c, S, TaskId, H>),
     DynWrite(DynamicWriteFuture<'c, Lent<'c, S, H>>),
     WriteAll(WriteAllFuture<'c, S, TaskId, H>),
@@ -233,7 +243,11 @@ enum Held<'c, S, H> {
 }
 
 impl<'c, S: ByteState<Waker = TaskId>, H: Hand<TaskId>> Form for Lasting<'c, S, H> {
-    type Words = PipeWords;
+    type Ask = PipeAsk;
+
+    type Call = PipeCall;
+
+    type Heard = PipeHeard;
 
     type Held = Held<'c, S, H>;
 
@@ -288,6 +302,23 @@ impl<'c, S: ByteState<Waker = TaskId>, H: Hand<TaskId>> Form for Lasting<'c, S, 
 }
 
 impl<'c, S: ByteState<Waker = TaskId>, H: Hand<TaskId>> Lasting<'c, S, H> {
+    /// This pipe with these ends of it, which is called by these ways. The bytes that are to be written are kept here.
+    pub fn new(
+        pipe: &'c SharedPipe<S, TaskId, H>,
+        written: &'c Bump,
+        writer: &'c DynamicWriter<Lent<'c, S, H>>,
+        reader: DynamicReader<Lent<'c, S, H>>,
+        doors: Doors,
+    ) -> Self {
+        Lasting {
+            pipe,
+            written,
+            writer,
+            reader,
+            doors,
+        }
+    }
+
     fn write(&mut self, bytes: Bytes) -> Option<Held<'c, S, H>> {
         let from = kept(self.written, bytes)?;
         Some(match self.doors.next() {
@@ -456,89 +487,27 @@ fn len<S: ByteState<Waker = W>, W: Copy + Eq, H: Hand<W>>(
     sizes.checked(PipeHeard::Number(sizes.len))
 }
 
-// Gives the wakers of tasks to the hand of all shared forms.
+/// Gives the wakers of tasks to the hand of all shared forms.
 #[derive(Drop)]
-struct Tasks<'n, 'r, R> {
-    notes: &'n Notes<'r, R>,
+pub struct Tasks<H> {
+    hand: H,
 }
 
-impl<R: Wait> Hand<TaskId> for Tasks<'_, '_, R> {
-    type Rt = R;
+impl<H: Hand<u64>> Tasks<H> {
+    /// With this hand.
+    pub fn new(hand: H) -> Self {
+        Tasks { hand }
+    }
+}
 
-    fn rt(&self) -> &R {
-        self.notes.rt()
+impl<H: Hand<u64>> Hand<TaskId> for Tasks<H> {
+    type Rt = H::Rt;
+
+    fn rt(&self) -> &H::Rt {
+        self.hand.rt()
     }
 
     fn wake(&self, waker: TaskId) {
-        self.notes.wake(waker.0);
-    }
-}
-
-fn play_split<S: ByteState<Waker = u64>, R: Wait, W: Write>(
-    stage: Stage<'_, '_, R>,
-    script: &mut Script<'_>,
-    output: &mut W,
-) -> Result<(), Fault> {
-    let pipe: SharedPipe<S, u64, &Notes<'_, R>> = SharedPipe::new(stage.notes);
-    let form = Split {
-        pipe,
-        doors: stage.doors,
-    };
-    serve(stage, form, script, output)
-}
-
-fn play_lasting<S: ByteState<Waker = TaskId>, R: Wait, W: Write>(
-    stage: Stage<'_, '_, R>,
-    script: &mut Script<'_>,
-    output: &mut W,
-) -> Result<(), Fault> {
-    let pipe: SharedPipe<S, TaskId, Tasks<'_, '_, R>> = SharedPipe::new(Tasks {
-        notes: stage.notes,
-    });
-    let written = Bump::new(stage.alloc);
-    let lent = Lent { pipe: &pipe };
-    let writer = DynamicWriter::new(lent);
-    let reader = DynamicReader::new(stage.alloc, lent).map_err(|_| Fault::OutOfMemory)?;
-    let form = Lasting {
-        pipe: &pipe,
-        written: &written,
-        writer: &writer,
-        reader,
-        doors: stage.doors,
-    };
-    serve(stage, form, script, output)
-}
-
-// Plays the lines behind line 1 over a pipe of one of these states, as the first way says.
-fn play_over<S: ByteState<Waker = u64>, T: ByteState<Waker = TaskId>, R: Wait, W: Write>(
-    stage: Stage<'_, '_, R>,
-    script: &mut Script<'_>,
-    output: &mut W,
-) -> Result<(), Fault> {
-    let mut doors = stage.doors;
-    match doors.next() {
-        Door::Handle => play_split::<S, R, W>(stage, script, output),
-        Door::Own | Door::Dynamic => play_lasting::<T, R, W>(stage, script, output),
-    }
-}
-
-// A state of a pipe of so many bytes, and one whose wakers are tasks.
-type Of<const N: usize> = PipeState<u64, N>;
-
-type TasksOf<const N: usize> = PipeState<TaskId, N>;
-
-/// Plays the lines behind line 1.
-pub fn play<R: Wait, W: Write>(
-    stage: Stage<'_, '_, R>,
-    capacity: Capacity,
-    script: &mut Script<'_>,
-    output: &mut W,
-) -> Result<(), Fault> {
-    match capacity {
-        Capacity::One => play_over::<Of<1>, TasksOf<1>, R, W>(stage, script, output),
-        Capacity::Two => play_over::<Of<2>, TasksOf<2>, R, W>(stage, script, output),
-        Capacity::Three => play_over::<Of<3>, TasksOf<3>, R, W>(stage, script, output),
-        Capacity::Four => play_over::<Of<4>, TasksOf<4>, R, W>(stage, script, output),
-        Capacity::Eight => play_over::<Of<8>, TasksOf<8>, R, W>(stage, script, output),
+        self.hand.wake(waker.0);
     }
 }

@@ -1,35 +1,35 @@
 //! The mutex, its guards, and its guards that are narrowed to the second of two values.
 use crate::form::Form;
-use crate::play::{Script, Stage, serve};
 use esync_base::waitqueue::{Context, Hand, Poll};
 use esync_guards::mutex::machine::{Lock, MutexCall, MutexHeard};
 use esync_guards::mutex::{LockFuture, MappedMutexGuard, Mutex, MutexGuard, Second, TryLockError};
 use esync_machine::primitive::{Answer, Turn};
-use esync_notes::Notes;
-use esync_script::mutex::MutexWords;
-use esync_words::fault::Fault;
-use std::io::Write;
-use std::sync::Wait;
 
-type Pair = (u32, u32);
+/// What it guards.
+pub type Pair = (u32, u32);
 
 type Heard = MutexHeard<Pair, u32>;
 
-// A mutex of two values.
+/// A mutex of two values.
 #[derive(Drop)]
-struct Guarded<'m, H> {
+pub struct Guarded<'m, H> {
     mutex: &'m Mutex<Pair, u64, H>,
 }
 
+/// A future, or the guard that it left.
 #[derive(Drop)]
-enum Held<'m, H: Hand<u64>> {
+pub enum Held<'m, H: Hand<u64>> {
     Lock(LockFuture<'m, Pair, u64, H>),
     Guard(MutexGuard<'m, Pair, u64, H>),
     Mapped(MappedMutexGuard<'m, Pair, u32, Second, u64, H>),
 }
 
 impl<'m, H: Hand<u64>> Form for Guarded<'m, H> {
-    type Words = MutexWords;
+    type Ask = Lock;
+
+    type Call = MutexCall<Pair, u32>;
+
+    type Heard = Heard;
 
     type Held = Held<'m, H>;
 
@@ -71,6 +71,11 @@ impl<'m, H: Hand<u64>> Form for Guarded<'m, H> {
 }
 
 impl<'m, H: Hand<u64>> Guarded<'m, H> {
+    /// This mutex.
+    pub fn new(mutex: &'m Mutex<Pair, u64, H>) -> Self {
+        Guarded { mutex }
+    }
+
     // Locks for a free number.
     fn try_lock_at(&self, place: &mut Option<Held<'m, H>>) -> Answer<Heard> {
         if place.is_some() {
@@ -160,16 +165,4 @@ fn mapped<'m, H: Hand<u64>>(held: Held<'m, H>) -> (Answer<Heard>, Held<'m, H>) {
         Held::Lock(future) => (Answer::NoSuch, Held::Lock(future)),
         Held::Mapped(guard) => (Answer::NoSuch, Held::Mapped(guard)),
     }
-}
-
-/// Plays the lines behind line 1.
-pub fn play<R: Wait, W: Write>(
-    stage: Stage<'_, '_, R>,
-    value: u32,
-    part: u32,
-    script: &mut Script<'_>,
-    output: &mut W,
-) -> Result<(), Fault> {
-    let mutex: Mutex<Pair, u64, &Notes<'_, R>> = Mutex::new((value, part), stage.notes);
-    serve(stage, Guarded { mutex: &mutex }, script, output)
 }

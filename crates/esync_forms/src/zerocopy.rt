@@ -2,34 +2,24 @@
 //!
 //! A loan borrows its side, so that none can be kept while the script makes further calls of that side. It is ended with each line, which leaves
 //! the slot the side's next one, and made anew where it matters: while the other side does something, and where it is written or done with.
-ghost use Rattle.std.specs.Prelude.{◌<◌, IfOk, length};
-
 use crate::form::{Door, Doors, Form, Sizes, sizes};
-use crate::play::{Script, Stage, serve};
 use esync_base::waitqueue::{Context, Hand, Poll};
 use esync_machine::primitive::{Answer, Turn};
-use esync_notes::Notes;
-use esync_script::opening::Capacity;
-use esync_script::zerocopy::ZeroWords;
-use esync_words::fault::Fault;
 use esync_zerocopy::zerocopy_channel::machine::{Lent, ZeroCall, ZeroHeard};
 use esync_zerocopy::zerocopy_channel::{
-    Channel, ReceiveSlot, Receiver, SendSlot, Sender, Side, Slot, SlotLent, SlotLoan,
+    ReceiveSlot, Receiver, SendSlot, Sender, Side, SlotLent, SlotLoan,
 };
-use std::alloc::{AllocError, Global};
-use std::io::Write;
-use std::sync::Wait;
 
-// What a slot has: its number, which a loan doesn't tell, and a value.
+/// What a slot has: its number, which a loan doesn't tell, and a value.
 #[derive(Clone, Copy)]
-struct Numbered {
-    number: usize,
-    value: u32,
+pub struct Numbered {
+    pub number: usize,
+    pub value: u32,
 }
 
-// The two sides of a channel, and whether each is lent its slot.
+/// The two sides of a channel, and whether each is lent its slot.
 #[derive(Drop)]
-struct Zerocopy<'c, H: Hand<u64>> {
+pub struct Zerocopy<'c, H: Hand<u64>> {
     sender: Sender<'c, Numbered, u64, H>,
     receiver: Receiver<'c, Numbered, u64, H>,
     is_sending: bool,
@@ -38,7 +28,11 @@ struct Zerocopy<'c, H: Hand<u64>> {
 }
 
 impl<'c, H: Hand<u64>> Form for Zerocopy<'c, H> {
-    type Words = ZeroWords;
+    type Ask = Side;
+
+    type Call = ZeroCall<u32>;
+
+    type Heard = ZeroHeard<u32>;
 
     type Held = Side;
 
@@ -145,6 +139,21 @@ fn held(slot: Option<Numbered>) -> Option<Lent<u32>> {
 }
 
 impl<'c, H: Hand<u64>> Zerocopy<'c, H> {
+    /// These two sides, to which no slot is lent, called by these ways.
+    pub fn new(
+        sender: Sender<'c, Numbered, u64, H>,
+        receiver: Receiver<'c, Numbered, u64, H>,
+        doors: Doors,
+    ) -> Self {
+        Zerocopy {
+            sender,
+            receiver,
+            is_sending: false,
+            is_receiving: false,
+            doors,
+        }
+    }
+
     fn poll_send(&mut self, cx: &Context<u64>) -> Option<Lent<u32>> {
         let received = receives_again(&mut self.receiver, self.is_receiving);
         let slot = match self.doors.next() {
@@ -289,54 +298,4 @@ impl<'c, H: Hand<u64>> Zerocopy<'c, H> {
         drop(sent);
         sizes
     }
-}
-
-fn slot(number: usize) -> Slot<Numbered> {
-    Slot::new(Numbered { number, value: 0 })
-}
-
-// As many slots of value 0.
-fn slots(alloc: Global, capacity: Capacity) -> Result<Vec<Slot<Numbered>>, AllocError>
-    ensures { IfOk result (λ slots. 0 < length slots.items) }
-{
-    match capacity {
-        Capacity::One => Ok(vec![in alloc; slot(0)]?),
-        Capacity::Two => Ok(vec![in alloc; slot(0), slot(1)]?),
-        Capacity::Three => Ok(vec![in alloc; slot(0), slot(1), slot(2)]?),
-        Capacity::Four => Ok(vec![in alloc; slot(0), slot(1), slot(2), slot(3)]?),
-        Capacity::Eight => {
-            Ok(vec![in alloc;
-                slot(0),
-                slot(1),
-                slot(2),
-                slot(3),
-                slot(4),
-                slot(5),
-                slot(6),
-                slot(7),
-            ]?)
-        }
-    }
-}
-
-/// Plays the lines behind line 1.
-pub fn play<R: Wait, W: Write>(
-    stage: Stage<'_, '_, R>,
-    capacity: Capacity,
-    script: &mut Script<'_>,
-    output: &mut W,
-) -> Result<(), Fault> {
-    let Ok(slots) = slots(stage.alloc, capacity) else {
-        return Err(Fault::OutOfMemory);
-    };
-    let mut channel = Channel::new(slots, stage.notes);
-    let (sender, receiver) = channel.split();
-    let form = Zerocopy {
-        sender,
-        receiver,
-        is_sending: false,
-        is_receiving: false,
-        doors: stage.doors,
-    };
-    serve(stage, form, script, output)
 }

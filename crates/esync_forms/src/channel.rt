@@ -1,7 +1,5 @@
 //! The channel and the priority channel, by their own calls, by their handles, and by handles whose type doesn't say how messages are kept.
 use crate::form::{Door, Doors, Form, Sizes, over, sizes};
-use crate::play::{Script, Stage, serve};
-use esync_base::deque::Deque;
 use esync_base::store::Store;
 use esync_base::waitqueue::{Context, Hand, Poll};
 use esync_channel::channel::machine::{ChannelAsk, ChannelCall, ChannelHeard};
@@ -10,17 +8,10 @@ use esync_channel::channel::{
     MailboxSender, ReceiveFuture, SendFuture, SharedMailbox, TryReceiveError, TrySendError,
 };
 use esync_machine::primitive::{Answer, Turn};
-use esync_notes::Notes;
-use esync_priority::prio::{Kind, PrioQueue};
-use esync_script::channel::ChannelWords;
-use esync_script::opening::Capacity;
-use esync_words::fault::Fault;
-use std::io::Write;
-use std::sync::Wait;
 
-// A channel, whose calls are made by each of its ways in turn: its own, its handles, and those whose type doesn't say how it keeps its messages.
+/// A channel, whose calls are made by each of its ways in turn: its own, its handles, and those whose type doesn't say how it keeps its messages.
 #[derive(Drop)]
-struct Channel<'c, S, H> {
+pub struct Channel<'c, S, H> {
     channel: &'c SharedMailbox<S, u64, H>,
     sender: MailboxSender<'c, S, u64, H>,
     receiver: MailboxReceiver<'c, S, u64, H>,
@@ -29,8 +20,9 @@ struct Channel<'c, S, H> {
     doors: Doors,
 }
 
+/// A future, or what is polled by calls that take a context.
 #[derive(Drop)]
-enum Held<'c, S: Store, H: Hand<u64>> {
+pub enum Held<'c, S: Store, H: Hand<u64>> {
     Send(SendFuture<'c, SharedMailbox<S, u64, H>>),
     TrySend(u32),
     DynSend(DynamicSendFuture<'c, SharedMailbox<S, u64, H>>),
@@ -42,7 +34,11 @@ enum Held<'c, S: Store, H: Hand<u64>> {
 }
 
 impl<'c, S: Store<Message = u32>, H: Hand<u64>> Form for Channel<'c, S, H> {
-    type Words = ChannelWords;
+    type Ask = ChannelAsk<u32>;
+
+    type Call = ChannelCall<u32>;
+
+    type Heard = ChannelHeard<u32>;
 
     type Held = Held<'c, S, H>;
 
@@ -97,6 +93,19 @@ impl<'c, S: Store<Message = u32>, H: Hand<u64>> Form for Channel<'c, S, H> {
 }
 
 impl<'c, S: Store<Message = u32>, H: Hand<u64>> Channel<'c, S, H> {
+    /// This channel, which is called by these ways.
+    pub fn new(channel: &'c SharedMailbox<S, u64, H>, doors: Doors) -> Self {
+        let (sender, receiver) = (channel.sender(), channel.receiver());
+        Channel {
+            channel,
+            sender,
+            receiver,
+            dyn_sender: sender.into(),
+            dyn_receiver: receiver.into(),
+            doors,
+        }
+    }
+
     fn send(&mut self, message: u32) -> Held<'c, S, H> {
         if !self.doors.is_future() {
             return Held::TrySend(message);
@@ -241,56 +250,5 @@ fn is_ready<H: Drop>(polled: Poll<()>, held: H) -> Turn<ChannelHeard<u32>, H> {
     match polled {
         Poll::Ready(()) => Turn::over(ChannelHeard::Ready),
         Poll::Pending => Turn::waits(held),
-    }
-}
-
-// Plays the lines behind line 1 over a channel that keeps its messages so.
-fn play_over<S: Store<Message = u32>, R: Wait, W: Write>(
-    stage: Stage<'_, '_, R>,
-    script: &mut Script<'_>,
-    output: &mut W,
-) -> Result<(), Fault> {
-    let channel: SharedMailbox<S, u64, &Notes<'_, R>> = SharedMailbox::new(stage.notes);
-    let (sender, receiver) = (channel.sender(), channel.receiver());
-    let form = Channel {
-        channel: &channel,
-        sender,
-        receiver,
-        dyn_sender: sender.into(),
-        dyn_receiver: receiver.into(),
-        doors: stage.doors,
-    };
-    serve(stage, form, script, output)
-}
-
-/// Plays the lines behind line 1 over a channel.
-pub fn play<R: Wait, W: Write>(
-    stage: Stage<'_, '_, R>,
-    capacity: Capacity,
-    script: &mut Script<'_>,
-    output: &mut W,
-) -> Result<(), Fault> {
-    match capacity {
-        Capacity::One => play_over::<Deque<u32, 1>, R, W>(stage, script, output),
-        Capacity::Two => play_over::<Deque<u32, 2>, R, W>(stage, script, output),
-        Capacity::Three => play_over::<Deque<u32, 3>, R, W>(stage, script, output),
-        Capacity::Four => play_over::<Deque<u32, 4>, R, W>(stage, script, output),
-        Capacity::Eight => play_over::<Deque<u32, 8>, R, W>(stage, script, output),
-    }
-}
-
-/// Plays the lines behind line 1 over a priority channel of this kind.
-pub fn play_by<K: Kind<u32>, R: Wait, W: Write>(
-    stage: Stage<'_, '_, R>,
-    capacity: Capacity,
-    script: &mut Script<'_>,
-    output: &mut W,
-) -> Result<(), Fault> {
-    match capacity {
-        Capacity::One => play_over::<PrioQueue<u32, K, 1>, R, W>(stage, script, output),
-        Capacity::Two => play_over::<PrioQueue<u32, K, 2>, R, W>(stage, script, output),
-        Capacity::Three => play_over::<PrioQueue<u32, K, 3>, R, W>(stage, script, output),
-        Capacity::Four => play_over::<PrioQueue<u32, K, 4>, R, W>(stage, script, output),
-        Capacity::Eight => play_over::<PrioQueue<u32, K, 8>, R, W>(stage, script, output),
     }
 }

@@ -1,38 +1,30 @@
 //! The watch, by its senders and receivers, and by those whose type doesn't say how many receivers it has room for.
-ghost use Rattle.std.specs.Prelude.{◌≤◌};
-
 use crate::form::{Door, Doors, Form, nobody, over};
-use crate::play::{Script, Stage, serve};
 use esync_base::waitqueue::{Context, Hand, Poll};
 use esync_cells::watch::machine::{Await, Reading, WatchCall, WatchHeard};
 use esync_cells::watch::{
-    AnonRcv, DynAnonReceiver, DynReceiver, DynSender, Judge, Rcv, SharedWatch, Snd, Watch,
+    AnonRcv, Change, DynAnonReceiver, DynReceiver, DynSender, Judge, Rcv, SharedWatch, Snd,
     WatchBehavior, WatchValue,
 };
 use esync_machine::primitive::{Answer, Turn};
-use esync_notes::Notes;
-use esync_script::opening::Capacity;
-use esync_script::watch::{Adds, Below, WatchWords};
-use esync_words::fault::Fault;
-use std::alloc::AllocError;
-use std::io::Write;
-use std::sync::Wait;
+use std::alloc::{AllocError, Global};
+use std::marker::PhantomData;
 
-// A watch of values, however many receivers it has room for: what it has that its senders and receivers don't have.
-trait Watches: WatchBehavior<Value = u32, Waker = u64> {
-    // A receiver, if there is a place for it.
+/// A watch of values, however many receivers it has room for: what it has that its senders and receivers don't have.
+pub trait Watches: WatchBehavior<Value = u32, Waker = u64> {
+    /// A receiver, if there is a place for it.
     fn counted(&self, door: Door) -> Option<Rcv<'_, Self>>;
 
-    // A receiver that never waits.
+    /// A receiver that never waits.
     fn anon(&self, door: Door) -> AnonRcv<'_, Self>;
 
     fn version(&self) -> u64;
 
-    // What a read finds.
+    /// What a read finds.
     fn found(&self) -> Result<Option<u32>, AllocError>;
 
-    // What a read of values below the limit finds.
-    fn found_below(&self, below: Below) -> Result<Option<u32>, AllocError>;
+    /// What a read of values that pass finds.
+    fn found_of<J: Judge<u32> + Copy>(&self, judge: J) -> Result<Option<u32>, AllocError>;
 }
 
 impl<S: WatchValue<K, Value = u32, Waker = u64>, H: Hand<u64>, const K: usize> Watches
@@ -59,23 +51,24 @@ impl<S: WatchValue<K, Value = u32, Waker = u64>, H: Hand<u64>, const K: usize> W
         self.try_get()
     }
 
-    fn found_below(&self, below: Below) -> Result<Option<u32>, AllocError> {
-        self.try_get_and(|value| below.holds(value))
+    fn found_of<J: Judge<u32> + Copy>(&self, judge: J) -> Result<Option<u32>, AllocError> {
+        self.try_get_and(|value| judge.holds(value))
     }
 }
 
-// A watch with its receivers, whose calls are made by each of its ways in turn.
+/// A watch with its receivers, whose calls are made by each of its ways in turn. It takes changes `C` and tests `J`.
 #[derive(Drop)]
-struct Watching<'w, B: Watches> {
+pub struct Watching<'w, B: Watches, C, J> {
     watch: &'w B,
     sender: Snd<'w, B>,
     cloned: Snd<'w, B>,
     dyn_sender: DynSender<'w, B>,
     receivers: Vec<Option<Receiver<'w, B>>>,
     doors: Doors,
+    calls: PhantomData<(C, J)>,
 }
 
-// A receiver at a script's number.
+// A receiver that has a number.
 #[derive(Drop)]
 enum Receiver<'w, B: WatchBehavior> {
     Counted(Rcv<'w, B>),
@@ -91,18 +84,18 @@ impl<'w, B: WatchBehavior<Value = u32, Waker = u64>> Receiver<'w, B> {
         }
     }
 
-    fn read(&mut self, read: Reading<Below>) -> Result<Option<u32>, AllocError> {
+    fn read<J: Judge<u32> + Copy>(&mut self, read: Reading<J>) -> Result<Option<u32>, AllocError> {
         match self {
             Receiver::Counted(receiver) => counted_reads(receiver, read),
             Receiver::Anon(receiver) => anon_reads(receiver, read),
         }
     }
 
-    fn poll(
+    fn poll<J: Judge<u32> + Copy>(
         &mut self,
-        held: Await<Below>,
+        held: Await<J>,
         cx: &Context<u64>,
-    ) -> Turn<WatchHeard<u32>, Await<Below>> {
+    ) -> Turn<WatchHeard<u32>, Await<J>> {
         match self {
             Receiver::Counted(receiver) => has_waited(polls(receiver, held.read, cx), held),
             Receiver::Anon(_) => over(),
@@ -133,49 +126,49 @@ fn anon_by<'w, B: WatchBehavior>(receiver: AnonRcv<'w, B>, door: Door) -> DynAno
     }
 }
 
-fn counted_reads<B: WatchBehavior<Value = u32>>(
+fn counted_reads<B: WatchBehavior<Value = u32>, J: Judge<u32> + Copy>(
     receiver: &mut Rcv<'_, B>,
-    read: Reading<Below>,
+    read: Reading<J>,
 ) -> Result<Option<u32>, AllocError> {
     match read {
         Reading::Get => receiver.try_get(),
         Reading::Changed => receiver.try_changed(),
-        Reading::GetAnd(below) => receiver.try_get_and(|value| below.holds(value)),
-        Reading::ChangedAnd(below) => receiver.try_changed_and(|value| below.holds(value)),
+        Reading::GetAnd(judge) => receiver.try_get_and(|value| judge.holds(value)),
+        Reading::ChangedAnd(judge) => receiver.try_changed_and(|value| judge.holds(value)),
     }
 }
 
-fn anon_reads<B: WatchBehavior<Value = u32>>(
+fn anon_reads<B: WatchBehavior<Value = u32>, J: Judge<u32> + Copy>(
     receiver: &mut AnonRcv<'_, B>,
-    read: Reading<Below>,
+    read: Reading<J>,
 ) -> Result<Option<u32>, AllocError> {
     match read {
         Reading::Get => receiver.try_get(),
         Reading::Changed => receiver.try_changed(),
-        Reading::GetAnd(below) => receiver.try_get_and(|value| below.holds(value)),
-        Reading::ChangedAnd(below) => receiver.try_changed_and(|value| below.holds(value)),
+        Reading::GetAnd(judge) => receiver.try_get_and(|value| judge.holds(value)),
+        Reading::ChangedAnd(judge) => receiver.try_changed_and(|value| judge.holds(value)),
     }
 }
 
 // A poll of what the receiver's call gives, which borrows the receiver and so is made anew for each poll.
-fn polls<B: WatchBehavior<Value = u32, Waker = u64>>(
+fn polls<B: WatchBehavior<Value = u32, Waker = u64>, J: Judge<u32> + Copy>(
     receiver: &mut Rcv<'_, B>,
-    read: Reading<Below>,
+    read: Reading<J>,
     cx: &Context<u64>,
 ) -> Result<Poll<u32>, AllocError> {
     match read {
         Reading::Get => receiver.get().poll(cx),
         Reading::Changed => receiver.changed().poll(cx),
-        Reading::GetAnd(below) => receiver.get_and(|value| below.holds(value)).poll(cx),
-        Reading::ChangedAnd(below) => receiver.changed_and(|value| below.holds(value)).poll(cx),
+        Reading::GetAnd(judge) => receiver.get_and(|value| judge.holds(value)).poll(cx),
+        Reading::ChangedAnd(judge) => receiver.changed_and(|value| judge.holds(value)).poll(cx),
     }
 }
 
 // What a poll leaves of a request for a value.
-fn has_waited(
+fn has_waited<J: Drop>(
     polled: Result<Poll<u32>, AllocError>,
-    held: Await<Below>,
-) -> Turn<WatchHeard<u32>, Await<Below>> {
+    held: Await<J>,
+) -> Turn<WatchHeard<u32>, Await<J>> {
     match polled {
         Ok(Poll::Ready(value)) => Turn::over(WatchHeard::Waited(value)),
         Ok(Poll::Pending) => Turn::waits(held),
@@ -194,23 +187,28 @@ fn has_found(found: Result<Option<u32>, AllocError>) -> Answer<WatchHeard<u32>> 
     }
 }
 
-impl<'w, B: Watches> Form for Watching<'w, B> {
-    type Words = WatchWords;
+impl<'w, B, C, J> Form for Watching<'w, B, C, J>
+where
+    B: Watches,
+    C: Change<u32> + Drop,
+    J: Judge<u32> + Copy,
+{
+    type Ask = Await<J>;
 
-    type Held = Await<Below>;
+    type Call = WatchCall<u32, C, J>;
 
-    fn begin(&mut self, ask: Await<Below>) -> Option<Await<Below>> {
+    type Heard = WatchHeard<u32>;
+
+    type Held = Await<J>;
+
+    fn begin(&mut self, ask: Await<J>) -> Option<Await<J>> {
         match self.receivers.get(ask.receiver) {
             Some(Some(Receiver::Counted(_))) => Some(ask),
             _ => None,
         }
     }
 
-    fn poll(
-        &mut self,
-        held: Await<Below>,
-        cx: &Context<u64>,
-    ) -> Turn<WatchHeard<u32>, Await<Below>> {
+    fn poll(&mut self, held: Await<J>, cx: &Context<u64>) -> Turn<WatchHeard<u32>, Await<J>> {
         let door = self.doors.next();
         match receiver_by(self.receivers.get_mut(held.receiver), door) {
             Some(receiver) => receiver.poll(held, cx),
@@ -220,8 +218,8 @@ impl<'w, B: Watches> Form for Watching<'w, B> {
 
     fn call(
         &mut self,
-        call: WatchCall<u32, Adds, Below>,
-        _place: &mut Option<Await<Below>>,
+        call: WatchCall<u32, C, J>,
+        _place: &mut Option<Await<J>>,
     ) -> Answer<WatchHeard<u32>> {
         match call {
             WatchCall::Receiver(h) => self.join(h),
@@ -232,11 +230,11 @@ impl<'w, B: Watches> Form for Watching<'w, B> {
                 Answer::Done
             }
             WatchCall::Send(value) => Answer::Gives(WatchHeard::Sent(self.sender().send(value))),
-            WatchCall::Modify(adds) => {
-                Answer::Gives(WatchHeard::Modified(self.sender().send_modify(&adds)))
+            WatchCall::Modify(change) => {
+                Answer::Gives(WatchHeard::Modified(self.sender().send_modify(&change)))
             }
-            WatchCall::ModifyIf(adds) => {
-                Answer::Gives(WatchHeard::Modified(self.sender().send_if_modified(&adds)))
+            WatchCall::ModifyIf(change) => {
+                Answer::Gives(WatchHeard::Modified(self.sender().send_if_modified(&change)))
             }
             WatchCall::TryGet => has_found(self.try_get()),
             WatchCall::Read(h, read) => self.read(h, read),
@@ -245,7 +243,7 @@ impl<'w, B: Watches> Form for Watching<'w, B> {
         }
     }
 
-    fn leaves(&self, call: &WatchCall<u32, Adds, Below>, held: &Await<Below>) -> bool {
+    fn leaves(&self, call: &WatchCall<u32, C, J>, held: &Await<J>) -> bool {
         match call {
             WatchCall::Leave(h) => held.receiver == *h,
             _ => false,
@@ -264,7 +262,12 @@ fn receiver_by<'p, 'w, B: WatchBehavior<Value = u32, Waker = u64>>(
     place.as_mut()
 }
 
-impl<'w, B: Watches> Watching<'w, B> {
+impl<'w, B, C, J> Watching<'w, B, C, J>
+where
+    B: Watches,
+    C: Change<u32> + Drop,
+    J: Judge<u32> + Copy,
+{
     fn sender(&mut self) -> Snd<'w, B> {
         match self.doors.next() {
             Door::Own => self.sender,
@@ -332,28 +335,28 @@ impl<'w, B: Watches> Watching<'w, B> {
     }
 
     // A read for the receiver at the number.
-    fn read(&mut self, h: usize, read: Reading<Below>) -> Answer<WatchHeard<u32>> {
+    fn read(&mut self, h: usize, read: Reading<J>) -> Answer<WatchHeard<u32>> {
         let door = self.doors.next();
         let Some(receiver) = receiver_by(self.receivers.get_mut(h), door) else {
             return Answer::NoSuch;
         };
         let found = receiver.read(read);
         match read {
-            Reading::GetAnd(below) => self.finds_too(below, found),
+            Reading::GetAnd(judge) => self.finds_too(judge, found),
             _ => has_found(found),
         }
     }
 
-    // What a receiver found of values below a limit, where who keeps no version finds it too.
+    // What a receiver found of values that pass, where who keeps no version finds it too.
     fn finds_too(
         &mut self,
-        below: Below,
+        judge: J,
         found: Result<Option<u32>, AllocError>,
     ) -> Answer<WatchHeard<u32>> {
         let without = match self.doors.next() {
-            Door::Own => self.watch.found_below(below),
-            Door::Handle => self.sender.try_get_and(|value| below.holds(value)),
-            Door::Dynamic => self.dyn_sender.try_get_and(|value| below.holds(value)),
+            Door::Own => self.watch.found_of(judge),
+            Door::Handle => self.sender.try_get_and(|value| judge.holds(value)),
+            Door::Dynamic => self.dyn_sender.try_get_and(|value| judge.holds(value)),
         };
         if without == found {
             has_found(found)
@@ -379,63 +382,33 @@ impl<'w, B: Watches> Watching<'w, B> {
     }
 }
 
-// Plays the lines behind line 1 on this watch, which has no receivers.
-fn play_on<
+impl<'w, S, H, C, J, const K: usize> Watching<'w, SharedWatch<S, u64, H, K>, C, J>
+where
     S: WatchValue<K, Value = u32, Waker = u64>,
     H: Hand<u64>,
-    R: Wait,
-    W: Write,
-    const K: usize,
->(
-    stage: Stage<'_, '_, R>,
-    watch: &SharedWatch<S, u64, H, K>,
-    script: &mut Script<'_>,
-    output: &mut W,
-) -> Result<(), Fault> {
-    let receivers = nobody(stage.alloc).map_err(|_| Fault::OutOfMemory)?;
-    let sender = watch.sender();
-    let cloned = sender.as_dyn().clone().map_err(|_| Fault::OutOfMemory)?;
-    let dyn_sender = watch.dyn_sender().into();
-    let form = Watching {
-        watch,
-        sender,
-        cloned,
-        dyn_sender,
-        receivers,
-        doors: stage.doors,
-    };
-    serve(stage, form, script, output)
-}
-
-// Plays the lines behind line 1 over a watch with places for so many receivers.
-fn play_over<const N: usize, R: Wait, W: Write>(
-    stage: Stage<'_, '_, R>,
-    value: Option<u32>,
-    script: &mut Script<'_>,
-    output: &mut W,
-) -> Result<(), Fault>
-    requires { N ≤ 8 }
+    C: Change<u32> + Drop,
+    J: Judge<u32> + Copy,
 {
-    let watch: Watch<u32, u64, &Notes<'_, R>, N, N> = match value {
-        Some(value) => Watch::new_with(value, stage.notes),
-        None => Watch::new(stage.notes),
-    };
-    play_on(stage, &watch, script, output)
-}
-
-/// Plays the lines behind line 1 over a watch.
-pub fn play<R: Wait, W: Write>(
-    stage: Stage<'_, '_, R>,
-    capacity: Capacity,
-    value: Option<u32>,
-    script: &mut Script<'_>,
-    output: &mut W,
-) -> Result<(), Fault> {
-    match capacity {
-        Capacity::One => play_over::<1, R, W>(stage, value, script, output),
-        Capacity::Two => play_over::<2, R, W>(stage, value, script, output),
-        Capacity::Three => play_over::<3, R, W>(stage, value, script, output),
-        Capacity::Four => play_over::<4, R, W>(stage, value, script, output),
-        Capacity::Eight => play_over::<8, R, W>(stage, value, script, output),
+    /// This watch, which has no receivers, and is called by these ways.
+    ///
+    /// # Errors
+    ///
+    /// Where there is no memory.
+    pub fn new(
+        alloc: Global,
+        watch: &'w SharedWatch<S, u64, H, K>,
+        doors: Doors,
+    ) -> Result<Self, AllocError> {
+        let receivers = nobody(alloc)?;
+        let sender = watch.sender();
+        Ok(Watching {
+            watch,
+            sender,
+            cloned: sender.as_dyn().clone()?,
+            dyn_sender: watch.dyn_sender().into(),
+            receivers,
+            doors,
+            calls: PhantomData,
+        })
     }
 }

@@ -1,29 +1,20 @@
 //! Publishers and subscribers, by the channel's own calls and by those of its handles. Whoever has a number stands in a table.
-ghost use Rattle.std.specs.Prelude.{◌≤◌};
-
 use crate::form::{Door, Doors, Form, Sizes, nobody, over, sizes};
-use crate::play::{Script, Stage, serve};
 use esync_base::waitqueue::{Context, Hand, Poll};
 use esync_machine::primitive::{Answer, Turn};
-use esync_notes::Notes;
 use esync_pubsub::pubsub::machine::{PubSubAsk, PubSubCall, PubSubHeard};
 use esync_pubsub::pubsub::{
     DynImmediatePublisher, Error, Exhausted, ImmediatePub, LogState, Pub, PubSubBehavior,
-    PubSubChannel, PublishRequest, SharedPubSub, Sub,
+    PublishRequest, SharedPubSub, Sub,
 };
-use esync_script::opening::Capacity;
-use esync_script::pubsub::PubSubWords;
-use esync_words::fault::Fault;
-use std::alloc::AllocError;
-use std::io::Write;
-use std::sync::Wait;
+use std::alloc::{AllocError, Global};
 
-// A channel for many, however much it holds: who comes to it.
-trait Topic: PubSubBehavior<Message = u32, Waker = u64> {
-    // A subscriber, if there is a place for it.
+/// A channel for many, however much it holds: who comes to it.
+pub trait Topic: PubSubBehavior<Message = u32, Waker = u64> {
+    /// A subscriber, if there is a place for it.
     fn join(&self, door: Door) -> Result<Sub<'_, Self>, Error>;
 
-    // A publisher, if there is a place for it.
+    /// A publisher, if there is a place for it.
     fn add(&self, door: Door) -> Result<Pub<'_, Self>, Error>;
 }
 
@@ -44,9 +35,9 @@ impl<S: LogState<K, Message = u32, Waker = u64>, H: Hand<u64>, const K: usize> T
     }
 }
 
-// A channel for many, with who has a number.
+/// A channel for many, with who has a number.
 #[derive(Drop)]
-struct PubSub<'c, B: Topic> {
+pub struct PubSub<'c, B: Topic> {
     channel: &'c B,
     immediate: ImmediatePub<'c, B>,
     dyn_immediate: DynImmediatePublisher<'c, B>,
@@ -57,7 +48,11 @@ struct PubSub<'c, B: Topic> {
 
 // What stands at a number is what is asked for: its future borrows whom it is asked of, and is made anew at each poll.
 impl<'c, B: Topic> Form for PubSub<'c, B> {
-    type Words = PubSubWords;
+    type Ask = PubSubAsk<u32>;
+
+    type Call = PubSubCall<u32>;
+
+    type Heard = PubSubHeard<u32>;
 
     type Held = PubSubAsk<u32>;
 
@@ -398,63 +393,29 @@ fn sinks<B: Topic>(
     sink.poll_flush(cx)
 }
 
-// Plays the lines behind line 1 on this channel, at which nobody is.
-fn play_on<
-    S: LogState<K, Message = u32, Waker = u64>,
-    H: Hand<u64>,
-    R: Wait,
-    W: Write,
-    const K: usize,
->(
-    stage: Stage<'_, '_, R>,
-    channel: &SharedPubSub<S, u64, H, K>,
-    script: &mut Script<'_>,
-    output: &mut W,
-) -> Result<(), Fault> {
-    let subscribers = nobody(stage.alloc).map_err(|_| Fault::OutOfMemory)?;
-    let publishers = nobody(stage.alloc).map_err(|_| Fault::OutOfMemory)?;
-    let form = PubSub {
-        channel,
-        immediate: channel.immediate_publisher(),
-        dyn_immediate: channel.dyn_immediate_publisher(),
-        subscribers,
-        publishers,
-        doors: stage.doors,
-    };
-    serve(stage, form, script, output)
-}
-
-// Plays the lines behind line 1 over a channel of at most `N` messages.
-fn play_over<const N: usize, R: Wait, W: Write>(
-    stage: Stage<'_, '_, R>,
-    script: &mut Script<'_>,
-    output: &mut W,
-) -> Result<(), Fault>
-    requires some { 1 ≤ N }
-    requires few { N ≤ 8 }
-{
-    let channel: PubSubChannel<u32, u64, &Notes<'_, R>, N, 4, 4, 4> = PubSubChannel::new(
-        stage.notes,
-    );
-    play_on(stage, &channel, script, output)
-}
-
-/// Plays the lines behind line 1, where the first message has the number 0: a shared channel begins nowhere else.
-pub fn play<R: Wait, W: Write>(
-    stage: Stage<'_, '_, R>,
-    capacity: Capacity,
-    first: u64,
-    script: &mut Script<'_>,
-    output: &mut W,
-) -> Result<(), Fault> {
-    if first != 0 {
-        return Err(Fault::NotACommand(1));
-    }
-    match capacity {
-        Capacity::One => play_over::<1, R, W>(stage, script, output),
-        Capacity::Two => play_over::<2, R, W>(stage, script, output),
-        Capacity::Three => play_over::<3, R, W>(stage, script, output),
-        Capacity::Four => play_over::<4, R, W>(stage, script, output),
-        Capacity::Eight => play_over::<8, R, W>(stage, script, output),
+impl<'c, S: LogState<K, Message = u32, Waker = u64>, H: Hand<u64>, const K: usize> PubSub<
+    'c,
+    SharedPubSub<S, u64, H, K>,
+> {
+    /// This channel, at which nobody is, called by these ways.
+    ///
+    /// # Errors
+    ///
+    /// Where there is no memory.
+    pub fn new(
+        alloc: Global,
+        channel: &'c SharedPubSub<S, u64, H, K>,
+        doors: Doors,
+    ) -> Result<Self, AllocError> {
+        let subscribers = nobody(alloc)?;
+        let publishers = nobody(alloc)?;
+        Ok(PubSub {
+            channel,
+            immediate: channel.immediate_publisher(),
+            dyn_immediate: channel.dyn_immediate_publisher(),
+            subscribers,
+            publishers,
+            doors,
+        })
     }
 }

@@ -1,27 +1,25 @@
 //! The value that is set once, by its own calls and by its future.
 use crate::form::{Door, Doors, Form};
-use crate::play::{Script, Stage, serve};
 use esync_base::waitqueue::{Context, Hand, Poll};
 use esync_cells::once_lock::OnceLock;
 use esync_cells::once_lock::machine::{Get, OnceCall, OnceHeard};
 use esync_machine::primitive::{Answer, Turn};
-use esync_notes::Notes;
-use esync_script::once::OnceWords;
-use esync_words::fault::Fault;
-use std::io::Write;
 use std::mem;
-use std::sync::Wait;
 
-// A value that is set once. Who waits for it borrows nothing between two polls, since a value is taken from the lock itself.
+/// A value that is set once. Who waits for it borrows nothing between two polls, since a value is taken from the lock itself.
 #[derive(Drop)]
-struct Once<H> {
+pub struct Once<H> {
     lock: OnceLock<u32, u64, H>,
     hand: H,
     doors: Doors,
 }
 
 impl<H: Hand<u64> + Copy> Form for Once<H> {
-    type Words = OnceWords;
+    type Ask = Get;
+
+    type Call = OnceCall<u32>;
+
+    type Heard = OnceHeard<u32>;
 
     type Held = Get;
 
@@ -48,6 +46,15 @@ impl<H: Hand<u64> + Copy> Form for Once<H> {
 }
 
 impl<H: Hand<u64> + Copy> Once<H> {
+    /// No value, with this hand, and called by these ways.
+    pub fn new(hand: H, doors: Doors) -> Self {
+        Once {
+            lock: OnceLock::new(hand),
+            hand,
+            doors,
+        }
+    }
+
     fn get(&mut self, cx: &Context<u64>) -> Poll<u32> {
         match self.doors.next() {
             Door::Own => copied(self.lock.poll_get(cx)),
@@ -80,19 +87,4 @@ fn copied(polled: Poll<&u32>) -> Poll<u32> {
         Poll::Ready(value) => Poll::Ready(*value),
         Poll::Pending => Poll::Pending,
     }
-}
-
-/// Plays the lines behind line 1 over a value that is set once.
-pub fn play<R: Wait, W: Write>(
-    stage: Stage<'_, '_, R>,
-    script: &mut Script<'_>,
-    output: &mut W,
-) -> Result<(), Fault> {
-    let hand: &Notes<'_, R> = stage.notes;
-    let form = Once {
-        lock: OnceLock::new(hand),
-        hand,
-        doors: stage.doors,
-    };
-    serve(stage, form, script, output)
 }

@@ -1,0 +1,384 @@
+//! What a script is played over: each primitive in its shared form.
+ghost use Rattle.std.specs.Prelude.{◌<◌, ◌≤◌, IfOk, length};
+
+use crate::play::{Script, Stage, serve};
+use bumpalo::Bump;
+use esync_base::deque::Deque;
+use esync_base::store::Store;
+use esync_base::waitqueue::{Hand, TaskId};
+use esync_cells::signal::Signal;
+use esync_cells::watch::{SharedWatch, Watch, WatchValue};
+use esync_channel::channel::SharedMailbox;
+use esync_forms::channel::Channel;
+use esync_forms::form::Door;
+use esync_forms::mutex::{Guarded, Pair};
+use esync_forms::once::Once;
+use esync_forms::pipe::{Lasting, Lent, Split, Tasks};
+use esync_forms::pubsub::PubSub;
+use esync_forms::semaphore::{Granted, Permits};
+use esync_forms::signal::Signaling;
+use esync_forms::watch::Watching;
+use esync_forms::zerocopy::{Numbered, Zerocopy};
+use esync_guards::mutex::Mutex;
+use esync_notes::Notes;
+use esync_permits::semaphore::machine::{PermitCall, PermitHeard};
+use esync_permits::semaphore::{Amount, FairState, GreedyState, PermitState, SharedSemaphore};
+use esync_pipe::pipe::{ByteState, DynamicReader, DynamicWriter, PipeState, SharedPipe};
+use esync_priority::prio::{Kind, PrioQueue};
+use esync_pubsub::pubsub::{LogState, PubSubChannel, SharedPubSub};
+use esync_script::channel::ChannelWords;
+use esync_script::mutex::MutexWords;
+use esync_script::once::OnceWords;
+use esync_script::opening::Capacity;
+use esync_script::pipe::PipeWords;
+use esync_script::pubsub::PubSubWords;
+use esync_script::semaphore::{FairWords, GreedyWords};
+use esync_script::signal::SignalWords;
+use esync_script::watch::WatchWords;
+use esync_script::zerocopy::ZeroWords;
+use esync_words::fault::Fault;
+use esync_words::vocabulary::Vocabulary;
+use esync_zerocopy::zerocopy_channel::{Channel as SlotChannel, Slot};
+use std::alloc::{AllocError, Global};
+use std::io::Write;
+use std::sync::Wait;
+
+// Over a channel that keeps its messages so.
+fn mailbox<S: Store<Message = u32>, R: Wait, W: Write>(
+    stage: Stage<'_, '_, R>,
+    script: &mut Script<'_>,
+    output: &mut W,
+) -> Result<(), Fault> {
+    let channel: SharedMailbox<S, u64, &Notes<'_, R>> = SharedMailbox::new(stage.notes);
+    let form = Channel::new(&channel, stage.doors);
+    serve::<ChannelWords, _, R, W>(stage, form, script, output)
+}
+
+/// Over a channel.
+pub fn channel<R: Wait, W: Write>(
+    stage: Stage<'_, '_, R>,
+    capacity: Capacity,
+    script: &mut Script<'_>,
+    output: &mut W,
+) -> Result<(), Fault> {
+    match capacity {
+        Capacity::One => mailbox::<Deque<u32, 1>, R, W>(stage, script, output),
+        Capacity::Two => mailbox::<Deque<u32, 2>, R, W>(stage, script, output),
+        Capacity::Three => mailbox::<Deque<u32, 3>, R, W>(stage, script, output),
+        Capacity::Four => mailbox::<Deque<u32, 4>, R, W>(stage, script, output),
+        Capacity::Eight => mailbox::<Deque<u32, 8>, R, W>(stage, script, output),
+    }
+}
+
+/// Over a priority channel of this kind.
+pub fn priority<K: Kind<u32>, R: Wait, W: Write>(
+    stage: Stage<'_, '_, R>,
+    capacity: Capacity,
+    script: &mut Script<'_>,
+    output: &mut W,
+) -> Result<(), Fault> {
+    match capacity {
+        Capacity::One => mailbox::<PrioQueue<u32, K, 1>, R, W>(stage, script, output),
+        Capacity::Two => mailbox::<PrioQueue<u32, K, 2>, R, W>(stage, script, output),
+        Capacity::Three => mailbox::<PrioQueue<u32, K, 3>, R, W>(stage, script, output),
+        Capacity::Four => mailbox::<PrioQueue<u32, K, 4>, R, W>(stage, script, output),
+        Capacity::Eight => mailbox::<PrioQueue<u32, K, 8>, R, W>(stage, script, output),
+    }
+}
+
+/// Over a signal.
+pub fn signal<R: Wait, W: Write>(
+    stage: Stage<'_, '_, R>,
+    script: &mut Script<'_>,
+    output: &mut W,
+) -> Result<(), Fault> {
+    let signal: Signal<u32, u64, &Notes<'_, R>> = Signal::new(stage.notes);
+    let form = Signaling::new(&signal, stage.doors);
+    serve::<SignalWords, _, R, W>(stage, form, script, output)
+}
+
+// Over a semaphore of this state, told of in these words.
+fn semaphore<S, V, G, R, W>(
+    stage: Stage<'_, '_, R>,
+    permits: usize,
+    script: &mut Script<'_>,
+    output: &mut W,
+) -> Result<(), Fault>
+where
+    S: PermitState<Waker = u64>,
+    V: Vocabulary<Ask = Amount, Call = PermitCall, Heard = PermitHeard<G>>,
+    G: Granted<Error = S::Error>,
+    R: Wait,
+    W: Write,
+{
+    let hand = stage.notes;
+    let semaphore: SharedSemaphore<S, u64, &Notes<'_, R>> = SharedSemaphore::new(permits, hand);
+    let form: Permits<'_, S, &Notes<'_, R>, G> = Permits::new(&semaphore, stage.doors);
+    serve::<V, _, R, W>(stage, form, script, output)
+}
+
+/// Over a greedy semaphore.
+pub fn greedy<R: Wait, W: Write>(
+    stage: Stage<'_, '_, R>,
+    permits: usize,
+    script: &mut Script<'_>,
+    output: &mut W,
+) -> Result<(), Fault> {
+    semaphore::<GreedyState<u64>, GreedyWords, _, R, W>(stage, permits, script, output)
+}
+
+// Over a fair semaphore with a queue of `N` places.
+fn queue<const N: usize, R: Wait, W: Write>(
+    stage: Stage<'_, '_, R>,
+    permits: usize,
+    script: &mut Script<'_>,
+    output: &mut W,
+) -> Result<(), Fault>
+    requires { N ≤ 8 }
+{
+    semaphore::<FairState<u64, N>, FairWords, _, R, W>(stage, permits, script, output)
+}
+
+/// Over a fair semaphore.
+pub fn fair<R: Wait, W: Write>(
+    stage: Stage<'_, '_, R>,
+    capacity: Capacity,
+    permits: usize,
+    script: &mut Script<'_>,
+    output: &mut W,
+) -> Result<(), Fault> {
+    match capacity {
+        Capacity::One => queue::<1, R, W>(stage, permits, script, output),
+        Capacity::Two => queue::<2, R, W>(stage, permits, script, output),
+        Capacity::Three => queue::<3, R, W>(stage, permits, script, output),
+        Capacity::Four => queue::<4, R, W>(stage, permits, script, output),
+        Capacity::Eight => queue::<8, R, W>(stage, permits, script, output),
+    }
+}
+
+// Over a pipe that is split anew for each call.
+fn split<S: ByteState<Waker = u64>, R: Wait, W: Write>(
+    stage: Stage<'_, '_, R>,
+    script: &mut Script<'_>,
+    output: &mut W,
+) -> Result<(), Fault> {
+    let pipe: SharedPipe<S, u64, &Notes<'_, R>> = SharedPipe::new(stage.notes);
+    let form = Split::new(pipe, stage.doors);
+    serve::<PipeWords, _, R, W>(stage, form, script, output)
+}
+
+// Over a pipe whose futures last.
+fn lasting<S: ByteState<Waker = TaskId>, R: Wait, W: Write>(
+    stage: Stage<'_, '_, R>,
+    script: &mut Script<'_>,
+    output: &mut W,
+) -> Result<(), Fault> {
+    let hand = Tasks::new(stage.notes);
+    let pipe: SharedPipe<S, TaskId, Tasks<&Notes<'_, R>>> = SharedPipe::new(hand);
+    let written = Bump::new(stage.alloc);
+    let lent = Lent::new(&pipe);
+    let writer = DynamicWriter::new(lent);
+    let reader = DynamicReader::new(stage.alloc, lent).map_err(|_| Fault::OutOfMemory)?;
+    let form = Lasting::new(&pipe, &written, &writer, reader, stage.doors);
+    serve::<PipeWords, _, R, W>(stage, form, script, output)
+}
+
+// Over a pipe of one of these states, as the first way says.
+fn bytes<S: ByteState<Waker = u64>, T: ByteState<Waker = TaskId>, R: Wait, W: Write>(
+    stage: Stage<'_, '_, R>,
+    script: &mut Script<'_>,
+    output: &mut W,
+) -> Result<(), Fault> {
+    let mut doors = stage.doors;
+    match doors.next() {
+        Door::Handle => split::<S, R, W>(stage, script, output),
+        Door::Own | Door::Dynamic => lasting::<T, R, W>(stage, script, output),
+    }
+}
+
+// A state of a pipe of so many bytes, and one whose wakers are tasks.
+type Of<const N: usize> = PipeState<u64, N>;
+
+type TasksOf<const N: usize> = PipeState<TaskId, N>;
+
+/// Over a pipe.
+pub fn pipe<R: Wait, W: Write>(
+    stage: Stage<'_, '_, R>,
+    capacity: Capacity,
+    script: &mut Script<'_>,
+    output: &mut W,
+) -> Result<(), Fault> {
+    match capacity {
+        Capacity::One => bytes::<Of<1>, TasksOf<1>, R, W>(stage, script, output),
+        Capacity::Two => bytes::<Of<2>, TasksOf<2>, R, W>(stage, script, output),
+        Capacity::Three => bytes::<Of<3>, TasksOf<3>, R, W>(stage, script, output),
+        Capacity::Four => bytes::<Of<4>, TasksOf<4>, R, W>(stage, script, output),
+        Capacity::Eight => bytes::<Of<8>, TasksOf<8>, R, W>(stage, script, output),
+    }
+}
+
+// Over this channel for many, at which nobody is.
+fn log<S: LogState<K, Message = u32, Waker = u64>, H: Hand<u64>, R: Wait, W: Write, const K: usize>(
+    stage: Stage<'_, '_, R>,
+    channel: &SharedPubSub<S, u64, H, K>,
+    script: &mut Script<'_>,
+    output: &mut W,
+) -> Result<(), Fault> {
+    match PubSub::new(stage.alloc, channel, stage.doors) {
+        Ok(form) => serve::<PubSubWords, _, R, W>(stage, form, script, output),
+        Err(AllocError) => Err(Fault::OutOfMemory),
+    }
+}
+
+// Over a channel for many of at most `N` messages.
+fn topic<const N: usize, R: Wait, W: Write>(
+    stage: Stage<'_, '_, R>,
+    script: &mut Script<'_>,
+    output: &mut W,
+) -> Result<(), Fault>
+    requires some { 1 ≤ N }
+    requires few { N ≤ 8 }
+{
+    let channel: PubSubChannel<u32, u64, &Notes<'_, R>, N, 4, 4, 4> = PubSubChannel::new(
+        stage.notes,
+    );
+    log(stage, &channel, script, output)
+}
+
+/// Over a channel for many, whose first message has the number 0: a shared channel begins nowhere else.
+pub fn pubsub<R: Wait, W: Write>(
+    stage: Stage<'_, '_, R>,
+    capacity: Capacity,
+    first: u64,
+    script: &mut Script<'_>,
+    output: &mut W,
+) -> Result<(), Fault> {
+    if first != 0 {
+        return Err(Fault::NotACommand(1));
+    }
+    match capacity {
+        Capacity::One => topic::<1, R, W>(stage, script, output),
+        Capacity::Two => topic::<2, R, W>(stage, script, output),
+        Capacity::Three => topic::<3, R, W>(stage, script, output),
+        Capacity::Four => topic::<4, R, W>(stage, script, output),
+        Capacity::Eight => topic::<8, R, W>(stage, script, output),
+    }
+}
+
+/// Over a value that is set once.
+pub fn once<R: Wait, W: Write>(
+    stage: Stage<'_, '_, R>,
+    script: &mut Script<'_>,
+    output: &mut W,
+) -> Result<(), Fault> {
+    let form: Once<&Notes<'_, R>> = Once::new(stage.notes, stage.doors);
+    serve::<OnceWords, _, R, W>(stage, form, script, output)
+}
+
+/// Over a mutex.
+pub fn mutex<R: Wait, W: Write>(
+    stage: Stage<'_, '_, R>,
+    value: u32,
+    part: u32,
+    script: &mut Script<'_>,
+    output: &mut W,
+) -> Result<(), Fault> {
+    let mutex: Mutex<Pair, u64, &Notes<'_, R>> = Mutex::new((value, part), stage.notes);
+    serve::<MutexWords, _, R, W>(stage, Guarded::new(&mutex), script, output)
+}
+
+// Over this watch, which has no receivers.
+fn latest<
+    S: WatchValue<K, Value = u32, Waker = u64>,
+    H: Hand<u64>,
+    R: Wait,
+    W: Write,
+    const K: usize,
+>(
+    stage: Stage<'_, '_, R>,
+    watch: &SharedWatch<S, u64, H, K>,
+    script: &mut Script<'_>,
+    output: &mut W,
+) -> Result<(), Fault> {
+    match Watching::new(stage.alloc, watch, stage.doors) {
+        Ok(form) => serve::<WatchWords, _, R, W>(stage, form, script, output),
+        Err(AllocError) => Err(Fault::OutOfMemory),
+    }
+}
+
+// Over a watch with places for so many receivers.
+fn value<const N: usize, R: Wait, W: Write>(
+    stage: Stage<'_, '_, R>,
+    value: Option<u32>,
+    script: &mut Script<'_>,
+    output: &mut W,
+) -> Result<(), Fault>
+    requires { N ≤ 8 }
+{
+    let watch: Watch<u32, u64, &Notes<'_, R>, N, N> = match value {
+        Some(value) => Watch::new_with(value, stage.notes),
+        None => Watch::new(stage.notes),
+    };
+    latest(stage, &watch, script, output)
+}
+
+/// Over a watch.
+pub fn watch<R: Wait, W: Write>(
+    stage: Stage<'_, '_, R>,
+    capacity: Capacity,
+    first: Option<u32>,
+    script: &mut Script<'_>,
+    output: &mut W,
+) -> Result<(), Fault> {
+    match capacity {
+        Capacity::One => value::<1, R, W>(stage, first, script, output),
+        Capacity::Two => value::<2, R, W>(stage, first, script, output),
+        Capacity::Three => value::<3, R, W>(stage, first, script, output),
+        Capacity::Four => value::<4, R, W>(stage, first, script, output),
+        Capacity::Eight => value::<8, R, W>(stage, first, script, output),
+    }
+}
+
+fn slot(number: usize) -> Slot<Numbered> {
+    Slot::new(Numbered { number, value: 0 })
+}
+
+// As many slots of value 0.
+fn slots(alloc: Global, capacity: Capacity) -> Result<Vec<Slot<Numbered>>, AllocError>
+    ensures { IfOk result (λ slots. 0 < length slots.items) }
+{
+    match capacity {
+        Capacity::One => Ok(vec![in alloc; slot(0)]?),
+        Capacity::Two => Ok(vec![in alloc; slot(0), slot(1)]?),
+        Capacity::Three => Ok(vec![in alloc; slot(0), slot(1), slot(2)]?),
+        Capacity::Four => Ok(vec![in alloc; slot(0), slot(1), slot(2), slot(3)]?),
+        Capacity::Eight => {
+            Ok(vec![in alloc;
+                slot(0),
+                slot(1),
+                slot(2),
+                slot(3),
+                slot(4),
+                slot(5),
+                slot(6),
+                slot(7),
+            ]?)
+        }
+    }
+}
+
+/// Over a zero-copy channel.
+pub fn zerocopy<R: Wait, W: Write>(
+    stage: Stage<'_, '_, R>,
+    capacity: Capacity,
+    script: &mut Script<'_>,
+    output: &mut W,
+) -> Result<(), Fault> {
+    let Ok(slots) = slots(stage.alloc, capacity) else {
+        return Err(Fault::OutOfMemory);
+    };
+    let mut channel = SlotChannel::new(slots, stage.notes);
+    let (sender, receiver) = channel.split();
+    let form = Zerocopy::new(sender, receiver, stage.doors);
+    serve::<ZeroWords, _, R, W>(stage, form, script, output)
+}
