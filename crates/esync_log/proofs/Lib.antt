@@ -1,3 +1,4 @@
 pub mod Beside
 pub mod Counted
 pub mod Logged
+mod Parts

@@ -8,3 +8,4 @@ pub mod Told
 pub mod Machine
 pub mod Unread
 pub mod Order
+pub mod Parts

@@ -1,5 +1,6 @@
-use Rattle.std.proofs.Common.{refl, sym, ◌∙◌, rules}
+use Rattle.std.proofs.Common.{refl, sym, ◌∙◌}
 use Rattle.std.proofs.Common.{sym, ◌∙◌}
+use Rattle.esync_log.proofs.Parts.{positions_fit}
 use Rattle.esync_log.proofs.log.Log.available.Goals as goal
 
 pub overflow_sub-result : goal.overflow_sub-result
@@ -9,4 +10,4 @@ pub returns-in-Some : goal.returns-in-Some
 returns-in-Some g c = rw (← c.self.view_is, sym c.get.ensures ∙ c.in-Some.is) refl
 
 pub get-requires : goal.get-requires
-get-requires g c = (search rules, c.self.invariant.places)
+get-requires g c = (positions_fit g.row.T g.row.CAP g.row.SUBS c.requires-raw.1.1.1.0, c.self.invariant.places)

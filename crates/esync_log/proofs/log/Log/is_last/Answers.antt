@@ -11,3 +11,6 @@ returns g c =
     let held = rw (← c.self.view_is) at c.requires.held in
     let o = rw (← c.self.view_is) at c.oldest.ensures in
     rw (← c.self.view_is) (ap (λ n. n == 1) (c.count.ensures ∙ ap (λ x. slice_index a.held.counts (c.args.position - x)) o) ∙ last_test g.row.CAP g.row.SUBS a.held.messages a.held.counts a.next a.positions.row a.subscribers c.self.invariant c.args.place c.args.position at from held)
+
+pub oldest-requires : goal.oldest-requires
+oldest-requires g c = c.requires-raw.1.1.1.0

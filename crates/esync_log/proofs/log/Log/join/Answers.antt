@@ -1,5 +1,9 @@
-use Rattle.std.proofs.Common.{rules}
+use Rattle.std.specs.Prelude.{Some, is_some, slice_set}
+use Rattle.std.proofs.lemmas.List.Sums.{count_by-le-length}
+use Rattle.esync_log.specs.LogLaws.{free_below}
+use Rattle.std.proofs.Common.{arith}
 use Rattle.esync_log.proofs.Logged.{log_join}
+use Rattle.esync_log.proofs.Parts.{positions_fit}
 use Rattle.esync_log.proofs.log.Log.join.Goals as goal
 
 pub invariant_of-self : goal.invariant_of-self
@@ -9,4 +13,13 @@ invariant_of-self g c =
     rw (c.put.ensures) (log_join g.row.CAP g.row.SUBS a.held.messages a.held.counts a.next a.positions.row a.subscribers c.self.invariant c.in-Some.place found.found.free)
 
 pub free_place-requires : goal.free_place-requires
-free_place-requires g c = search rules
+free_place-requires g c = (positions_fit g.row.T g.row.CAP g.row.SUBS c.requires-raw.1.1.1, c.self.invariant.places)
+
+pub put-requires : goal.put-requires
+put-requires g c = (positions_fit g.row.T g.row.CAP g.row.SUBS c.requires-raw.1.1.1, omega (arith, free_below c.self.inside.positions.row c.in-Some.place c.in-Some.ensures.found.free, c.self.invariant.places))
+
+pub overflow_add-self : goal.overflow_add-self
+overflow_add-self g c =
+    let a = c.self.inside in
+    let joined = log_join g.row.CAP g.row.SUBS a.held.messages a.held.counts a.next a.positions.row a.subscribers c.self.invariant c.in-Some.place c.in-Some.ensures.found.free in
+    omega (arith, joined.live, joined.places, count_by-le-length is_some (slice_set a.positions.row c.in-Some.place (Some a.next)), g.SUBS.fits)

@@ -1,6 +1,7 @@
 use Rattle.std.proofs.Common.{arith, rules, sym, ◌∙◌, length, ◌≤◌, ◌-◌}
 use Rattle.esync_log.specs.LogLaws.{place_below}
 use Rattle.esync_log.proofs.Logged.{log_some, log_lowers, log_leave, log_left}
+use Rattle.esync_log.proofs.Parts.{held_fits, positions_fit}
 use Rattle.esync_log.proofs.log.Log.leave.Goals as goal
 
 pub overflow_sub-self : goal.overflow_sub-self
@@ -12,7 +13,7 @@ pub lower_from-requires : goal.lower_from-requires
 lower_from-requires g c =
     let a = c.self.inside in
     let o = rw (← c.self.view_is) at c.first_unread-from.ensures in (
-      search rules,
+      held_fits g.row.T g.row.CAP g.row.SUBS c.requires-raw.1.1.1.0,
       λ k h l.
           (let b : c.in-Some.position - (a.next - length a.held.messages) ≤ k = omega (arith, o, h) in
           log_lowers g.row.CAP g.row.SUBS a.held.messages a.held.counts a.next a.positions.row a.subscribers c.self.invariant c.args.place c.in-Some.position (sym c.get.ensures ∙ c.in-Some.is) k b l),
@@ -37,16 +38,16 @@ returns g c =
     c.lower_from.new.self.counts c.first_unread-from.result o f.length f.before f.behind)
 
 pub get-requires : goal.get-requires
-get-requires g c = search rules
+get-requires g c = (positions_fit g.row.T g.row.CAP g.row.SUBS c.requires-raw.1.1.1.0, c.self.invariant.places)
 
 pub unreachable-requires : goal.unreachable-requires
 unreachable-requires g c = search rules
 
 pub first_unread-from-requires : goal.first_unread-from-requires
-first_unread-from-requires g c = search rules
+first_unread-from-requires g c = c.requires-raw.1.1.1.0
 
 pub free-requires : goal.free-requires
-free-requires g c = search rules
+free-requires g c = held_fits g.row.T g.row.CAP g.row.SUBS c.requires-raw.1.1.1.0
 
 pub put-requires : goal.put-requires
 put-requires g c = omega (arith, place_below c.self.inside.positions.row c.args.place (rw (← c.self.view_is) at c.requires), c.self.invariant.places)

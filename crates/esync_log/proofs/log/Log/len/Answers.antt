@@ -1,3 +1,4 @@
+use Rattle.esync_log.proofs.Parts.{held_fits}
 use Rattle.esync_log.proofs.log.Log.len.Goals as goal
 
 pub returns : goal.returns
@@ -6,3 +7,6 @@ returns g c = record {
   within = c.len.ensures.within;
   numbered = rw (← c.self.view_is) c.self.invariant.numbered;
 }
+
+pub len-requires : goal.len-requires
+len-requires g c = held_fits g.row.T g.row.CAP g.row.SUBS c.requires-raw.1.1.1

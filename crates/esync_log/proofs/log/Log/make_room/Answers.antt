@@ -2,6 +2,7 @@ use Rattle.std.proofs.Common.{◌≤◌, length, arith, sym, ap, List}
 use Rattle.std.proofs.lemmas.List.{length-drop}
 use Rattle.esync_log.specs.Log.{Log}
 use Rattle.esync_log.proofs.Logged.{log_pop, full_tells, room_none}
+use Rattle.esync_log.proofs.Parts.{held_fits}
 use Rattle.esync_log.proofs.log.Log.make_room.Goals as goal
 
 pub invariant_of-self : goal.invariant_of-self
@@ -24,3 +25,9 @@ returns-then-is_full g c =
           let within = rw (← c.self.view_is) at c.is_full.ensures.within in
           rw c.pop.ensures.messages (omega (arith, length-drop 1 a.held.messages, h, within, c.self.invariant.room)));
     }
+
+pub is_full-requires : goal.is_full-requires
+is_full-requires g c = c.requires-raw.1.1.1
+
+pub pop-requires : goal.pop-requires
+pop-requires g c = held_fits g.row.T g.row.CAP g.row.SUBS c.requires-raw.1.1.1

@@ -1,5 +1,6 @@
 use Rattle.std.proofs.Common.{rules, arith, sym, ◌∙◌}
 use Rattle.esync_log.specs.LogLaws.{place_below}
+use Rattle.esync_log.proofs.Parts.{positions_fit}
 use Rattle.esync_log.proofs.log.Log.position.Goals as goal
 
 pub returns : goal.returns
@@ -14,4 +15,4 @@ returns g c = record {
 }
 
 pub get-requires : goal.get-requires
-get-requires g c = (search rules, c.self.invariant.places)
+get-requires g c = (positions_fit g.row.T g.row.CAP g.row.SUBS c.requires-raw.1.1.1.0, c.self.invariant.places)

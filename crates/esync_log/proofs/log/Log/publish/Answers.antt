@@ -2,10 +2,10 @@ use Rattle.std.proofs.Common.{rules}
 use Rattle.esync_log.proofs.log.Log.publish.Goals as goal
 
 pub has_subscribers-requires : goal.has_subscribers-requires
-has_subscribers-requires g c = search rules
+has_subscribers-requires g c = c.requires-raw.1.1.1
 
 pub drop-message-requires : goal.drop-message-requires
 drop-message-requires g c = search rules
 
 pub is_full-requires : goal.is_full-requires
-is_full-requires g c = search rules
+is_full-requires g c = c.requires-raw.1.1.1

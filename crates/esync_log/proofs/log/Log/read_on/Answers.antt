@@ -10,7 +10,7 @@ lag_at-requires g c =
     let at = c.oldest-oldest.result in
     let l : position c.args.place log < oldest log = omega (arith, c.if-position-oldest.true, c.oldest-oldest.ensures, c.position-position.ensures.value) in
     let there : c.take_next.new.self ≡ moved c.args.place at log = c.in-Err.ensures.err ∙ c.catch_up.ensures.state ∙ caught_lagging c.args.place log l ∙ ap (λ n. moved c.args.place n log) (sym c.oldest-oldest.ensures) in
-    rw there (search rules, (moved_live c.args.place log c.requires at, (moved_down c.args.place log c.requires at c.oldest-oldest.ensures, omega (arith, c.if-position-oldest.true, c.oldest-oldest.ensures))))
+    rw there (c.requires-raw.1.1.1.0, (moved_live c.args.place log c.requires at, (moved_down c.args.place log c.requires at c.oldest-oldest.ensures, omega (arith, c.if-position-oldest.true, c.oldest-oldest.ensures))))
 
 pub returns-after-position-oldest : goal.returns-after-position-oldest
 returns-after-position-oldest g c = record {
@@ -33,3 +33,6 @@ returns-after-position-oldest g c = record {
       ]);
   place = search rules;
 }
+
+pub oldest-oldest-requires : goal.oldest-oldest-requires
+oldest-oldest-requires g c = c.requires-raw.1.1.1.0

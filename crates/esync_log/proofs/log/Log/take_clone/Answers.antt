@@ -1,6 +1,9 @@
-use Rattle.std.proofs.Common.{◌<◌, ◌-◌, arith, length, rules, subst, sym}
+use Rattle.std.specs.Prelude.{is_some}
+use Rattle.esync_log.specs.LogLaws.{place_below}
+use Rattle.std.proofs.Common.{ap, ◌<◌, ◌-◌, arith, length, rules, subst, sym}
 use Rattle.std.specs.Prelude.{slice_index}
 use Rattle.esync_log.proofs.Logged.{shared_more, log_take, log_took}
+use Rattle.esync_log.proofs.Parts.{held_fits, positions_fit}
 use Rattle.esync_log.proofs.log.Log.take_clone.Goals as goal
 
 pub lower-requires : goal.lower-requires
@@ -13,7 +16,7 @@ lower-requires g c =
     let shared = rw (← c.self.view_is) at c.requires.shared in
     let more = shared_more g.row.CAP g.row.SUBS a.held.messages a.held.counts a.next a.positions.row a.subscribers c.self.invariant c.args.place c.args.position at from held shared in
     let some : 0 < slice_index a.held.counts (c.args.position - (a.next - length a.held.messages)) = omega (arith, more) in
-    (search rules, (omega (arith, o, held, from, c.self.invariant.numbered), subst (λ n. 0 < slice_index a.held.counts (c.args.position - n)) (sym o) some))
+    (held_fits g.row.T g.row.CAP g.row.SUBS c.requires-raw.1.1.1.0, (omega (arith, o, held, from, c.self.invariant.numbered), subst (λ n. 0 < slice_index a.held.counts (c.args.position - n)) (sym o) some))
 
 pub invariant_of-self : goal.invariant_of-self
 invariant_of-self g c =
@@ -41,10 +44,10 @@ returns g c = record {
 }
 
 pub oldest-requires : goal.oldest-requires
-oldest-requires g c = search rules
+oldest-requires g c = c.requires-raw.1.1.1.0
 
 pub message-requires : goal.message-requires
-message-requires g c = search rules
+message-requires g c = (held_fits g.row.T g.row.CAP g.row.SUBS c.requires-raw.1.1.1.0, search rules)
 
 pub clone-requires : goal.clone-requires
 clone-requires g c = search rules
@@ -54,3 +57,8 @@ branch-message-requires g c = search rules
 
 pub from_residual-requires : goal.from_residual-requires
 from_residual-requires g c = search rules
+
+pub put-requires : goal.put-requires
+put-requires g c =
+    let at = rw (← c.self.view_is) at c.requires.live in
+    (positions_fit g.row.T g.row.CAP g.row.SUBS c.requires-raw.1.1.1.0, omega (arith, place_below c.self.inside.positions.row c.args.place (ap is_some at), c.self.invariant.places))

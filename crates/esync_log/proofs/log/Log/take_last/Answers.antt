@@ -1,6 +1,9 @@
-use Rattle.std.proofs.Common.{rules, ◌≡◌, ◌-◌, ◌∙◌, ap, length, arith}
+use Rattle.std.specs.Prelude.{is_some}
+use Rattle.esync_log.specs.LogLaws.{place_below}
+use Rattle.std.proofs.Common.{◌≡◌, ◌-◌, ◌∙◌, ap, length, arith}
 use Rattle.std.specs.Prelude.{slice_get}
 use Rattle.esync_log.proofs.Logged.{last_one, log_front, log_take_last, log_took_last}
+use Rattle.esync_log.proofs.Parts.{held_fits, positions_fit}
 use Rattle.esync_log.proofs.log.Log.take_last.Goals as goal
 
 pub invariant_of-self : goal.invariant_of-self
@@ -31,4 +34,9 @@ returns g c =
     }
 
 pub take_front-requires : goal.take_front-requires
-take_front-requires g c = search rules
+take_front-requires g c = held_fits g.row.T g.row.CAP g.row.SUBS c.requires-raw.1.1.1.0
+
+pub put-requires : goal.put-requires
+put-requires g c =
+    let at = rw (← c.self.view_is) at c.requires.live in
+    (positions_fit g.row.T g.row.CAP g.row.SUBS c.requires-raw.1.1.1.0, omega (arith, place_below c.self.inside.positions.row c.args.place (ap is_some at), c.self.invariant.places))

@@ -1,11 +1,12 @@
 use Rattle.std.proofs.Common.{rules, arith}
 use Rattle.std.proofs.lemmas.List.{append-nil}
+use Rattle.esync_pubsub.proofs.Parts.{subscribers_fit}
 use Rattle.esync_pubsub.proofs.pubsub.PubSubState.get_message_with_context.Goals as goal
 
 pub register-requires : goal.register-requires
 register-requires g c =
     let unwoken = rw (c.in-Ok-None.field-0-is, append-nil c.args.wakes.now) at c.in-Ok-None.ensures.wakes in
-    (search rules, (search rules, (omega (arith, c.try_next_message.ensures.place), rw unwoken c.requires.subscribers)))
+    (subscribers_fit g.row.T g.row.W g.row.CAP g.row.SUBS g.row.PUBS c.requires-raw.1.1.1.1.1.1.0, (c.requires-raw.1.1.1.1.1.1.1.0, (omega (arith, c.try_next_message.ensures.place), rw unwoken c.requires.subscribers)))
 
 pub returns-in-Ok-None : goal.returns-in-Ok-None
 returns-in-Ok-None g c = record {
@@ -18,9 +19,6 @@ returns-in-Ok-None g c = record {
   unchanged = search rules;
   unwoken = search rules;
 }
-
-pub try_next_message-requires : goal.try_next_message-requires
-try_next_message-requires g c = (search rules, (search rules, (c.requires.live, c.requires.publishers)))
 
 pub returns-in-Ok-Some : goal.returns-in-Ok-Some
 returns-in-Ok-Some g c = record {

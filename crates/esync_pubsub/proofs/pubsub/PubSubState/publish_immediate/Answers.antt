@@ -1,5 +1,6 @@
 use Rattle.std.proofs.Common.{refl, sym}
 use Rattle.std.proofs.lemmas.List.{append-nil}
+use Rattle.esync_pubsub.proofs.Parts.{log_fits}
 use Rattle.esync_pubsub.proofs.pubsub.PubSubState.publish_immediate.Goals as goal
 
 pub returns-in-Ok : goal.returns-in-Ok
@@ -15,3 +16,6 @@ returns-in-Err g c = record {
   rest = rw (← c.self.view_is) refl;
   wakes = sym (append-nil c.args.wakes.now);
 }
+
+pub has_subscribers-has_subscribers-requires : goal.has_subscribers-has_subscribers-requires
+has_subscribers-has_subscribers-requires g c = log_fits g.row.T g.row.W g.row.CAP g.row.SUBS g.row.PUBS c.requires-raw.1.1.1.1.1.1.0

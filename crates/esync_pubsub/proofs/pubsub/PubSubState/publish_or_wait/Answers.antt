@@ -1,11 +1,12 @@
 use Rattle.std.proofs.Common.{rules}
 use Rattle.std.proofs.lemmas.List.{append-nil}
+use Rattle.esync_pubsub.proofs.Parts.{publishers_fit}
 use Rattle.esync_pubsub.proofs.pubsub.PubSubState.publish_or_wait.Goals as goal
 
 pub register-requires : goal.register-requires
 register-requires g c =
     let unwoken = rw (c.in-Err-Full.field-0-is, append-nil c.args.wakes.now) at c.in-Err-Full.ensures.wakes in
-    (search rules, (search rules, (c.requires.place, rw unwoken c.requires.publishers)))
+    (publishers_fit g.row.T g.row.W g.row.CAP g.row.SUBS g.row.PUBS c.requires-raw.1.1.1.1.1.1.0, (c.requires-raw.1.1.1.1.1.1.1.0, (c.requires.place, rw unwoken c.requires.publishers)))
 
 pub returns-in-Err-Full : goal.returns-in-Err-Full
 returns-in-Err-Full g c = record {

@@ -1,4 +1,5 @@
-use Rattle.std.proofs.Common.{rules, refl, sym}
+use Rattle.esync_pubsub.proofs.Parts.{subscribers_fit}
+use Rattle.std.proofs.Common.{refl, sym}
 use Rattle.std.proofs.lemmas.List.{append-nil}
 use Rattle.esync_pubsub.proofs.pubsub.PubSubState.tell_news.Goals as goal
 
@@ -9,7 +10,7 @@ returns-else-has_subscribers g c = record {
 }
 
 pub wake-requires : goal.wake-requires
-wake-requires g c = (search rules, (search rules, c.requires))
+wake-requires g c = (subscribers_fit g.row.T g.row.W g.row.CAP g.row.SUBS g.row.PUBS c.requires-raw.1.1.1.1.1.1.0, (c.requires-raw.1.1.1.1.1.1.1.0, c.requires))
 
 pub returns-then-has_subscribers : goal.returns-then-has_subscribers
 returns-then-has_subscribers g c = record {

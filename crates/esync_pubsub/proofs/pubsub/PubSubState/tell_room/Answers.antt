@@ -1,4 +1,5 @@
-use Rattle.std.proofs.Common.{◌≡◌, Bool, true, false, [], length, rules, refl, sym, ap, ◌∙◌}
+use Rattle.esync_pubsub.proofs.Parts.{publishers_fit}
+use Rattle.std.proofs.Common.{◌≡◌, Bool, true, false, [], length, refl, sym, ap, ◌∙◌}
 use Rattle.std.specs.Prelude.{nat_lt}
 use Rattle.std.proofs.lemmas.List.{append-nil}
 use Rattle.esync_pubsub.specs.PubSub.{Lists, lists_after_room, wakes_of_room}
@@ -31,7 +32,7 @@ returns-else-has_freed g c =
     }
 
 pub wake-requires : goal.wake-requires
-wake-requires g c = (search rules, (search rules, c.requires))
+wake-requires g c = (publishers_fit g.row.T g.row.W g.row.CAP g.row.SUBS g.row.PUBS c.requires-raw.1.1.1.1.1.1.0, (c.requires-raw.1.1.1.1.1.1.1.0, c.requires))
 
 pub returns-then-has_freed : goal.returns-then-has_freed
 returns-then-has_freed g c =
@@ -40,3 +41,9 @@ returns-then-has_freed g c =
       state = rw (freed, ← c.self.view_is, c.wake.ensures.emptied) refl;
       wakes = rw (freed, ← c.self.view_is) c.wake.ensures.handed_out;
     }
+
+pub is_empty-requires : goal.is_empty-requires
+is_empty-requires g c = publishers_fit g.row.T g.row.W g.row.CAP g.row.SUBS g.row.PUBS c.requires-raw.1.1.1.1.1.1.0
+
+pub has_freed-requires : goal.has_freed-requires
+has_freed-requires g c = c.requires-raw.1.1.1.1.1.1.0

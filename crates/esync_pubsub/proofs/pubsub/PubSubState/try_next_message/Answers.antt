@@ -1,13 +1,11 @@
 use Rattle.std.proofs.Common.{Some, rules, refl, sym, subst}
 use Rattle.std.proofs.lemmas.List.{append-nil}
 use Rattle.esync_log.specs.Log.{Reads}
+use Rattle.esync_pubsub.proofs.Parts.{log_fits}
 use Rattle.esync_pubsub.proofs.pubsub.PubSubState.try_next_message.Goals as goal
 
 pub read-requires : goal.read-requires
-read-requires g c = (search rules, rw (← c.self.view_is, ← c.id.view_is) at c.requires.live)
-
-pub tell_room-requires : goal.tell_room-requires
-tell_room-requires g c = (search rules, (search rules, c.requires.room))
+read-requires g c = (log_fits g.row.T g.row.W g.row.CAP g.row.SUBS g.row.PUBS c.requires-raw.1.1.1.1.1.1.0, rw (← c.self.view_is, ← c.id.view_is) at c.requires.live)
 
 pub returns-in-Ok-Some : goal.returns-in-Ok-Some
 returns-in-Ok-Some g c = record {
@@ -45,3 +43,6 @@ returns-in-Err g c = record {
   unchanged = rw (← c.self.view_is, c.in-Err.ensures.err) refl;
   unwoken = refl;
 }
+
+pub len-held-requires : goal.len-held-requires
+len-held-requires g c = log_fits g.row.T g.row.W g.row.CAP g.row.SUBS g.row.PUBS c.requires-raw.1.1.1.1.1.1.0

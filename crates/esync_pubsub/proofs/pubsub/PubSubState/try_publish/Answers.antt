@@ -1,4 +1,5 @@
 use Rattle.std.proofs.Common.{refl}
+use Rattle.esync_pubsub.proofs.Parts.{log_fits}
 use Rattle.esync_pubsub.proofs.pubsub.PubSubState.try_publish.Goals as goal
 
 pub returns-in-Ok : goal.returns-in-Ok
@@ -7,3 +8,6 @@ returns-in-Ok g c = record {
   rest = rw (c.tell_news.ensures.state, c.has_subscribers-has_subscribers.ensures, ← c.self.view_is) refl;
   wakes = rw (← c.self.view_is) (rw c.has_subscribers-has_subscribers.ensures at c.tell_news.ensures.wakes);
 }
+
+pub has_subscribers-has_subscribers-requires : goal.has_subscribers-has_subscribers-requires
+has_subscribers-has_subscribers-requires g c = log_fits g.row.T g.row.W g.row.CAP g.row.SUBS g.row.PUBS c.requires-raw.1.1.1.1.1.1.0

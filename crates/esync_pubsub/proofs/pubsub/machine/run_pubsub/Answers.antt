@@ -31,3 +31,6 @@ returns g c =
           c.run.ensures.run);
       refused = c.run.ensures.refused;
     }
+
+pub state-requires : goal.state-requires
+state-requires g c = c.requires-raw.1.1.1.1.1.1.1.1.0

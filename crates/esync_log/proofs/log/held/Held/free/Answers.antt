@@ -1,4 +1,4 @@
-use Rattle.std.proofs.Common.{rules, ◌<◌, ◌+◌, ◌≡◌, ◌∙◌, refl, ap, drop, arith}
+use Rattle.std.proofs.Common.{◌<◌, ◌+◌, ◌≡◌, ◌∙◌, refl, ap, drop, arith}
 use Rattle.std.proofs.lemmas.List.{length-drop, drop-drop}
 use Rattle.esync_log.specs.Counts.{unread}
 use Rattle.esync_log.proofs.Counted.{unread_front}
@@ -18,10 +18,10 @@ loop-message-preserved g c =
     )
 
 pub len-message-end-requires : goal.len-message-end-requires
-len-message-end-requires g c = search rules
+len-message-end-requires g c = c.requires-raw.1.1
 
 pub is_unread-requires : goal.is_unread-requires
-is_unread-requires g c = search rules
+is_unread-requires g c = c.requires-raw.1.1
 
 pub pop-requires : goal.pop-requires
-pop-requires g c = search rules
+pop-requires g c = c.requires-raw.1.1

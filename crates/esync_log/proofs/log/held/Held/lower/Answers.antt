@@ -1,5 +1,6 @@
 use Rattle.std.proofs.Common.{rules, length, arith}
 use Rattle.esync_log.proofs.Beside.{count_at, count_lower}
+use Rattle.esync_log.proofs.Parts.{messages_fit}
 use Rattle.esync_log.proofs.log.held.Held.lower.Goals as goal
 
 pub overflow_sub-readers : goal.overflow_sub-readers
@@ -20,7 +21,7 @@ returns g c = record {
 }
 
 pub slot_of-place-requires : goal.slot_of-place-requires
-slot_of-place-requires g c = search rules
+slot_of-place-requires g c = (messages_fit g.row.T g.row.N c.requires-raw.1.1.0, rw (← c.self.view_is) at c.requires.place)
 
 pub get-readers-requires : goal.get-readers-requires
 get-readers-requires g c = search rules

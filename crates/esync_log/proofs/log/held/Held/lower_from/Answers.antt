@@ -1,4 +1,4 @@
-use Rattle.std.proofs.Common.{rules, ◌-◌, ◌<◌, ◌∙◌, length, arith}
+use Rattle.std.proofs.Common.{◌-◌, ◌<◌, ◌∙◌, length, arith}
 use Rattle.std.specs.Prelude.{slice_index}
 use Rattle.std.proofs.lemmas.List.{length-set}
 use Rattle.esync_log.proofs.Counted.{lowered_before, lowered_behind, lowered_rest}
@@ -24,7 +24,7 @@ loop-i-preserved g c =
     )
 
 pub len-i-end-requires : goal.len-i-end-requires
-len-i-end-requires g c = search rules
+len-i-end-requires g c = c.requires-raw.1.1.0
 
 pub lower-requires : goal.lower-requires
 lower-requires g c =
@@ -32,4 +32,4 @@ lower-requires g c =
     let i = c.loop-i.i in
     let start = c.loop-i.auto.i in
     let below : i < length c.args.self.now.messages = omega (arith, c.len-i-end.ensures.value, c.loop-i-test.true) in
-    (search rules, (rw v.0 below, rw (v.4 i (omega arith)) (c.requires i start below)))
+    (c.requires-raw.1.1.0, (rw v.0 below, rw (v.4 i (omega arith)) (c.requires i start below)))

@@ -1,5 +1,6 @@
 use Rattle.std.proofs.Common.{rules, ◌<◌, length, arith}
 use Rattle.esync_log.proofs.Beside.{count_push}
+use Rattle.esync_log.proofs.Parts.{messages_fit}
 use Rattle.esync_log.proofs.log.held.Held.push.Goals as goal
 
 pub returns : goal.returns
@@ -15,7 +16,7 @@ returns g c = record {
 }
 
 pub slot_of_next-place-requires : goal.slot_of_next-place-requires
-slot_of_next-place-requires g c = search rules
+slot_of_next-place-requires g c = messages_fit g.row.T g.row.N c.requires-raw.1.1.0
 
 pub push_back-requires : goal.push_back-requires
 push_back-requires g c = search rules

@@ -4,4 +4,4 @@ use Rattle.esync_pubsub.proofs.pubsub.shared.PubSubStateLogState.leave.Goals as 
 
 pub leave-requires : goal.leave-requires
 leave-requires g c =
-    (search rules, (search rules, (search rules, room_publishers g.row.SUBS g.row.PUBS g.row.K c.args.wakes.now c.requires.room c.requires.empty)))
+    (c.requires-raw.1.1.1.1.1.1.0, (c.requires-raw.1.1.1.1.1.1.1.0, (search rules, room_publishers g.row.SUBS g.row.PUBS g.row.K c.args.wakes.now c.requires.room c.requires.empty)))

@@ -5,7 +5,7 @@ use Rattle.esync_pubsub.proofs.pubsub.shared.PubSubStateLogState.poll_message.Go
 
 pub get_message_with_context-requires : goal.get_message_with_context-requires
 get_message_with_context-requires g c =
-    (search rules, (search rules, (search rules, (room_subscribers g.row.SUBS g.row.PUBS g.row.K c.args.wakes.now c.requires.room c.requires.empty, room_publishers g.row.SUBS g.row.PUBS g.row.K c.args.wakes.now c.requires.room c.requires.empty))))
+    (c.requires-raw.1.1.1.1.1.1.0, (c.requires-raw.1.1.1.1.1.1.1.0, (search rules, (room_subscribers g.row.SUBS g.row.PUBS g.row.K c.args.wakes.now c.requires.room c.requires.empty, room_publishers g.row.SUBS g.row.PUBS g.row.K c.args.wakes.now c.requires.room c.requires.empty))))
 
 pub returns : goal.returns
 returns g c =

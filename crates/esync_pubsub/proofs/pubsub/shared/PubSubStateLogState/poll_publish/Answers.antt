@@ -1,10 +1,10 @@
-use Rattle.std.proofs.Common.{◌<◌, refl, sym, ◌∙◌, rules, arith}
+use Rattle.std.proofs.Common.{◌<◌, refl, sym, ◌∙◌, arith}
 use Rattle.esync_pubsub.proofs.Shared.{room_subscribers, room_publishers, still_there, counted, uncounted, polling_publish, waiting_publish}
 use Rattle.esync_pubsub.proofs.pubsub.shared.PubSubStateLogState.poll_publish.Goals as goal
 
 pub poll_state-requires : goal.poll_state-requires
 poll_state-requires g c =
-    (search rules, (search rules, (room_subscribers g.row.SUBS g.row.PUBS g.row.K c.args.wakes.now c.requires.room c.requires.empty, (omega (arith, c.publishers.ensures.within, c.if-publishers-eq0.false), (room_publishers g.row.SUBS g.row.PUBS g.row.K c.args.wakes.now c.requires.room c.requires.empty, c.requires.unfinished)))))
+    (c.requires-raw.1.1.1.1.1.1.0, (c.requires-raw.1.1.1.1.1.1.1.0, (room_subscribers g.row.SUBS g.row.PUBS g.row.K c.args.wakes.now c.requires.room c.requires.empty, (omega (arith, c.publishers.ensures.within, c.if-publishers-eq0.false), (room_publishers g.row.SUBS g.row.PUBS g.row.K c.args.wakes.now c.requires.room c.requires.empty, c.requires.unfinished)))))
 
 pub returns-then-publishers-eq0 : goal.returns-then-publishers-eq0
 returns-then-publishers-eq0 g c = record {
