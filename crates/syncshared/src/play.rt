@@ -1,6 +1,6 @@
 //! Plays a script over the shared form of the primitive that its first line names.
 use crate::over;
-use esync_forms::form::{Doors, Form, Places, turn};
+use esync_forms::form::{Doors, Form, NUMBERS, Places, turn};
 use esync_machine::primitive::Command;
 use esync_notes::Notes;
 use esync_priority::prio::{Max, Min};
@@ -9,11 +9,14 @@ use esync_words::fault::Fault;
 use esync_words::lines::LONGEST;
 use esync_words::play::Opens;
 use esync_words::printing::print_reply;
-use esync_words::vocabulary::{Vocabulary, read_command};
+use esync_words::vocabulary::{REQS, Vocabulary, read_command};
 use esync_words::words::Words;
 use std::alloc::Global;
 use std::io::Write;
 use std::sync::Wait;
+
+// A form has as many numbers as a script.
+const _: () = prove!(NUMBERS == REQS);
 
 /// The lines of a script that are left, with their numbers.
 #[derive(Drop)]
