@@ -1,7 +1,8 @@
 -- The entries of a queue.
-use Rattle.std.proofs.Common.{◌≡◌, ℕ, zero, suc, ◌+◌, ◌<◌, Bool, true, false, List, [], ◌∷◌, ◌++◌, length, get_or, take, drop, refl, sym, ◌∙◌, ap, subst, arith, add-one, inl, inr}
-use Rattle.std.specs.Prelude.{◌==◌, ◌||◌, map, slice_get, slice_set, Some, None, IsTrue, ◌↔◌, if◌then◌else◌}
+use Rattle.std.proofs.Common.{◌≡◌, ℕ, zero, suc, ◌+◌, ◌<◌, ◌≤◌, Bool, true, false, List, [], ◌∷◌, ◌++◌, length, take, drop, refl, sym, ◌∙◌, ap, subst, arith, add-one, inl, inr}
+use Rattle.std.specs.Prelude.{◌==◌, map, slice_get, slice_set, Some, None, IsTrue, ◌↔◌, if◌then◌else◌}
 use Rattle.std.specs.List.{remove}
+use Rattle.std.proofs.lemmas.List.{length-append}
 use Rattle.esync_permits.specs.declared.queue.Entry.{Entry}
 use Rattle.esync_base.specs.Listed.{is_in}
 use Rattle.esync_permits.specs.Queue.{without, is_front, is_next, numbers, wakers_at, front_wakers, entered, with_waker, left_by, StandsAt}
@@ -66,6 +67,9 @@ module _ {W : Type 0} where
   set-split t w (x ∷ xs) ys e f h = (let o = neither (x.number == t) (is_in t (numbers xs)) f in rw o.0 (ap (λ zs. x ∷ zs) (set-split t w xs ys e o.1 h)))
 
   module _ (t i : ℕ) (es : List (Entry W)) (s : StandsAt t i es) where
+    pub stands-below : i < length es
+    stands-below = let l : length es ≡ length s.before + length (s.entry ∷ s.behind) = ap length s.split ∙ length-append s.before (s.entry ∷ s.behind) in omega (arith, l, s.count)
+
     pub stands-remove : remove es i ≡ left_by t es
     stands-remove = rw (← s.count, s.split) (remove-split t s.before s.behind s.entry s.first s.number)
 
@@ -96,6 +100,17 @@ module _ {W : Type 0} where
   count_at [] i e h = absurd cc
   count_at (x ∷ es) zero e h = refl
   count_at (x ∷ es) (suc i) e h = ap suc (count_at es i e h)
+
+  -- the waker at a place
+  pub waker_at : (i : ℕ) (es : List (Entry W)) (e : Entry W) → Some e ≡ slice_get es i → Some e.waker ≡ slice_get (map (λ x. x.waker) es) i
+  waker_at i [] e h = absurd cc
+  waker_at zero (x ∷ es) e h = (let s : e ≡ x = cc in ap (λ (y : Entry W). Some y.waker) s)
+  waker_at (suc i) (x ∷ es) e h = waker_at i es e h
+
+  pub no_waker_at : (i : ℕ) (es : List (Entry W)) → length es ≤ i → None ≡ slice_get (map (λ x. x.waker) es) i
+  no_waker_at i [] h = refl
+  no_waker_at zero (x ∷ es) h = absurd (omega (arith, h))
+  no_waker_at (suc i) (x ∷ es) h = no_waker_at i es (omega (arith, h))
 
   pub stands_found : (t i : ℕ) (es : List (Entry W)) (e : Entry W) → Some e ≡ slice_get es i → is_in t (numbers (take i es)) ≡ false → e.number ≡ t → StandsAt t i es
   stands_found t i es e h f n = record { before = take i es; entry = e; behind = drop (suc i) es; split = split_at es i e h; count = count_at es i e h; first = f; number = n }

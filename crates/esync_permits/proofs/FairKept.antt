@@ -1,6 +1,6 @@
 -- What the steps of a fair semaphore keep for its requests, and what they are in its object.
 use Rattle.std.proofs.Common.{◌≡◌, ℕ, ◌<◌, ◌≤◌, Bool, true, false, List, [], ◌∷◌, ◌++◌, length, nat_lt, Option, Some, None, ◌⊎◌, inl, inr, refl, sym, ◌∙◌, ap, subst, arith}
-use Rattle.std.specs.Prelude.{◌==◌, Ok, Err, IfSome, map}
+use Rattle.std.specs.Prelude.{◌==◌, Ok, Err, IfSome}
 use Rattle.std.proofs.lemmas.Bool.Decides.{nat_tests}
 use Rattle.std.proofs.lemmas.List.{length-map}
 use Rattle.esync_base.specs.Registration.{IsAmong}
@@ -11,7 +11,7 @@ use Rattle.esync_permits.specs.declared.semaphore.FairPoll.TheVariants.{Pending 
 use Rattle.esync_permits.specs.declared.semaphore.machine.PermitHeld.TheVariants.{Waiting, Releaser}
 use Rattle.esync_permits.specs.Permits.{TakesInTurn, woken_if}
 use Rattle.esync_base.specs.Listed.{is_in}
-use Rattle.esync_permits.specs.Queue.{is_front, is_next, numbers, wakers_at, front_wakers, entered, with_waker, left_by, IsLeastFree}
+use Rattle.esync_permits.specs.Queue.{is_front, is_next, numbers, wakers_at, front_wakers, entered, with_waker, left_by}
 use Rattle.esync_permits.specs.Fair.{Fair, heard, ticket_after, granted_by, OnRefusal, NamesWaiting, HasNoPlace, Queues, wakes_of_grant}
 use Rattle.esync_permits.specs.FairRules.{Held, object_of, Enters, Queued, Polls, Leaves, ticket_of, Differ, AreApart, FitsFor, OwesTicket, OwesFor, fair_wakings}
 use Rattle.esync_permits.specs.FairTurns.{answer_of, place_of}

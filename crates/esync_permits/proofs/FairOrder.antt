@@ -1,9 +1,9 @@
 -- Nobody overtakes at a fair semaphore: its queue holds who waits, in the order of the line.
 use Rattle.std.proofs.Common.{◌≡◌, ℕ, zero, suc, Bool, true, false, List, [], ◌∷◌, ◌++◌, length, Option, Some, None, inl, inr, refl, sym, ◌∙◌, ap, subst, nat_lt}
-use Rattle.std.specs.Prelude.{◌==◌, slice_get, Ok}
+use Rattle.std.specs.Prelude.{◌==◌, slice_get}
 use Rattle.std.proofs.Math.ListN.{replicate}
 use Rattle.esync_base.specs.Listed.{is_in, AreDistinct}
-use Rattle.esync_base.specs.ListedLaws.{true_or_false, neither, or_second, same_number, other_number, equal_number, same_or_not, distinct_back}
+use Rattle.esync_base.specs.ListedLaws.{true_or_false, neither, or_second, same_number, equal_number, same_or_not, distinct_back}
 use Rattle.esync_machine.specs.Runs.{GoodRun}
 use Rattle.esync_machine.specs.AccountLaws.{of_any_kind, KeepsTold, HasLaw, law_requests}
 use Rattle.esync_machine.specs.Numbers.{at_number}
@@ -14,7 +14,6 @@ use Rattle.esync_machine.specs.ObjectLaws.{EachStep}
 use Rattle.esync_machine.specs.declared.run.Reply.{Reply}
 use Rattle.esync_machine.specs.declared.primitive.Answer.{Answer}
 use Rattle.esync_machine.specs.declared.primitive.Answer.TheVariants.{Pending, NoSuch, Gives}
-use Rattle.esync_machine.specs.declared.primitive.Reach.TheVariants.{Nobody, Number, Leavers}
 use Rattle.esync_machine.specs.declared.primitive.Command.{Command}
 use Rattle.esync_machine.specs.declared.primitive.Command.TheVariants.{Start, Poll, End, Call}
 use Rattle.esync_permits.specs.Permits.{TakesInTurn}
@@ -24,7 +23,7 @@ use Rattle.esync_permits.specs.declared.semaphore.machine.PermitCall.{PermitCall
 use Rattle.esync_permits.specs.declared.semaphore.machine.PermitCall.TheVariants.{Try, Disarm, Release, Set, Permits}
 use Rattle.esync_permits.specs.declared.semaphore.machine.PermitHeard.TheVariants.{Tried}
 use Rattle.esync_permits.specs.Queue.{without, is_front, is_next}
-use Rattle.esync_permits.specs.PermitRules.{reach, releaser, Calls}
+use Rattle.esync_permits.specs.PermitRules.{releaser, Calls}
 use Rattle.esync_permits.specs.FairRules.{PermitQueue, Held, Heard, fair, fair_rules, Enters, Queued, ticket_at}
 use Rattle.esync_permits.specs.FairOrder.{line_after_poll, line_after, granted_to, granted, IsFirst, NobodyOvertakes}
 use Rattle.esync_permits.proofs.Numbers.{is_in-append, is_in-back, is_in-without}

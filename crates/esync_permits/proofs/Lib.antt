@@ -4,3 +4,4 @@ pub mod FairKept
 pub mod Handed
 pub mod Sums
 pub mod FairOrder
+mod Parts

@@ -1,5 +1,5 @@
 -- Numbers in a list.
-use Rattle.std.proofs.Common.{◌≡◌, ℕ, suc, ◌+◌, ◌<◌, ◌≤◌, Bool, true, false, List, [], ◌∷◌, ◌++◌, length, ◌⊎◌, inl, inr, refl, sym, ◌∙◌, ap, arith, below_more}
+use Rattle.std.proofs.Common.{◌≡◌, ℕ, ◌+◌, ◌<◌, ◌≤◌, true, false, List, [], ◌∷◌, ◌++◌, length, inl, inr, refl, sym, ◌∙◌, ap, arith, below_more}
 use Rattle.std.specs.Prelude.{◌==◌, ◌||◌, eqb}
 use Rattle.std.specs.List.{list_any}
 use Rattle.std.proofs.lemmas.Map.Steps.{le-length_from_below}

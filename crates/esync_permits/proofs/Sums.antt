@@ -1,5 +1,5 @@
 -- Plain commands keep the sum of the permits that are there and those of live releasers.
-use Rattle.std.proofs.Common.{◌≡◌, ℕ, zero, suc, ◌+◌, ◌-◌, ◌≤◌, Bool, true, false, List, [], ◌∷◌, length, Option, Some, None, refl, sym, ap, ◌∙◌, subst, arith}
+use Rattle.std.proofs.Common.{◌≡◌, ℕ, zero, suc, ◌+◌, ◌-◌, ◌≤◌, Bool, true, false, List, [], ◌∷◌, length, Option, Some, None, refl, ap, arith}
 use Rattle.std.specs.Prelude.{◌^◌, nat_lt, slice_get, slice_set}
 use Rattle.esync_machine.specs.Runs.{GoodRun}
 use Rattle.esync_machine.specs.AccountLaws.{told_requests}
@@ -8,9 +8,9 @@ use Rattle.esync_machine.specs.Object.{Object, written, requests_meaning}
 use Rattle.esync_machine.specs.ObjectLaws.{EachStep}
 use Rattle.esync_machine.specs.declared.run.Reply.{Reply}
 use Rattle.esync_machine.specs.declared.primitive.Answer.{Answer}
-use Rattle.esync_machine.specs.declared.primitive.Reach.TheVariants.{Nobody, Number, Leavers}
+use Rattle.esync_machine.specs.declared.primitive.Reach.TheVariants.{Nobody, Leavers}
 use Rattle.esync_machine.specs.declared.primitive.Command.{Command}
-use Rattle.esync_machine.specs.declared.primitive.Command.TheVariants.{Start, Poll, End, Call}
+use Rattle.esync_machine.specs.declared.primitive.Command.TheVariants.{Call}
 use Rattle.esync_permits.specs.Queue.{is_next}
 use Rattle.esync_permits.specs.Permits.{TakesInTurn, released}
 use Rattle.esync_permits.specs.declared.semaphore.Amount.{Amount}

@@ -51,6 +51,18 @@ pub taken_if : (n : ℕ) (o o2 : Ringed ℕ) (k : ℕ) (r : Result (List ℕ) Tr
 taken_if n o o2 k (Ok bytes) h = sym (ap not h.0)
 taken_if n o o2 k (Err e) h = sym (ap not h.0)
 
+-- whether there was room is told by the answer
+pub written_if : (n : ℕ) (o o2 : Ringed ℕ) (bytes : List ℕ) (r : Result ℕ TryWriteError) → Writes n o bytes r o2 → is_ok r ≡ not (is_full n o)
+written_if n o o2 bytes (Ok k) h = sym (ap not (not-full n o h.0))
+written_if n o o2 bytes (Err e) h = sym (ap not (full n o h.0))
+
+-- a number is above 0, and something else holds
+pub and_then : {f e : Bool} {k : ℕ} → 0 < k → f ≡ e → f ≡ (nat_lt 0 k && e)
+and_then {f} {e} {k} h is = let t : nat_lt 0 k ≡ true = grind (arith, nat_tests) in rw t is
+
+pub and_else : (f e : Bool) (k : ℕ) → k ≤ 0 → f ≡ nat_lt 0 k → f ≡ (nat_lt 0 k && e)
+and_else f e k h is = let t : nat_lt 0 k ≡ false = grind (arith, nat_tests) in let i = rw t at is in rw t i
+
 puts-full : (n : ℕ) (o : Ringed ℕ) (bytes : List ℕ) → is_full n o ≡ true → puts n o bytes ≡ 0
 puts-full n o bytes h = let e = same_number (length o.items) n h in grind (arith, nat_tests)
 

@@ -1,4 +1,4 @@
-use Rattle.std.proofs.Common.{ℕ, length, arith, subst, sym, ◌∙◌}
+use Rattle.std.proofs.Common.{arith, subst, sym, ◌∙◌}
 use Rattle.std.proofs.lemmas.List.{length-map}
 use Rattle.esync_permits.specs.Queue.{numbers, IsLeastFree}
 use Rattle.esync_permits.proofs.Numbers.{length_free}

@@ -1,4 +1,3 @@
-use Rattle.std.proofs.Common.{sym}
 use Rattle.esync_permits.proofs.Entries.{empty_next}
 use Rattle.esync_permits.proofs.queue.Queue.is_empty.Goals as goal
 

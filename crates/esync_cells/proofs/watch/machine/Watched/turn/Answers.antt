@@ -1,15 +1,16 @@
-use Rattle.std.proofs.Common.{◌≤◌, ◌+◌, ◌++◌, [], refl, None, Some, sym, ap, subst, ◌∙◌, rules, arith}
+use Rattle.std.proofs.Common.{◌≤◌, ◌+◌, ◌++◌, [], refl, None, Some, sym, ap, subst, ◌∙◌, arith}
 use Rattle.std.specs.Prelude.{Ok, Err, length}
 use Rattle.esync_base.specs.Registration.{displaced}
 use Rattle.esync_cells.specs.Watch.{Watching}
 use Rattle.esync_cells.specs.Receivers.{Followed}
 use Rattle.esync_cells.proofs.WatchKept.{marked_object, waiting_object}
+use Rattle.esync_cells.proofs.Parts.{state_fits}
 use Rattle.esync_cells.proofs.watch.machine.Watched.turn.Goals as goal
 
 pub poll_reading-requires : goal.poll_reading-requires
 poll_reading-requires g c =
     let place = c.has_place.ensures in
-    (search rules, (search rules, (place, subst (λ l. length l + g.row.N ≤ g.row.K) (sym c.requires.empty) (omega (arith, c.requires.room)))))
+    (state_fits g.row.T g.row.W g.row.C g.row.J g.row.N g.row.NAMES c.requires-raw.1.1.1.1.1.1.1.0, (c.requires-raw.1.1.1.1.1.1.1.1.0, (place, subst (λ l. length l + g.row.N ≤ g.row.K) (sym c.requires.empty) (omega (arith, c.requires.room)))))
 
 pub returns-in-Ok-Ready : goal.returns-in-Ok-Ready
 returns-in-Ok-Ready g c = record {
@@ -59,3 +60,9 @@ returns-in-Err g c = record {
       let state = rw is at c.poll_reading.ensures.state in
       rw (← c.self.view_is) (wakes ∙ ap (λ l. l ++ []) c.requires.empty, ap (λ (s : Watching _ _). s.waiters) state));
 }
+
+pub seen_at-seen-requires : goal.seen_at-seen-requires
+seen_at-seen-requires g c = c.requires-raw.1.1.1.1.1.1.1.0
+
+pub mark-requires : goal.mark-requires
+mark-requires g c = c.requires-raw.1.1.1.1.1.1.1.0

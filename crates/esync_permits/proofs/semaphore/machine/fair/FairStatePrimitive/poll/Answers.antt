@@ -1,4 +1,4 @@
-use Rattle.std.proofs.Common.{sym, ◌∙◌}
+use Rattle.std.proofs.Common.{sym, ◌∙◌, arith}
 use Rattle.esync_permits.proofs.FairKept.{polled_by, allowed_polled, exact_polled, quiet_polled, registered_polled, kept_polled, fits_own, fits_polled, apart_polled}
 use Rattle.esync_permits.proofs.semaphore.machine.fair.FairStatePrimitive.poll.Goals as goal
 
@@ -43,3 +43,6 @@ returns-clause-others g c h f d =
       fits_polled g.W.PartialEq.eq g.row.N c.args.waker c.in-Waiting.amount c.args.self.now c.poll.new.self c.poll.new.wakes c.in-Waiting.ticket c.poll.result h by f (rw c.in-Waiting.is at d),
       apart_polled g.W.PartialEq.eq g.row.N c.args.waker c.in-Waiting.amount c.args.self.now c.poll.new.self c.poll.new.wakes c.in-Waiting.ticket c.poll.result h by f (rw c.in-Waiting.is at d),
     )
+
+pub poll-requires : goal.poll-requires
+poll-requires g c = (c.requires-raw.1.1.1.0, (c.requires-raw.1.1.1.1.0, rw c.requires.empty (omega (arith, c.requires.room))))

@@ -1,0 +1,11 @@
+use Rattle.std.proofs.Common.{rules}
+use Rattle.esync_cells.proofs.watch.WatchState.send_modify.Goals as goal
+
+pub returns : goal.returns
+returns g c = record {
+  room = search rules;
+  exhausted = tt;
+  state = rw (← c.self.view_is, ← c.apply.ensures.value) c.tell.ensures.state;
+  wakes = rw (← c.self.view_is) c.tell.ensures.wakes;
+  at_most = c.tell.ensures.at_most;
+}
