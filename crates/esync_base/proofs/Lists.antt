@@ -1,6 +1,6 @@
 -- Rows of optional items.
 use Rattle.std.proofs.Common.{◌≡◌, ℕ, zero, suc, ◌+◌, ◌-◌, ◌<◌, ◌≤◌, min, List, [], ◌∷◌, ◌++◌, length, Some, None, Option, refl, sym, ◌∙◌, ap, get_or, set, take, append_assoc, length-append, arith}
-use Rattle.std.specs.Prelude.{map, slice_get}
+use Rattle.std.specs.Prelude.{map, slice_get, Bool, false, IsTrue, ◌↔◌}
 use Rattle.std.specs.Iterator.{YieldsFirst}
 use Rattle.std.proofs.Math.ListN.{replicate}
 use Rattle.std.proofs.lemmas.List.{length_push, length-take, take_all}
@@ -95,3 +95,8 @@ hand_all us vs ws i left so_far = so_far ∙ ap (λ xs. us ++ xs) (take_all i vs
 -- so far there are no more of them
 pub hand_within : {A : Type 0} (us vs ws : List A) (i : ℕ) → ws ≡ us ++ take i vs → length ws ≡ length us + min i (length vs)
 hand_within us vs ws i so_far = ap length so_far ∙ length-append us (take i vs) ∙ ap (λ k. length us + k) (length-take i vs)
+
+-- a list that a test finds not to be empty has some
+pub some_items : {A : Type 0} (empty : Bool) (xs : List A) → IsTrue empty ↔ (xs ≡ []) → empty ≡ false → 0 < length xs
+some_items empty [] test e = absurd (let t = test.1 refl in cc)
+some_items empty (x ∷ xs) test e = omega arith

@@ -1,5 +1,5 @@
 -- What fits in memory has parts that do. A proof says so of a part outright, since a search would compute the sizes.
-use Rattle.std.proofs.Common.{◌≡◌, ℕ, ◌+◌, ◌<◌, ◌≤◌, ◌^◌}
+use Rattle.std.proofs.Common.{◌≡◌, ℕ, ◌<◌, ◌^◌}
 use mathlib.Core.Option.{some}
 use native.Mathlib.Nat.{lt_of_le_of_lt, le_trans, le-add_left}
 use denote.Param.{layout}

@@ -1,3 +1,6 @@
+use Rattle.std.proofs.Common.{◌<◌, length, arith}
+use Rattle.esync_base.proofs.Lists.{some_items}
+use Rattle.esync_base.proofs.DequeParts.{places_fit}
 use Rattle.esync_base.proofs.Rings.{pops}
 use Rattle.esync_base.proofs.deque.Deque.pop_front.Goals as goal
 
@@ -30,3 +33,9 @@ returns-clause-places g c =
     let a = c.self.inside in
     let p = pops g.row.N a.row.places a.start a.end a.full c.self.invariant c.args.self.now c.self.view_is _ _ _ (λ e. let k = c.is_empty.ensures.1 e in cc) c.take-item.ensures.item c.take-item.ensures.places c.behind-self-inside.ensures in
     rw p.leaves p.places
+
+pub take-item-requires : goal.take-item-requires
+take-item-requires g c =
+    let all : 0 < length c.args.self.now.items = some_items c.is_empty.result c.args.self.now.items c.is_empty.ensures c.if-is_empty.false in
+    let some = rw (← c.self.view_is) at all in
+    (places_fit g.row.T g.row.N c.requires-raw.1.1, omega (arith, some, c.self.invariant.fits, c.self.invariant.first))
