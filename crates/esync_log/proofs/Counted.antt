@@ -1,6 +1,6 @@
 -- Reader counts, as subscribers come, read and leave.
-use Rattle.std.proofs.Common.{◌≡◌, ℕ, zero, suc, ◌+◌, ◌-◌, ◌<◌, ◌≤◌, true, false, List, [], ◌∷◌, ◌++◌, inl, inr, length, drop, refl, sym, ◌∙◌, ap, arith, cond, not}
-use Rattle.std.specs.Prelude.{Option, Some, None, is_some, nat_lt, slice_set, slice_index, slice_index_or}
+use Rattle.std.proofs.Common.{◌≡◌, ℕ, zero, suc, ◌+◌, ◌-◌, ◌<◌, ◌≤◌, true, false, List, [], ◌∷◌, ◌++◌, inl, inr, length, drop, refl, sym, ◌∙◌, ap, arith, rules, cond, not}
+use Rattle.std.specs.Prelude.{Option, Some, None, IsTrue, ◌↔◌, ◌==◌, is_some, nat_lt, slice_set, slice_index, slice_index_or}
 use Rattle.std.specs.List.{count_by}
 use Rattle.std.proofs.lemmas.Bool.Decides.{nat_tests}
 use Rattle.std.proofs.lemmas.List.Sums.{sum_by-set, sum_by-cons}
@@ -75,6 +75,16 @@ readers_has n ps i p l e h =
 pub trimmed_none : {T : Type 0} (n : ℕ) (ps : List (Option ℕ)) (ms : List T) → (0 < length ms → 0 < readers_of n ps) → trimmed n ps ms ≡ ms
 trimmed_none n ps [] h = refl
 trimmed_none n ps (m ∷ ms) h = (let l : 0 < suc (length ms) = omega arith in rw (unread_where_some n ps (h l)) refl)
+
+-- whether anybody still reads the first
+pub unread_nobody : (cs : List ℕ) → length cs ≡ 0 → IsTrue false ↔ (0 < unread cs)
+unread_nobody [] e = search rules
+unread_nobody (c ∷ cs) e = absurd (omega (arith, e))
+
+pub unread_first : (cs : List ℕ) → 0 < length cs → IsTrue (slice_index cs 0 == 0) ↔ (0 < unread cs)
+unread_first [] l = absurd (omega (arith, l))
+unread_first (zero ∷ cs) l = search rules
+unread_first (suc c ∷ cs) l = search rules
 
 pub unread-le : (cs : List ℕ) → unread cs ≤ length cs
 unread-le [] = omega arith

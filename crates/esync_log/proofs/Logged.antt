@@ -47,6 +47,17 @@ pub live_number : (ps : List (Option ℕ)) (s : ℕ) → s ≡ count_by is_some 
 live_number ps s e h = omega (arith, e, live_counted ps h)
 
 -- what the test for room tells
+pub room_tells : (n cap : ℕ) → false ≡ not (nat_lt n cap) → n < cap
+room_tells n cap e = elim (true_or_false (nat_lt n cap)) [
+  | inl t ↦ grind (arith, nat_tests)
+  | inr t ↦ absurd (let k : false ≡ true = rw t at e in cc)
+]
+
+-- a list that has a first item
+pub has_first : {T : Type 0} (xs : List T) → slice_get xs 0 ≡ None → 0 < length xs → ⊥
+has_first [] e l = omega (arith, l)
+has_first (x ∷ xs) e l = cc
+
 pub full_tells : (n cap : ℕ) → true ≡ not (nat_lt n cap) → cap ≤ n
 full_tells n cap e = elim (true_or_false (nat_lt n cap)) [
   | inl t ↦ absurd (let k : true ≡ false = rw t at e in cc)

@@ -1,7 +1,7 @@
 use Rattle.std.proofs.Common.{◌≤◌, length, arith, sym, ap, List}
 use Rattle.std.proofs.lemmas.List.{length-drop}
 use Rattle.esync_log.specs.Log.{Log}
-use Rattle.esync_log.proofs.Logged.{log_pop, full_tells, room_none}
+use Rattle.esync_log.proofs.Logged.{log_pop, full_tells, room_tells, room_none}
 use Rattle.esync_log.proofs.Parts.{held_fits}
 use Rattle.esync_log.proofs.log.Log.make_room.Goals as goal
 
@@ -31,3 +31,6 @@ is_full-requires g c = c.requires-raw.1.1.1
 
 pub pop-requires : goal.pop-requires
 pop-requires g c = held_fits g.row.T g.row.CAP g.row.SUBS c.requires-raw.1.1.1
+
+pub returns-else-is_full-clause-room : goal.returns-else-is_full-clause-room
+returns-else-is_full-clause-room g c = room_tells (length c.args.self.now.held) g.row.CAP (rw c.if-is_full.false at c.is_full.ensures.answer)

@@ -62,3 +62,6 @@ pub put-requires : goal.put-requires
 put-requires g c =
     let at = rw (← c.self.view_is) at c.requires.live in
     (positions_fit g.row.T g.row.CAP g.row.SUBS c.requires-raw.1.1.1.0, omega (arith, place_below c.self.inside.positions.row c.args.place (ap is_some at), c.self.invariant.places))
+
+pub overflow_add-position : goal.overflow_add-position
+overflow_add-position g c = (let held = rw (← c.self.view_is) at c.requires.held in search rules)

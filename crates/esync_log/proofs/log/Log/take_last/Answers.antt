@@ -1,8 +1,8 @@
 use Rattle.std.specs.Prelude.{is_some}
 use Rattle.esync_log.specs.LogLaws.{place_below}
-use Rattle.std.proofs.Common.{◌≡◌, ◌-◌, ◌∙◌, ap, length, arith}
+use Rattle.std.proofs.Common.{◌≡◌, ◌-◌, ◌∙◌, ap, length, arith, rules}
 use Rattle.std.specs.Prelude.{slice_get}
-use Rattle.esync_log.proofs.Logged.{last_one, log_front, log_take_last, log_took_last}
+use Rattle.esync_log.proofs.Logged.{has_first, last_one, log_front, log_take_last, log_took_last}
 use Rattle.esync_log.proofs.Parts.{held_fits, positions_fit}
 use Rattle.esync_log.proofs.log.Log.take_last.Goals as goal
 
@@ -40,3 +40,12 @@ pub put-requires : goal.put-requires
 put-requires g c =
     let at = rw (← c.self.view_is) at c.requires.live in
     (positions_fit g.row.T g.row.CAP g.row.SUBS c.requires-raw.1.1.1.0, omega (arith, place_below c.self.inside.positions.row c.args.place (ap is_some at), c.self.invariant.places))
+
+pub unreachable-requires : goal.unreachable-requires
+unreachable-requires g c =
+    let from = rw (← c.self.view_is) at c.requires.from in
+    let held = rw (← c.self.view_is) at c.requires.held in
+    has_first c.self.inside.held.messages c.in_default.ensures.item (omega (arith, from, held))
+
+pub overflow_add-position : goal.overflow_add-position
+overflow_add-position g c = (let held = rw (← c.self.view_is) at c.requires.held in search rules)
