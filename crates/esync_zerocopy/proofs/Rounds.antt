@@ -2,7 +2,7 @@
 use Rattle.std.proofs.Common.{◌≡◌, ℕ, zero, suc, ◌+◌, ◌-◌, ◌<◌, ◌≤◌, [], ◌∷◌, ◌++◌, length, take, drop, refl, sym, ap, ◌∙◌, arith}
 use Rattle.esync_base.specs.Ring.{next, slot}
 use Rattle.esync_base.proofs.Places.{slot-is, slot-next, slot-round, slot-apart, next-inside, next-within}
-use Rattle.std.specs.Prelude.{Bool, true, false, Some, slice_get}
+use Rattle.std.specs.Prelude.{Bool, true, false, not, List, Option, Some, is_some, slice_get}
 use Rattle.std.specs.List.Sorted.{IsPermutation}
 use Rattle.std.proofs.Common.{inl, inr, subst}
 use Rattle.std.proofs.lemmas.List.Sorted.{IsPermutation-append_comm}
@@ -119,3 +119,8 @@ firsts_apart n f m f2 m2 r within i e e2 =
 -- two runs that lie round a ring have each of its numbers once
 pub once_of_round : (n f m f2 m2 : ℕ) (out out2 : Bool) → IsRound n f m f2 m2 → f < n → EachOnce (record { spare = ring_from n f m; held = ring_from n f2 m2; sending = out; receiving = out2 })
 once_of_round n f m f2 m2 out out2 r within = record { all = all_of_round n f m f2 m2 r within; apart = firsts_apart n f m f2 m2 r within }
+
+-- a list with a first item has some
+pub some_first : (is : List ℕ) (o : Option ℕ) (none : Bool) → o ≡ slice_get is 0 → is_some o ≡ not none → none ≡ false → 0 < length is
+some_first [] o none e f g = (let some : is_some o ≡ true = f ∙ ap not g in let h : false ≡ true = rw e at some in absurd cc)
+some_first (i ∷ is) o none e f g = omega arith
