@@ -11,7 +11,7 @@ use Rattle.esync_pubsub.specs.PubSub.{PubSub}
 use Rattle.esync_pubsub.specs.PubSubRules.{Topic, topic_of, names_it, place_at, is_subscriber, reach, Polls, Calls, poll_hands, call_hands, pubsub_rules, OwesFor}
 use Rattle.esync_pubsub.proofs.Calls.{Stays, stays_called}
 use Rattle.esync_log.specs.LogLaws.{some_number}
-use Rattle.esync_pubsub.proofs.Turns.{AreHere, here_by, polled_kept, polled_registered}
+use Rattle.esync_pubsub.proofs.Turns.{AreHere, here_by, polled_kept, polled_quiet, polled_registered}
 use Rattle.esync_pubsub.specs.declared.pubsub.machine.PubSubAsk.{PubSubAsk}
 use Rattle.esync_pubsub.specs.declared.pubsub.machine.PubSubCall.{PubSubCall}
 use Rattle.esync_pubsub.specs.declared.pubsub.machine.PubSubHeard.{PubSubHeard}
@@ -38,6 +38,9 @@ module _ {T W : Type 0} (C : T → T → Type 0) (I : T → Type 0) (cap subs pu
   module _ (ask : PubSubAsk T) (w : W) (a : Answer (PubSubHeard T)) (p : Option (PubSubAsk T)) (f : names_it ask at ≡ true) (h : Polls C I cap at ask a (topic_of s2 t) p) (e : IsHanded (unless_refused a s.lists (poll_hands eq subs pubs at s.lists ask w a)) wakes s2.lists) where
     pub turn_kept : (other : PubSubAsk T) (v : W) → OwesFor eq cap at s.lists other v → IsAmong eq v wakes ⊎ OwesFor eq cap (topic_of s2 t) s2.lists other v
     turn_kept = polled_kept C I cap eq subs pubs at s.lists w (topic_of s2 t) ask a p wakes s2.lists here f h e
+
+    pub turn_quiet : a ≡ Pending → topic_of s2 t ≡ at → IsAmong eq w wakes → ⊥
+    turn_quiet = polled_quiet C I cap eq subs pubs at s.lists w (topic_of s2 t) ask a p wakes s2.lists here f h e
 
     pub turn_registered : {Z : Type 0} (Owes : Z → PubSubAsk T → W → Type 0) (z : Z) → ((k : PubSubAsk T) → OwesFor eq cap (topic_of s2 t) s2.lists k w → Owes z k w) → ((x : W) → eq x x ≡ true) → a ≡ Pending → IsAmong eq w wakes ⊎ IsOwed Owes z p w
     turn_registered Owes z f2 same pending =

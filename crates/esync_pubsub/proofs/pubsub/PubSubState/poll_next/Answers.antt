@@ -53,3 +53,6 @@ returns-in-Ok-Pending g c =
       unchanged = search rules;
       unwoken = search rules;
     }
+
+pub returns-in-Err-clause-refused : goal.returns-in-Err-clause-refused
+returns-in-Err-clause-refused g c = c.in-Err.ensures.refused

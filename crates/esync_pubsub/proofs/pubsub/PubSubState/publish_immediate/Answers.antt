@@ -19,3 +19,6 @@ returns-in-Err g c = record {
 
 pub has_subscribers-has_subscribers-requires : goal.has_subscribers-has_subscribers-requires
 has_subscribers-has_subscribers-requires g c = log_fits g.row.T g.row.W g.row.CAP g.row.SUBS g.row.PUBS c.requires-raw.1.1.1.1.1.1.0
+
+pub publish_immediate-requires : goal.publish_immediate-requires
+publish_immediate-requires g c = log_fits g.row.T g.row.W g.row.CAP g.row.SUBS g.row.PUBS c.requires-raw.1.1.1.1.1.1.0

@@ -11,3 +11,6 @@ returns-in-Ok g c = record {
 
 pub has_subscribers-has_subscribers-requires : goal.has_subscribers-has_subscribers-requires
 has_subscribers-has_subscribers-requires g c = log_fits g.row.T g.row.W g.row.CAP g.row.SUBS g.row.PUBS c.requires-raw.1.1.1.1.1.1.0
+
+pub publish-requires : goal.publish-requires
+publish-requires g c = log_fits g.row.T g.row.W g.row.CAP g.row.SUBS g.row.PUBS c.requires-raw.1.1.1.1.1.1.0

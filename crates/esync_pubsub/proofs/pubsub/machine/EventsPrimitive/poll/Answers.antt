@@ -1,7 +1,7 @@
 use Rattle.esync_pubsub.specs.Events.{Eventing}
 use Rattle.esync_pubsub.specs.PubSubRules.{topic_of, OwesFor}
 use Rattle.esync_pubsub.specs.declared.pubsub.machine.PubSubAsk.{PubSubAsk}
-use Rattle.esync_pubsub.proofs.Machine.{turn_kept, turn_registered}
+use Rattle.esync_pubsub.proofs.Machine.{turn_kept, turn_quiet, turn_registered}
 use Rattle.esync_pubsub.proofs.pubsub.machine.EventsPrimitive.poll.Goals as goal
 
 pub returns-clause-registered : goal.returns-clause-registered
@@ -15,3 +15,8 @@ returns-clause-kept g c other v f apart o =
     let fits = rw (← c.self.view_is) at c.requires.fits in
     let owed = rw (← c.self.view_is) at o in
     turn_kept g.S.Message.Clone.is_clone g.S.Message.Clone.is_infallible g.S.LogState.places g.S.LogState.subscribers g.S.LogState.publishers g.row.NAMES g.S.Waker.PartialEq.eq (g.S.LogState.channel c.self.inside.state) (g.S.LogState.channel c.turn.new.state) c.self.inside.tables c.self.invariant c.turn.new.wakes c.args.held c.args.waker c.turn.result.answer c.turn.result.place fits c.turn.ensures.allowed c.turn.ensures.exact other v owed
+
+pub returns-clause-quiet : goal.returns-clause-quiet
+returns-clause-quiet g c itself pending same place among =
+    let fits = rw (← c.self.view_is) at c.requires.fits in
+    turn_quiet g.S.Message.Clone.is_clone g.S.Message.Clone.is_infallible g.S.LogState.places g.S.LogState.subscribers g.S.LogState.publishers g.row.NAMES g.S.Waker.PartialEq.eq (g.S.LogState.channel c.self.inside.state) (g.S.LogState.channel c.turn.new.state) c.self.inside.tables c.self.invariant c.turn.new.wakes c.args.held c.args.waker c.turn.result.answer c.turn.result.place fits c.turn.ensures.allowed c.turn.ensures.exact pending (rw (← c.self.view_is) at same) among
