@@ -10,14 +10,14 @@ use std::sync::{Mutex, MutexGuard, Wait};
 /// the value then, and nothing is said of when a thread gets the lock.
 #[derive(Drop)]
 pub struct CriticalSectionMutex<T> {
-    data: Mutex<T>,
+    value: Mutex<T>,
 }
 
 impl<T> CriticalSectionMutex<T> {
     /// The value under a lock that nobody has.
-    pub fn new(data: T) -> Self {
+    pub fn new(value: T) -> Self {
         CriticalSectionMutex {
-            data: Mutex::new(data),
+            value: Mutex::new(value),
         }
     }
 
@@ -26,7 +26,7 @@ impl<T> CriticalSectionMutex<T> {
         requires { F.IsAlwaysCallable f }
         ensures { (value : _) × F.post f value result }
     {
-        let guard = self.data.lock(rt);
+        let guard = self.value.lock(rt);
         f(&*guard)
     }
 
@@ -35,14 +35,14 @@ impl<T> CriticalSectionMutex<T> {
         requires { F.IsAlwaysCallable f }
         ensures { (before : _) × (after : _) × F.post f before result after }
     {
-        let mut guard = self.data.lock(rt);
+        let mut guard = self.value.lock(rt);
         f(&mut *guard)
     }
 
     /// Takes the lock, until the guard is dropped. The shared forms take their steps so.
     #[inline]
     pub fn guard(&self, rt: &impl Wait) -> MutexGuard<'_, T> {
-        match self.data.try_lock() {
+        match self.value.try_lock() {
             Some(guard) => guard,
             None => self.wait(rt),
         }
@@ -52,25 +52,25 @@ impl<T> CriticalSectionMutex<T> {
     #[cold]
     #[inline(never)]
     fn wait(&self, rt: &impl Wait) -> MutexGuard<'_, T> {
-        self.data.lock(rt)
+        self.value.lock(rt)
     }
 
     /// The value.
     pub fn into_inner(self) -> T {
-        let CriticalSectionMutex { data } = self;
-        data.into_inner()
+        let CriticalSectionMutex { value } = self;
+        value.into_inner()
     }
 
     /// The value, which nobody else has while it is borrowed.
     pub fn get_mut(&mut self) -> &mut T {
-        self.data.get_mut()
+        self.value.get_mut()
     }
 }
 
 /// A value with the calls of a mutex and no lock: nobody waits.
 #[derive(Drop)]
 pub struct NoopMutex<T> {
-    data: T,
+    value: T,
 }
 
 impl<T> Model for NoopMutex<T> {
@@ -78,7 +78,7 @@ impl<T> Model for NoopMutex<T> {
 
     ghost coded = { T.code };
 
-    ghost view = { λ a. a.data };
+    ghost view = { λ a. a.value };
 }
 
 impl<T> NoopMutex<T> {
@@ -90,14 +90,14 @@ impl<T> NoopMutex<T> {
     pub fn new(value: T) -> Self
         ensures { result ≡ value }
     {
-        NoopMutex { data: value }
+        NoopMutex { value }
     }
 
     /// Lends the value.
     pub fn borrow(&self) -> &T
         ensures { result.now ≡ self.now }
     {
-        &self.data
+        &self.value
     }
 
     /// Lends the value to the closure.
@@ -112,7 +112,7 @@ impl<T> NoopMutex<T> {
     pub fn into_inner(self) -> T
         ensures { result ≡ self }
     {
-        let NoopMutex { data: value } = self;
+        let NoopMutex { value } = self;
         value
     }
 
@@ -121,6 +121,6 @@ impl<T> NoopMutex<T> {
         ensures* lends { sem 𝓛 (Lends (the_row T.row) T.row self.entry result (λ value. value)) }
         ensures value { result.now ≡ self.old }
     {
-        &mut self.data
+        &mut self.value
     }
 }
