@@ -1,4 +1,4 @@
-//! Passes over a channel for many, with one subscriber or four.
+//! Passes over a pub-sub channel, with one subscriber or four.
 ghost use Rattle.std.specs.Prelude.{◌≤◌};
 
 use crate::tasks::{Turn, hand_out};

@@ -9,7 +9,7 @@ use esync_pubsub::pubsub::{
 };
 use std::alloc::{AllocError, Global};
 
-/// A channel for many, however much it holds: who comes to it.
+/// A pub-sub channel, however much it holds: who comes to it.
 pub trait Topic: PubSubBehavior<Message = u32, Waker = u64> {
     /// A subscriber, if there is a place for it.
     fn join(&self, door: Door) -> Result<Sub<'_, Self>, Error>;
@@ -35,7 +35,7 @@ impl<S: LogState<K, Message = u32, Waker = u64>, H: Hand<u64>, const K: usize> T
     }
 }
 
-/// A channel for many, with who has a number.
+/// A pub-sub channel, with who has a number.
 #[derive(Drop)]
 pub struct PubSub<'c, B: Topic> {
     channel: &'c B,

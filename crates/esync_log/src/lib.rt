@@ -1,4 +1,4 @@
-//! The log of a channel for many: messages with consecutive numbers, and how far each subscriber has read.
+//! The log of a pub-sub channel: messages with consecutive numbers, and how far each subscriber has read.
 #![tactic(auto)]
 
 pub mod log;

@@ -1,4 +1,4 @@
-//! A channel for many: whoever publishes reaches all who subscribed before.
+//! A pub-sub channel: whoever publishes reaches all who subscribed before.
 ghost use Rattle.std.specs.Prelude.{◌≡◌, ◌+◌, ◌-◌, ◌<◌, ◌≤◌, ◌++◌, ◌↔◌, IsTrue, [], None, Some, IsSome, IfSome, IfOk, OnErr, is_none, length, not, nat_lt};
 ghost use Rattle.esync_log.specs.Log.{has_subscribers, is_live, position, left, cleared, Publishes, PublishesAtOnce, lags, caught, Reads, ReadsOn, Streams, IsRefused};
 ghost use Rattle.esync_pubsub.specs.PubSub.{fresh, Subscribes, Adds, frees, lists_after_news, wakes_of_news, lists_after_room, wakes_of_room, lists_after_publish, wakes_of_publish, tried, still, lists_after_immediate, wakes_of_immediate, heard, lists_after_read, wakes_of_read, lists_after_stream, wakes_of_stream};
@@ -50,7 +50,7 @@ impl Model for SubId {
     ghost inverse = { λ n. record { place = n } };
 }
 
-/// The state of a channel for many: at most `CAP` messages, at most `SUBS` subscribers and at most `PUBS` publishers, and the wakers of
+/// The state of a pub-sub channel: at most `CAP` messages, at most `SUBS` subscribers and at most `PUBS` publishers, and the wakers of
 /// who waits for a message and of who waits for room.
 ///
 /// It holds no lock and waits for nobody. What a call hands out, it appends to the list of wakes that it is given.

@@ -205,7 +205,7 @@ fn pipe<const N: usize>() -> PipeRun<u64, N, REQS, 2>
     Requests::new(PipeState::new())
 }
 
-// A channel for many in which nobody is, with four places for subscribers, of which the first message has this number, with no request.
+// A pub-sub channel in which nobody is, with four places for subscribers, of which the first message has this number, with no request.
 fn pubsub<S: LogState<4, Message = u32, Waker = u64>>(
     first: u64,
 ) -> Requests<Events<S, REQS, 4>, REQS, 4>
@@ -399,7 +399,7 @@ fn serve_pipe<T: Telling, R: Read + Drop, W: Write>(
     )
 }
 
-// A script over a channel for many of at most `N` messages.
+// A script over a pub-sub channel of at most `N` messages.
 fn serve_log<const N: usize, T: Telling, R: Read + Drop, W: Write>(
     telling: &mut T,
     first: u64,

@@ -10,7 +10,7 @@ use esync_words::vocabulary::{Place, Vocabulary};
 use esync_words::words::Words;
 use std::io::{self, Write};
 
-/// The words of a channel of values for many.
+/// The words of a pub-sub channel.
 pub struct PubSubWords {}
 
 impl Vocabulary for PubSubWords {

@@ -217,7 +217,7 @@ pub fn pipe<R: Wait, W: Write>(
     }
 }
 
-// Over this channel for many, at which nobody is.
+// Over this pub-sub channel, at which nobody is.
 fn log<S: LogState<K, Message = u32, Waker = u64>, H: Hand<u64>, R: Wait, W: Write, const K: usize>(
     stage: Stage<'_, '_, R>,
     channel: &SharedPubSub<S, u64, H, K>,
@@ -230,7 +230,7 @@ fn log<S: LogState<K, Message = u32, Waker = u64>, H: Hand<u64>, R: Wait, W: Wri
     }
 }
 
-// Over a channel for many of at most `N` messages.
+// Over a pub-sub channel of at most `N` messages.
 fn topic<const N: usize, R: Wait, W: Write>(
     stage: Stage<'_, '_, R>,
     script: &mut Script<'_>,
@@ -245,7 +245,7 @@ fn topic<const N: usize, R: Wait, W: Write>(
     log(stage, &channel, script, output)
 }
 
-/// Over a channel for many, whose first message has the number 0: a shared channel begins nowhere else.
+/// Over a pub-sub channel, whose first message has the number 0: a shared channel begins nowhere else.
 pub fn pubsub<R: Wait, W: Write>(
     stage: Stage<'_, '_, R>,
     capacity: Capacity,

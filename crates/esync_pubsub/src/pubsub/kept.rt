@@ -1,4 +1,4 @@
-//! A channel for many that is kept as it is now.
+//! A pub-sub channel that is kept as it is now.
 use super::PubSubState;
 use esync_base::kept::Kept;
 use std::alloc::AllocError;

@@ -64,7 +64,7 @@ pub enum PubSubCall<T> {
     FreeCapacity,
 }
 
-/// What a channel for many answers.
+/// What a pub-sub channel answers.
 #[derive(Clone, Copy, Debug, PartialEq, Eq)]
 pub enum PubSubHeard<T> {
     /// The message of the request is published, or the numbers have run out.
@@ -663,7 +663,7 @@ fn perform<S: LogState<K>, const NAMES: usize, const K: usize>(
     }
 }
 
-/// A channel for many in which subscribers and publishers have numbers below `NAMES`.
+/// A pub-sub channel in which subscribers and publishers have numbers below `NAMES`.
 #[derive_where(Debug; S: fmt::Debug)]
 #[derive(Drop)]
 pub struct Events<S: LogState<K>, const NAMES: usize, const K: usize> {
@@ -817,7 +817,7 @@ fn reach<T>(call: &PubSubCall<T>) -> Reach
     }
 }
 
-/// A channel for many as a machine: at most `CAP` messages, at most `SUBS` subscribers and at most `PUBS` publishers, which have numbers
+/// A pub-sub channel as a machine: at most `CAP` messages, at most `SUBS` subscribers and at most `PUBS` publishers, which have numbers
 /// below `NAMES`, with requests at the numbers below `REQS`.
 pub type PubSubRun<
     T,
@@ -830,10 +830,10 @@ pub type PubSubRun<
     const K: usize,
 > = Requests<Events<PubSubState<T, W, CAP, SUBS, PUBS>, NAMES, K>, REQS, K>;
 
-/// The commands of a channel for many.
+/// The commands of a pub-sub channel.
 pub type PubSubCommand<T, W> = Command<PubSubAsk<T>, W, PubSubCall<T>>;
 
-/// What a channel for many answers to a command, with the wakers that it hands out.
+/// What a pub-sub channel answers to a command, with the wakers that it hands out.
 pub type PubSubReply<T, W, const K: usize> = Reply<Answer<PubSubHeard<T>>, W, K>;
 
 /// Gives the commands to the channel, one after another, as `run` does.

@@ -1,4 +1,4 @@
-//! A channel for many that tasks on several threads share by reference.
+//! A pub-sub channel that tasks on several threads share by reference.
 ghost use Rattle.std.specs.Prelude.{◌≡◌, ℕ, ◌-◌, ◌<◌, ◌≤◌, [], Some, None, IsSome, IfSome, length, max};
 ghost use Rattle.esync_pubsub.specs.PubSub.{fresh, Subscribes, Adds, still};
 ghost use Rattle.esync_pubsub.specs.Steps.{answered, to_read, Leaving, Clearing, Publishing, PublishingAtOnce, PollingPublish, ReadingNext, ReadingOn, Streaming};
@@ -412,7 +412,7 @@ pub trait PubSubBehavior {
     fn unregister_publisher(&self);
 }
 
-/// A channel for many, of at most `CAP` messages, `SUBS` subscribers and `PUBS` publishers. `K` is the room for the wakers of a step: the
+/// A pub-sub channel, of at most `CAP` messages, `SUBS` subscribers and `PUBS` publishers. `K` is the room for the wakers of a step: the
 /// greatest of `SUBS`, `PUBS` and 1.
 pub type PubSubChannel<
     T,
@@ -424,7 +424,7 @@ pub type PubSubChannel<
     const K: usize,
 > = SharedPubSub<PubSubState<T, W, CAP, SUBS, PUBS>, W, H, K>;
 
-/// A channel for many that tasks on several threads share by reference.
+/// A pub-sub channel that tasks on several threads share by reference.
 ///
 /// Each call takes the lock, takes the call of its name on the state, releases the lock, and then gives each waker that the step
 /// handed out to the hand, in order.

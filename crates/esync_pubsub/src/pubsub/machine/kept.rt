@@ -1,4 +1,4 @@
-//! A channel for many whose numbers are kept with it.
+//! A pub-sub channel whose numbers are kept with it.
 use super::{Events, LogState, Tables};
 use esync_base::kept::Kept;
 use std::alloc::AllocError;
