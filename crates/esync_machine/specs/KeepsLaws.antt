@@ -106,6 +106,7 @@ module _ {Ask Held C A : Type 0} (R : Rules Ask Held C A) where
     keeps_requests T same n = record {
       apart = start_polls;
       decided = decided;
+      ends = λ o c r e. inl e;
       gone = λ o o2 c a r allowed e live. gone o o2 c a.answer r allowed e live;
       made = λ o o2 c a r allowed live. each_step R made o o2 c a.answer allowed r live;
     }

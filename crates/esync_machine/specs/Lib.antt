@@ -9,6 +9,8 @@ pub mod RulesLaws
 pub mod Wakings
 pub mod Object
 pub mod ObjectLaws
+pub mod Free
+pub mod FreeLaws
 pub mod Served
 pub mod IdleLaws
 pub mod Tabled

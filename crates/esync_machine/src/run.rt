@@ -106,6 +106,14 @@ pub trait Keep: Awaits {
         ensures { IfOk result (λ kept. IsLike Self.semantics kept self.now) };
 }
 
+/// Ends what stands at the number, and returns the reply. No request is there then, so a poll of it names what isn't there.
+pub fn end_request<M: Awaits>(machine: &mut M, r: usize) -> M::Reply
+    ensures turn { (c : M.Command) × (M.semantics.meaning.ends c ≡ Some r) × Turn M.semantics machine.old c result machine.new }
+    ensures gone { M.semantics.meaning.IsLive (M.semantics.object machine.new) r → ⊥ }
+{
+    machine.step(M::end(r))
+}
+
 /// Gives the commands to the machine, one after another.
 ///
 /// Room for all replies is made before the first step, so a refusal has taken none. The commands are dropped.

@@ -7,7 +7,7 @@ use esync_channel::channel::machine::{
 };
 use esync_machine::primitive::{Answer, Command};
 use esync_machine::requests::Requests;
-use esync_machine::run::Awaits;
+use esync_machine::run::{Awaits, Machine, end_request};
 use esync_notes::{holds, same};
 use esync_priority::prio::Max;
 use esync_priority::priority_channel;
@@ -101,4 +101,16 @@ where
 #[test]
 fn commands_and_replies_tell_what_they_are(rt: HostRuntime) {
     tell_what_they_are::<Run>(&rt, Ask::Receive);
+}
+
+#[test]
+fn ended_request_is_gone(rt: HostRuntime) {
+    let mut machine: Run = Requests::new(ChannelState::new());
+    let start = Command::Start(1, Ask::Receive);
+    same!(rt; machine.step(start).answer, Answer::Done);
+    same!(rt; machine.step(Command::Poll(1, 4)).answer, Answer::Pending);
+    same!(rt; end_request(&mut machine, 1).answer, Answer::Done);
+    same!(rt; machine.step(Command::Poll(1, 4)).answer, Answer::NoSuch);
+    same!(rt; end_request(&mut machine, 1).answer, Answer::NoSuch);
+    same!(rt; machine.step(start).answer, Answer::Done);
 }
