@@ -1,5 +1,5 @@
 -- What commands and their answers tell of a run.
-use Rattle.std.specs.Prelude.{ℕ, List, [], ◌∷◌, Option, Some, None, ◌==◌, if◌then◌else◌}
+use Rattle.std.specs.Prelude.{ℕ, suc, List, [], ◌∷◌, Option, Some, None, ◌==◌, if◌then◌else◌}
 use Rattle.esync_machine.specs.declared.primitive.Answer.{Answer}
 use Rattle.esync_machine.specs.declared.primitive.Answer.TheVariants.{Done, Pending, NoSuch, NoMemory, Gives}
 use Rattle.esync_machine.specs.declared.primitive.Command.{Command}
@@ -23,6 +23,12 @@ module _ {Ask : Type 0} where
   abbrev pub ask_of : List (ℕ × Ask) → ℕ → Option Ask
   ask_of [] r = None
   ask_of (x ∷ asked) r = if x.0 == r then Some x.1 else ask_of asked r
+
+  -- the requests that stand at the numbers from r on, as such starts
+  abbrev pub asked_from : ℕ → List (Option Ask) → List (ℕ × Ask)
+  asked_from r [] = []
+  asked_from r (None ∷ requests) = asked_from (suc r) requests
+  asked_from r (Some ask ∷ requests) = (r, ask) ∷ asked_from (suc r) requests
 
   abbrev pub asked_if : {A : Type 0} → List (ℕ × Ask) → ℕ → Ask → Answer A → List (ℕ × Ask)
   asked_if asked r ask Done = (r, ask) ∷ asked

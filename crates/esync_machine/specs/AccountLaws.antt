@@ -1,9 +1,9 @@
 -- What each step keeps, a run keeps.
-use Rattle.std.proofs.Common.{◌≡◌, ℕ, Bool, List, [], ◌∷◌, map, Option, Some, None, inl, inr, refl, sym, ap, ◌∙◌, subst}
+use Rattle.std.proofs.Common.{◌≡◌, ℕ, zero, suc, ◌+◌, Bool, List, [], ◌∷◌, map, Option, Some, None, inl, inr, refl, sym, ap, ◌∙◌, subst, arith}
 use Rattle.std.specs.Prelude.{IfSome, slice_get}
 use Rattle.esync_machine.specs.Runs.{Meaning, Each, Step, IsRun, GoodRun}
 use Rattle.esync_base.specs.ListedLaws.{equal_number, unequal_number}
-use Rattle.esync_machine.specs.Account.{account, AtEach, ask_of, asked_after}
+use Rattle.esync_machine.specs.Account.{account, AtEach, ask_of, asked_from, asked_after}
 use Rattle.esync_machine.specs.Numbers.{at_number}
 use Rattle.esync_machine.specs.NumbersLaws.{at_of, at_set, swept_at}
 use Rattle.esync_machine.specs.Rules.{Rules, reach_of}
@@ -25,6 +25,19 @@ of_any_kind (c ∷ cs) = (tt, of_any_kind cs)
 -- what a request was started for, after a start at its number
 pub ask_of-started : {Ask : Type 0} (asked : List (ℕ × Ask)) (r : ℕ) (ask : Ask) → ask_of ((r, ask) ∷ asked) r ≡ Some ask
 ask_of-started asked r ask = rw (equal_number r r refl) refl
+
+-- what stands at a number at first was started for what it asks
+asked_there : {Ask : Type 0} (n : ℕ) (requests : List (Option Ask)) (r : ℕ) (ask : Ask) → at_number requests r ≡ Some ask → ask_of (asked_from n requests) (n + r) ≡ Some ask
+asked_there n [] r ask e = cc
+asked_there n (None ∷ requests) zero ask e = cc
+asked_there n (Some x ∷ requests) zero ask e = rw (equal_number n (n + 0) (omega arith)) e
+asked_there n (None ∷ requests) (suc r) ask e = (let s : suc n + r ≡ n + suc r = omega arith in subst (λ i. ask_of (asked_from (suc n) requests) i ≡ Some ask) s (asked_there (suc n) requests r ask e))
+asked_there n (Some x ∷ requests) (suc r) ask e =
+    let s : suc n + r ≡ n + suc r = omega arith in
+    rw (unequal_number n (n + suc r) (λ f. omega (arith, f))) (subst (λ i. ask_of (asked_from (suc n) requests) i ≡ Some ask) s (asked_there (suc n) requests r ask e))
+
+pub asked_at_first : {Ask : Type 0} (requests : List (Option Ask)) (r : ℕ) (ask : Ask) → at_number requests r ≡ Some ask → ask_of (asked_from 0 requests) r ≡ Some ask
+asked_at_first requests r ask e = (let s : 0 + r ≡ r = omega arith in subst (λ i. ask_of (asked_from 0 requests) i ≡ Some ask) s (asked_there 0 requests r ask e))
 
 -- and after a command on another number
 pub ask_of-other : {Ask W C A Held B : Type 0} (R : Rules Ask Held C B) (asked : List (ℕ × Ask)) (c : Command Ask W C) (a : Answer A) (r : ℕ) → (reach_of R c ≡ Number r → ⊥) → ask_of (asked_after asked c a) r ≡ ask_of asked r

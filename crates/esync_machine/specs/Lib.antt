@@ -16,5 +16,6 @@ pub mod IdleLaws
 pub mod Tabled
 pub mod Account
 pub mod AccountLaws
+pub mod Sizes
 pub mod Keeps
 pub mod KeepsLaws
