@@ -1,15 +1,13 @@
 -- What was written comes out, in order, and sizes add up.
 use Rattle.std.proofs.Common.{◌≡◌, ℕ, ◌+◌, ◌-◌, min, Bool, true, false, List, [], ◌++◌, length, take, drop, Option, Some, None, refl, sym, ap, ◌∙◌, subst, append_assoc, append-nil, arith, length-append}
 use Rattle.std.specs.Prelude.{Result, Ok, Err, IfSome, nat_lt}
-use Rattle.std.proofs.Math.ListN.{replicate}
 use Rattle.std.proofs.lemmas.List.{take-append-drop, drop_at}
 use Rattle.esync_base.specs.Ring.{Ringed}
 use Rattle.esync_base.specs.ListedLaws.{unequal_number}
 use Rattle.esync_machine.specs.Account.{ask_of}
-use Rattle.esync_machine.specs.AccountLaws.{of_any_kind, ask_of-started, ask_of-other, KeepsEach, keeps_each, told_requests, law_requests, IsTold, HasLaw}
+use Rattle.esync_machine.specs.AccountLaws.{of_any_kind, asked_at_first, ask_of-started, ask_of-other, KeepsEach, keeps_each, told_requests, law_requests, IsTold, HasLaw}
+use Rattle.esync_machine.specs.Sizes.{AddUp}
 use Rattle.esync_machine.specs.Runs.{GoodRun}
-use Rattle.esync_machine.specs.Numbers.{at_number}
-use Rattle.esync_machine.specs.NumbersLaws.{nothing_there}
 use Rattle.esync_machine.specs.Object.{Object, requests_meaning}
 use Rattle.esync_machine.specs.ObjectLaws.{EachStep}
 use Rattle.esync_machine.specs.Rules.{reach_of}
@@ -22,7 +20,7 @@ use Rattle.esync_machine.specs.declared.primitive.Command.{Command}
 use Rattle.esync_machine.specs.declared.primitive.Command.TheVariants.{Start, Poll, End, Call}
 use Rattle.esync_pipe.specs.Pipe.{behind, without, puts, shown, is_empty, is_full, Writes}
 use Rattle.esync_pipe.specs.PipeRules.{pipe_rules, taken, Polls, PollsWrite, PollsWriteAll, PollsRead, PollsFill, TakesOut, Fills, Consumes, Calls}
-use Rattle.esync_pipe.specs.PipeOrder.{Account, after, room_for, asked_then, asked_meanwhile, at_first, HasSizes, InOrder, SizesAddUp}
+use Rattle.esync_pipe.specs.PipeOrder.{Account, after, room_for, asked_then, asked_meanwhile, at_first, sizes_told, IsHeld, InOrder, SizesAddUp}
 use Rattle.esync_pipe.specs.declared.pipe.TryReadError.{TryReadError}
 use Rattle.esync_pipe.specs.declared.pipe.TryWriteError.{TryWriteError}
 use Rattle.esync_pipe.specs.declared.pipe.machine.PipeAsk.{PipeAsk}
@@ -161,48 +159,48 @@ module _ (W : Type 0) (n : ℕ) where
     others = λ k c a r ask ne known. then-other k c a r ne ∙ known;
   }
 
-  -- no other command tells a size
-  no_size : (k : Account) (c : Command PipeAsk W PipeCall) → HasSizes n k c NoSuch
-  no_size k (Start r ask) = tt
-  no_size k (Poll r w) = tt
-  no_size k (End r) = tt
-  no_size k (Call (TryWrite bytes)) = tt
-  no_size k (Call (TryRead count)) = tt
-  no_size k (Call TryFill) = tt
-  no_size k (Call (Consume count)) = tt
-  no_size k (Call Clear) = tt
-  no_size k (Call Len) = tt
-  no_size k (Call FreeCapacity) = tt
+  -- no answer that says that nothing changed tells a size
+  no_size : (k : Account) (c : Command PipeAsk W PipeCall) → AddUp sizes_told n IsHeld k c NoSuch
+  no_size k (Start r ask) = (tt, tt)
+  no_size k (Poll r w) = (tt, tt)
+  no_size k (End r) = (tt, tt)
+  no_size k (Call (TryWrite bytes)) = (tt, tt)
+  no_size k (Call (TryRead count)) = (tt, tt)
+  no_size k (Call TryFill) = (tt, tt)
+  no_size k (Call (Consume count)) = (tt, tt)
+  no_size k (Call Clear) = (tt, tt)
+  no_size k (Call Len) = (tt, tt)
+  no_size k (Call FreeCapacity) = (tt, tt)
 
-  size : (o o2 : Ringed ℕ) (k : Account) (call : PipeCall) (a : Answer PipeHeard) → IsInOrder o k → Calls n o call a o2 → HasSizes n {W = W} k (Call call) a
-  size o o2 k (TryWrite bytes) a order t = tt
-  size o o2 k (TryRead count) a order t = tt
-  size o o2 k TryFill a order t = tt
-  size o o2 k (Consume count) a order t = tt
-  size o o2 k Clear a order t = tt
-  size o o2 k Len a order t = rw t.0 (let l = length-told o k order in omega arith)
-  size o o2 k FreeCapacity a order t = rw t.1 (let l = length-told o k order in let f = t.2 in omega arith)
+  size : (o o2 : Ringed ℕ) (k : Account) (call : PipeCall) (a : Answer PipeHeard) → IsHeld k (length o.items) → Calls n o call a o2 → AddUp {Command = Command PipeAsk W PipeCall} sizes_told n IsHeld k (Call call) a
+  size o o2 k (TryWrite bytes) a held t = (tt, tt)
+  size o o2 k (TryRead count) a held t = (tt, tt)
+  size o o2 k TryFill a held t = (tt, tt)
+  size o o2 k (Consume count) a held t = (tt, tt)
+  size o o2 k Clear a held t = (tt, tt)
+  size o o2 k Len a held t = rw t.0 (held, tt)
+  size o o2 k FreeCapacity a held t = rw t.1 (tt, (length o.items, held, t.2))
 
-  sizes : EachStep (pipe_rules n) (HasLaw (pipe_rules n) (λ c. Unit {0}) (after n {W = W}) (IsTold (pipe_rules n) (λ c. Unit {0}) (after n {W = W}) IsInOrder IsKnown) (HasSizes n))
+  sizes : EachStep (pipe_rules n) (HasLaw (pipe_rules n) (λ c. Unit {0}) (after n {W = W}) (IsTold (pipe_rules n) (λ c. Unit {0}) (after n {W = W}) IsInOrder IsKnown) (AddUp sizes_told n IsHeld))
   sizes = record {
     refused = λ o c k kind told. no_size k c;
-    starts = λ o r ask h there begins k kind told. tt;
-    polls = λ o r w h a core p there polls k kind told. tt;
-    ends = λ o r h core there ends k kind told. tt;
+    starts = λ o r ask h there begins k kind told. (tt, tt);
+    polls = λ o r w h a core p there polls k kind told. (tt, tt);
+    ends = λ o r h core there ends k kind told. (tt, tt);
     calls = λ o call r p a core p2 reach there calls k kind told. absurd cc;
-    alone = λ o call a core p reach calls k kind told. size o.core core k call a told.core calls.0;
+    alone = λ o call a core p reach calls k kind told. size o.core core k call a (let l = length-told o.core k told.core in omega arith) calls.0;
     leaves = λ o call a core p reach calls k kind told. absurd cc;
   }
 
-  module _ (H : Wakings (Ringed ℕ) PipeAsk PipeCall PipeHeard W) (eq : W → W → Bool) (K REQS : ℕ) (o o2 : Object (Ringed ℕ) PipeAsk) (g g2 : H.Registered) (cs : List (Command PipeAsk W PipeCall)) (as' : List (Reply (Answer PipeHeard) W K)) (run : GoodRun (requests_meaning (pipe_rules n) H eq K) o g cs as' o2 g2) (free : o.requests ≡ replicate REQS None) where
-    told_first : IsTold (pipe_rules n) (λ c. Unit {0}) (after n {W = W}) IsInOrder IsKnown o (at_first n o.core.items)
+  module _ (H : Wakings (Ringed ℕ) PipeAsk PipeCall PipeHeard W) (eq : W → W → Bool) (K : ℕ) (o o2 : Object (Ringed ℕ) PipeAsk) (g g2 : H.Registered) (cs : List (Command PipeAsk W PipeCall)) (as' : List (Reply (Answer PipeHeard) W K)) (run : GoodRun (requests_meaning (pipe_rules n) H eq K) o g cs as' o2 g2) where
+    told_first : IsTold (pipe_rules n) (λ c. Unit {0}) (after n {W = W}) IsInOrder IsKnown o (at_first n o.requests o.core.items)
     told_first = record {
       core = refl;
-      here = λ r ask e. absurd (nothing_there REQS r ask (subst (λ q. at_number q r ≡ Some ask) free e));
+      here = asked_at_first o.requests;
     }
 
-    pub in_order : InOrder n o.core.items cs as' o2.core.items
-    in_order = (told_requests (pipe_rules n) (λ c. Unit {0}) (after n) H eq K (keeps_each (pipe_rules n) (λ c. Unit {0}) (after n) keeps) o o2 g g2 (at_first n o.core.items) cs as' (of_any_kind cs) run told_first).core
+    pub in_order : InOrder n o.requests o.core.items cs as' o2.core.items
+    in_order = (told_requests (pipe_rules n) (λ c. Unit {0}) (after n) H eq K (keeps_each (pipe_rules n) (λ c. Unit {0}) (after n) keeps) o o2 g g2 (at_first n o.requests o.core.items) cs as' (of_any_kind cs) run told_first).core
 
-    pub sizes_add_up : SizesAddUp n o.core.items cs as'
-    sizes_add_up = law_requests (pipe_rules n) (λ c. Unit {0}) (after n) H eq K (keeps_each (pipe_rules n) (λ c. Unit {0}) (after n) keeps) sizes o o2 g g2 (at_first n o.core.items) cs as' (of_any_kind cs) run told_first
+    pub sizes_add_up : SizesAddUp n o.requests o.core.items cs as'
+    sizes_add_up = law_requests (pipe_rules n) (λ c. Unit {0}) (after n) H eq K (keeps_each (pipe_rules n) (λ c. Unit {0}) (after n) keeps) sizes o o2 g g2 (at_first n o.requests o.core.items) cs as' (of_any_kind cs) run told_first

@@ -1,6 +1,7 @@
 -- What was written comes out, in order, and sizes add up: told of the commands and their answers alone.
 use Rattle.std.specs.Prelude.{◌≡◌, ℕ, ◌+◌, ◌-◌, min, List, [], ◌∷◌, ◌++◌, length, take, drop, Option, Some, None, Ok}
-use Rattle.esync_machine.specs.Account.{account, AtEach, ask_of, asked_after}
+use Rattle.esync_machine.specs.Account.{account, ask_of, asked_from, asked_after}
+use Rattle.esync_machine.specs.Sizes.{Sizes, SizesAddUp as AddUpInRun}
 use Rattle.esync_machine.specs.declared.run.Reply.{Reply}
 use Rattle.esync_machine.specs.declared.primitive.Answer.{Answer}
 use Rattle.esync_machine.specs.declared.primitive.Answer.TheVariants.{Done, Pending, Gives}
@@ -29,6 +30,22 @@ bytes_of (Some (WriteAll bytes)) = bytes
 bytes_of (Some (Read count)) = []
 bytes_of (Some Fill) = []
 bytes_of None = []
+
+abbrev pub held_told : {W : Type 0} → Command PipeAsk W PipeCall → Answer PipeHeard → Option ℕ
+held_told (Call Len) (Gives (Number held)) = Some held
+held_told _ _ = None
+
+abbrev pub free_told : {W : Type 0} → Command PipeAsk W PipeCall → Answer PipeHeard → Option ℕ
+free_told (Call FreeCapacity) (Gives (Number free)) = Some free
+free_told _ _ = None
+
+-- which answers tell the sizes
+abbrev pub sizes_told : {W : Type 0} → Sizes (Command PipeAsk W PipeCall) (Answer PipeHeard)
+sizes_told = record { held = held_told; free = free_told }
+
+-- so many bytes are held: those that were written and not taken
+abbrev pub IsHeld : Account → ℕ → Type 0
+IsHeld k held = held + length k.taken ≡ length k.written
 
 -- of a pipe of n places
 module _ (n : ℕ) where
@@ -76,23 +93,17 @@ module _ (n : ℕ) where
   abbrev pub after : {W : Type 0} → Account → Command PipeAsk W PipeCall → Answer PipeHeard → Account
   after k c a = record { asked = asked_then k c a; written = written_after k c a; taken = taken_after k c a }
 
-  -- what is known at first of a pipe without requests that holds these bytes
-  abbrev pub at_first : List ℕ → Account
-  at_first held = record { asked = []; written = held; taken = [] }
+  -- what is known at first of a pipe with these requests that holds these bytes
+  abbrev pub at_first : List (Option PipeAsk) → List ℕ → Account
+  at_first requests held = record { asked = asked_from 0 requests; written = held; taken = [] }
 
-  -- of a pipe without requests that holds these bytes at first, and those at last: the bytes that were taken, and then those that are
-  -- held, are those held at first and those that were written since, in order
-  abbrev pub InOrder : {W : Type 0} {K : ℕ} → List ℕ → List (Command PipeAsk W PipeCall) → List (Reply (Answer PipeHeard) W K) → List ℕ → Type 0
-  InOrder held commands replies held2 =
-      let k = account (λ k c a. after k c a.answer) (at_first held) commands replies in
+  -- of a pipe with these requests that holds these bytes at first, and those at last: the bytes that were taken, and then those that
+  -- are held, are those held at first and those that were written since, in order
+  abbrev pub InOrder : {W : Type 0} {K : ℕ} → List (Option PipeAsk) → List ℕ → List (Command PipeAsk W PipeCall) → List (Reply (Answer PipeHeard) W K) → List ℕ → Type 0
+  InOrder requests held commands replies held2 =
+      let k = account (λ k c a. after k c a.answer) (at_first requests held) commands replies in
       k.taken ++ held2 ≡ k.written
 
-  -- the length is how many bytes were written and not taken, and with the free capacity it makes up the capacity
-  abbrev pub HasSizes : {W : Type 0} → Account → Command PipeAsk W PipeCall → Answer PipeHeard → Type 0
-  HasSizes k (Call Len) (Gives (Number len)) = len + length k.taken ≡ length k.written
-  HasSizes k (Call FreeCapacity) (Gives (Number free)) = free + length k.written ≡ n + length k.taken
-  HasSizes k _ _ = Unit {0}
-
-  -- of a pipe without requests that holds these bytes at first
-  abbrev pub SizesAddUp : {W : Type 0} {K : ℕ} → List ℕ → List (Command PipeAsk W PipeCall) → List (Reply (Answer PipeHeard) W K) → Type 0
-  SizesAddUp held commands replies = AtEach (λ k c a. after k c a.answer) (λ k c a. HasSizes k c a.answer) (at_first held) commands replies
+  -- of a pipe with these requests that holds these bytes at first
+  abbrev pub SizesAddUp : {W : Type 0} {K : ℕ} → List (Option PipeAsk) → List ℕ → List (Command PipeAsk W PipeCall) → List (Reply (Answer PipeHeard) W K) → Type 0
+  SizesAddUp requests held commands replies = AddUpInRun sizes_told n IsHeld after (at_first requests held) commands replies

@@ -1,6 +1,5 @@
 //! The pipe as a machine that takes commands.
 ghost use Rattle.std.specs.Prelude.{◌≡◌, ◌<◌, ◌++◌, [], None, is_ok, length, IfOk, OnErr};
-ghost use Rattle.std.proofs.Math.ListN.{replicate};
 ghost use Rattle.esync_machine.specs.Runs.{GoodRun};
 ghost use Rattle.esync_machine.specs.Object.{Object, requests_meaning};
 ghost use Rattle.esync_machine.specs.Wakings.{IsHanded, called};
@@ -320,17 +319,17 @@ pub type PipeReply<W, const K: usize> = Reply<Answer<PipeHeard>, W, K>;
 ///
 /// Each answer is one that a list of at most `N` bytes with a place allows. No live request that last heard Pending would now be
 /// answered Ready, or write any byte, unless its waker was handed out in that poll or since. No Pending poll that changes nothing
-/// hands out its own waker. What is written comes out in order: where the machine has no requests at first, the bytes that the run
-/// read, consumed or cleared, and then those that are held, are those held at first and those that it wrote, in order. And its
-/// sizes add up: the length is the number of bytes that were written and not taken, and the free capacity what it lacks to `N`.
+/// hands out its own waker. What is written comes out in order: the bytes that the run read, consumed or cleared, and then those that
+/// are held, are those held at first and those that it wrote, in order. And its sizes add up: the length is the number of bytes that
+/// were written and not taken, and the free capacity what it lacks to `N`.
 pub fn run_pipe<W: Copy + Eq, const N: usize, const REQS: usize, const K: usize>(
     alloc: Global,
     machine: &mut PipeRun<W, N, REQS, K>,
     commands: Vec<PipeCommand<W>>,
 ) -> Result<Vec<PipeReply<W, K>>, AllocError>
     ensures run { IfOk result (λ replies. GoodRun (requests_meaning (pipe_rules N) (pipe_wakings W.eq N) W.eq K) (record { core = machine.old.state.ring; requests = machine.old.requests }) machine.old.state.slots commands.items replies.items (record { core = machine.new.state.ring; requests = machine.new.requests }) machine.new.state.slots) }
-    ensures order { IfOk result (λ replies. machine.old.requests ≡ replicate REQS None → InOrder N machine.old.state.ring.items commands.items replies.items machine.new.state.ring.items) }
-    ensures sizes { IfOk result (λ replies. machine.old.requests ≡ replicate REQS None → SizesAddUp N machine.old.state.ring.items commands.items replies.items) }
+    ensures order { IfOk result (λ replies. InOrder N machine.old.requests machine.old.state.ring.items commands.items replies.items machine.new.state.ring.items) }
+    ensures sizes { IfOk result (λ replies. SizesAddUp N machine.old.requests machine.old.state.ring.items commands.items replies.items) }
     ensures refused { OnErr result (machine.new ≡ machine.old) }
 {
     run(alloc, machine, commands)

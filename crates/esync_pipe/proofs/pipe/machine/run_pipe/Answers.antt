@@ -1,5 +1,3 @@
-use Rattle.std.proofs.Common.{◌≡◌, None}
-use Rattle.std.proofs.Math.ListN.{replicate}
 use Rattle.std.proofs.lemmas.Result.{IfOk-weaker}
 use Rattle.esync_machine.specs.Runs.{GoodRun}
 use Rattle.esync_machine.specs.Object.{requests_meaning}
@@ -14,8 +12,8 @@ returns-clause-order g c =
     let new = c.run.new.machine in
     IfOk-weaker c.run.result
     (λ replies. GoodRun (requests_meaning (pipe_rules g.row.N) (pipe_wakings g.W.PartialEq.eq g.row.N) g.W.PartialEq.eq g.row.K) (record { core = old.state.ring; requests = old.requests }) old.state.slots c.args.commands.items replies.items (record { core = new.state.ring; requests = new.requests }) new.state.slots)
-    (λ replies. old.requests ≡ replicate g.row.REQS None → InOrder g.row.N old.state.ring.items c.args.commands.items replies.items new.state.ring.items)
-    (λ replies run free. in_order _ g.row.N (pipe_wakings g.W.PartialEq.eq g.row.N) g.W.PartialEq.eq g.row.K g.row.REQS _ _ _ _ c.args.commands.items replies.items run free)
+    (λ replies. InOrder g.row.N old.requests old.state.ring.items c.args.commands.items replies.items new.state.ring.items)
+    (λ replies run. in_order _ g.row.N (pipe_wakings g.W.PartialEq.eq g.row.N) g.W.PartialEq.eq g.row.K _ _ _ _ c.args.commands.items replies.items run)
     c.run.ensures.run
 
 pub returns-clause-sizes : goal.returns-clause-sizes
@@ -24,6 +22,6 @@ returns-clause-sizes g c =
     let new = c.run.new.machine in
     IfOk-weaker c.run.result
     (λ replies. GoodRun (requests_meaning (pipe_rules g.row.N) (pipe_wakings g.W.PartialEq.eq g.row.N) g.W.PartialEq.eq g.row.K) (record { core = old.state.ring; requests = old.requests }) old.state.slots c.args.commands.items replies.items (record { core = new.state.ring; requests = new.requests }) new.state.slots)
-    (λ replies. old.requests ≡ replicate g.row.REQS None → SizesAddUp g.row.N old.state.ring.items c.args.commands.items replies.items)
-    (λ replies run free. sizes_add_up _ g.row.N (pipe_wakings g.W.PartialEq.eq g.row.N) g.W.PartialEq.eq g.row.K g.row.REQS _ _ _ _ c.args.commands.items replies.items run free)
+    (λ replies. SizesAddUp g.row.N old.requests old.state.ring.items c.args.commands.items replies.items)
+    (λ replies run. sizes_add_up _ g.row.N (pipe_wakings g.W.PartialEq.eq g.row.N) g.W.PartialEq.eq g.row.K _ _ _ _ c.args.commands.items replies.items run)
     c.run.ensures.run
