@@ -1,6 +1,6 @@
 -- What the calls of a channel keep for its requests.
 use Rattle.std.proofs.Common.{◌≡◌, ℕ, suc, Bool, true, false, List, [], length, Option, nat_lt, ◌⊎◌, inl, inr, refl, ap, subst, sym, ◌∙◌, arith}
-use Rattle.std.specs.Prelude.{Result, Ok, Err, is_ok, ◌++◌}
+use Rattle.std.specs.Prelude.{Result, Ok, Err, IfErr, is_ok, ◌++◌}
 use Rattle.std.proofs.lemmas.Bool.Decides.{nat_tests}
 use Rattle.esync_base.specs.Keeping.{Keeping}
 use Rattle.esync_base.specs.Registration.{IsAmong, registered, displaced}
@@ -8,6 +8,7 @@ use Rattle.esync_base.specs.RegistrationLaws.{kept_or_displaced, kept_or_displac
 use Rattle.esync_channel.specs.Mailbox.{Slots}
 use Rattle.esync_channel.specs.Channel.{Sends, Receives, slots_after_receive, wakes_of_receive}
 use Rattle.esync_channel.specs.declared.channel.TrySendError.{TrySendError}
+use Rattle.esync_channel.specs.declared.channel.TrySendError.TheVariants.{Full}
 use Rattle.esync_channel.specs.declared.channel.TryReceiveError.{TryReceiveError}
 use Rattle.esync_channel.specs.declared.channel.machine.ChannelAsk.{ChannelAsk}
 use Rattle.esync_channel.specs.declared.channel.machine.ChannelAsk.TheVariants.{Send, Receive, SendReady, ReceiveReady}
@@ -25,6 +26,11 @@ module _ {T : Type 0} (k : Keeping T) where
   pub sent_if : (held held2 : List T) (message : T) (r : Result (Unit {0}) (TrySendError T)) → Sends k held message r held2 → is_ok r ≡ has_room k held
   sent_if held held2 message (Ok done) h = (let below = h.0 in grind (arith, nat_tests))
   sent_if held held2 message (Err e) h = (let past = h.0 in grind (arith, nat_tests))
+
+  -- a message that isn't sent comes back
+  pub comes_back : (held held2 : List T) (message : T) (r : Result (Unit {0}) (TrySendError T)) → Sends k held message r held2 → IfErr r (λ error. error ≡ Full message)
+  comes_back held held2 message (Ok done) h = tt
+  comes_back held held2 message (Err e) h = h.1
 
   pub taken_if : (held held2 : List T) (message : T) → k.Takes held message held2 → has_message k held ≡ true
   taken_if held held2 message h = (let one = k.one_less held held2 message h in grind (arith, nat_tests))

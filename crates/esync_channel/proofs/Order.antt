@@ -1,20 +1,16 @@
 -- What was sent comes out, in order.
-use Rattle.std.proofs.Common.{◌≡◌, ℕ, Bool, true, false, List, [], ◌∷◌, ◌++◌, Option, Some, None, refl, sym, ap, ◌∙◌, subst, append_assoc, append-nil}
+use Rattle.std.proofs.Common.{◌≡◌, ℕ, Bool, true, false, List, [], ◌∷◌, ◌++◌, Option, Some, refl, sym, ap, ◌∙◌, append_assoc, append-nil}
 use Rattle.std.specs.Prelude.{Result, Ok, Err, IfSome}
-use Rattle.std.proofs.Math.ListN.{replicate}
 use Rattle.esync_base.specs.Keeping.{BoundedList}
-use Rattle.esync_machine.specs.AccountLaws.{of_any_kind, ask_of-started, ask_of-other, KeepsEach, keeps_each, told_requests}
-use Rattle.esync_machine.specs.Account.{ask_of}
+use Rattle.esync_machine.specs.AccountLaws.{of_any_kind, asked_at_first, ask_of-started, ask_of-other, KeepsEach, keeps_each, told_requests}
 use Rattle.esync_machine.specs.Runs.{GoodRun}
-use Rattle.esync_machine.specs.Numbers.{at_number}
-use Rattle.esync_machine.specs.NumbersLaws.{nothing_there}
 use Rattle.esync_machine.specs.Object.{Object, requests_meaning}
 use Rattle.esync_machine.specs.Wakings.{Wakings}
 use Rattle.esync_machine.specs.declared.run.Reply.{Reply}
 use Rattle.esync_machine.specs.declared.primitive.Answer.{Answer}
-use Rattle.esync_machine.specs.declared.primitive.Answer.TheVariants.{NoSuch, Gives}
+use Rattle.esync_machine.specs.declared.primitive.Answer.TheVariants.{Gives}
 use Rattle.esync_machine.specs.declared.primitive.Command.{Command}
-use Rattle.esync_machine.specs.declared.primitive.Command.TheVariants.{Start, Poll, End, Call}
+use Rattle.esync_machine.specs.declared.primitive.Command.TheVariants.{Poll, Call}
 use Rattle.esync_channel.specs.Channel.{Sends, Receives}
 use Rattle.esync_channel.specs.declared.channel.TrySendError.{TrySendError}
 use Rattle.esync_channel.specs.declared.channel.TryReceiveError.{TryReceiveError}
@@ -25,16 +21,13 @@ use Rattle.esync_channel.specs.declared.channel.machine.ChannelCall.TheVariants.
 use Rattle.esync_channel.specs.declared.channel.machine.ChannelHeard.{ChannelHeard}
 use Rattle.esync_channel.specs.declared.channel.machine.ChannelHeard.TheVariants.{TrySent, TryReceived}
 use Rattle.esync_channel.specs.ChannelRules.{channel_rules, Waits, Polls, PollsSend, PollsReceive, PollsReady, Calls, has_room, has_message}
-use Rattle.esync_channel.specs.Order.{Account, sent_by, after, InOrder}
+use Rattle.esync_channel.specs.Order.{Account, sent_by, after, at_first, InOrder}
+use Rattle.esync_channel.specs.SizesLaws.{IsKnown, nothing_after}
 
 module _ {T : Type 0} where
   -- the messages that are held are those that were sent and not taken
   abbrev IsInOrder : List T → Account T → Type 0
   IsInOrder held k = k.taken ++ held ≡ k.accepted
-
-  -- the account has what the request is for
-  abbrev IsKnown : Account T → ℕ → ChannelAsk T → Type 0
-  IsKnown k r ask = ask_of k.asked r ≡ Some ask
 
   one_sent : (held held2 : List T) (k : Account T) (message : T) → held2 ≡ held ++ message ∷ [] → IsInOrder held k → k.taken ++ held2 ≡ k.accepted ++ message ∷ []
   one_sent held held2 k message puts order = ap (λ l. k.taken ++ l) puts ∙ sym (append_assoc k.taken held (message ∷ [])) ∙ ap (λ l. l ++ message ∷ []) order
@@ -46,16 +39,6 @@ module _ {T : Type 0} where
   same_held held held2 k e order = ap (λ l. k.taken ++ l) e ∙ order
 
 module _ {T : Type 0} (W : Type 0) (n : ℕ) where
-  refused : (k : Account T) (c : Command (ChannelAsk T) W (ChannelCall T)) → after k c NoSuch ≡ k
-  refused k (Start r ask) = refl
-  refused k (Poll r w) = refl
-  refused k (End r) = refl
-  refused k (Call (TrySend message)) = refl
-  refused k (Call TryReceive) = refl
-  refused k (Call Clear) = refl
-  refused k (Call Len) = refl
-  refused k (Call FreeCapacity) = refl
-
   -- what a poll keeps
   abbrev Polled : Account T → ℕ → W → Answer (ChannelHeard T) → List T → Option (ChannelAsk T) → Type 0
   Polled k r w a held2 p =
@@ -102,7 +85,7 @@ module _ {T : Type 0} (W : Type 0) (n : ℕ) where
 
   keeps : KeepsEach (channel_rules (BoundedList T n)) (λ c. Unit {0}) (after {W = W}) IsInOrder IsKnown
   keeps = record {
-    refused = refused;
+    refused = nothing_after;
     starts = λ held k r ask h begins order. (order, ask_of-started k.asked r ask ∙ sym begins);
     polls = λ held held2 k r w ask a p t order known. polled held held2 k order r w a p ask known t;
     ends = λ held held2 k r ask e order known. same_held held held2 k e order;
@@ -111,9 +94,9 @@ module _ {T : Type 0} (W : Type 0) (n : ℕ) where
     others = λ k c a r ask ne known. ask_of-other (channel_rules (BoundedList T n)) k.asked c a r ne ∙ known;
   }
 
-  pub in_order : (H : Wakings (List T) (ChannelAsk T) (ChannelCall T) (ChannelHeard T) W) (eq : W → W → Bool) (K REQS : ℕ) (o o2 : Object (List T) (ChannelAsk T)) (g g2 : H.Registered) (cs : List (Command (ChannelAsk T) W (ChannelCall T))) (as' : List (Reply (Answer (ChannelHeard T)) W K)) → GoodRun (requests_meaning (channel_rules (BoundedList T n)) H eq K) o g cs as' o2 g2 → o.requests ≡ replicate REQS None → InOrder o.core cs as' o2.core
-  in_order H eq K REQS o o2 g g2 cs as' run free =
-      (told_requests (channel_rules (BoundedList T n)) (λ c. Unit {0}) after H eq K (keeps_each (channel_rules (BoundedList T n)) (λ c. Unit {0}) after keeps) o o2 g g2 (record { asked = []; accepted = o.core; taken = [] }) cs as' (of_any_kind cs) run (record {
+  pub in_order : (H : Wakings (List T) (ChannelAsk T) (ChannelCall T) (ChannelHeard T) W) (eq : W → W → Bool) (K : ℕ) (o o2 : Object (List T) (ChannelAsk T)) (g g2 : H.Registered) (cs : List (Command (ChannelAsk T) W (ChannelCall T))) (as' : List (Reply (Answer (ChannelHeard T)) W K)) → GoodRun (requests_meaning (channel_rules (BoundedList T n)) H eq K) o g cs as' o2 g2 → InOrder o.requests o.core cs as' o2.core
+  in_order H eq K o o2 g g2 cs as' run =
+      (told_requests (channel_rules (BoundedList T n)) (λ c. Unit {0}) after H eq K (keeps_each (channel_rules (BoundedList T n)) (λ c. Unit {0}) after keeps) o o2 g g2 (at_first o.requests o.core) cs as' (of_any_kind cs) run (record {
         core = refl;
-        here = λ r ask e. absurd (nothing_there REQS r ask (subst (λ q. at_number q r ≡ Some ask) free e));
+        here = asked_at_first o.requests;
       })).core

@@ -4,3 +4,5 @@ pub mod Polls
 pub mod ChannelRules
 pub mod ChannelLaws
 pub mod Order
+pub mod Sizes
+pub mod SizesLaws

@@ -1,6 +1,6 @@
 -- What was sent comes out, in order: told of the commands and their answers alone.
 use Rattle.std.specs.Prelude.{◌≡◌, ℕ, List, [], ◌∷◌, ◌++◌, Option, Some, None, Ok}
-use Rattle.esync_machine.specs.Account.{account, ask_of, asked_after}
+use Rattle.esync_machine.specs.Account.{account, ask_of, asked_from, asked_after}
 use Rattle.esync_machine.specs.declared.run.Reply.{Reply}
 use Rattle.esync_machine.specs.declared.primitive.Answer.{Answer}
 use Rattle.esync_machine.specs.declared.primitive.Answer.TheVariants.{Done, Gives}
@@ -47,9 +47,13 @@ module _ {T : Type 0} where
   abbrev pub after : {W : Type 0} → Account T → Command (ChannelAsk T) W (ChannelCall T) → Answer (ChannelHeard T) → Account T
   after k c a = record { asked = asked_after k.asked c a; accepted = accepted_after k c a; taken = taken_after k c a }
 
-  -- of a channel without requests that holds these messages at first, and those at last: the messages that were taken, and
+  -- what is known at first of a channel with these requests that holds these messages
+  abbrev pub at_first : List (Option (ChannelAsk T)) → List T → Account T
+  at_first requests held = record { asked = asked_from 0 requests; accepted = held; taken = [] }
+
+  -- of a channel with these requests that holds these messages at first, and those at last: the messages that were taken, and
   -- then those that are held, are those held at first and those that were sent since, in order
-  abbrev pub InOrder : {W : Type 0} {K : ℕ} → List T → List (Command (ChannelAsk T) W (ChannelCall T)) → List (Reply (Answer (ChannelHeard T)) W K) → List T → Type 0
-  InOrder held commands replies held2 =
-      let k = account (λ k c a. after k c a.answer) (record { asked = []; accepted = held; taken = [] }) commands replies in
+  abbrev pub InOrder : {W : Type 0} {K : ℕ} → List (Option (ChannelAsk T)) → List T → List (Command (ChannelAsk T) W (ChannelCall T)) → List (Reply (Answer (ChannelHeard T)) W K) → List T → Type 0
+  InOrder requests held commands replies held2 =
+      let k = account (λ k c a. after k c a.answer) (at_first requests held) commands replies in
       k.taken ++ held2 ≡ k.accepted

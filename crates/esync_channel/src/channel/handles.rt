@@ -1,5 +1,5 @@
 //! Handles of a channel that can only send or only receive, and those whose type doesn't say how the channel keeps its messages.
-ghost use Rattle.std.specs.Prelude.{◌≡◌, ◌≤◌, Some, IsSome, is_none};
+ghost use Rattle.std.specs.Prelude.{◌≡◌, ◌≤◌, Some, IsSome, IfErr, is_none};
 ghost use Rattle.esync_channel.specs.Polls.{LeavesRequest};
 
 use super::{
@@ -34,7 +34,9 @@ impl<'ch, S: Store, W: Copy + Eq, H: Hand<W>> MailboxSender<'ch, S, W, H> {
     }
 
     /// Sends a message where there is room. Where there is none it comes back.
-    pub fn try_send(&self, message: S::Message) -> Result<(), TrySendError<S::Message>> {
+    pub fn try_send(&self, message: S::Message) -> Result<(), TrySendError<S::Message>>
+        ensures { IfErr result (λ error. error ≡ TrySendError.Full message) }
+    {
         self.channel.try_send(message)
     }
 
@@ -190,7 +192,9 @@ impl<'ch, C: DynamicChannel> DynamicSender<'ch, C> {
     }
 
     /// Sends a message where there is room. Where there is none it comes back.
-    pub fn try_send(&self, message: C::Message) -> Result<(), TrySendError<C::Message>> {
+    pub fn try_send(&self, message: C::Message) -> Result<(), TrySendError<C::Message>>
+        ensures { IfErr result (λ error. error ≡ TrySendError.Full message) }
+    {
         self.channel.try_send(message)
     }
 

@@ -1,11 +1,11 @@
 //! The channel, and the priority channel, as machines that take commands.
-ghost use Rattle.std.specs.Prelude.{◌≡◌, ℕ, [], None, IfOk, OnErr};
-ghost use Rattle.std.proofs.Math.ListN.{replicate};
+ghost use Rattle.std.specs.Prelude.{◌≡◌, ℕ, [], IfOk, OnErr};
 ghost use Rattle.esync_base.specs.Keeping.{BoundedList};
 ghost use Rattle.esync_machine.specs.Runs.{GoodRun};
 ghost use Rattle.esync_machine.specs.Object.{Object, requests_meaning};
 ghost use Rattle.esync_channel.specs.ChannelRules.{channel_rules, channel_wakings};
 ghost use Rattle.esync_channel.specs.Order.{InOrder};
+ghost use Rattle.esync_channel.specs.Sizes.{SizesAddUp};
 
 use super::{Mailbox, TryReceiveError, TrySendError};
 use esync_base::deque::Deque;
@@ -180,15 +180,17 @@ pub type ChannelReply<T, W, const K: usize> = Reply<Answer<ChannelHeard<T>>, W, 
 ///
 /// Each answer is one that a list of at most `N` messages, oldest first, allows. No live request that last heard Pending
 /// would now be answered Ready, unless its waker was handed out in that poll or since. No Pending poll that changes nothing
-/// hands out its own waker. And what is sent comes out in order: where the machine has no requests at first, the messages that
-/// the run received or cleared, and then those that are held, are those held at first and those that it sent, in order.
+/// hands out its own waker. What is sent comes out in order: the messages that the run received or cleared, and then those that
+/// are held, are those held at first and those that it sent, in order. And its sizes add up: the length is the number of messages
+/// that were sent and not taken, and the free capacity what it lacks to `N`.
 pub fn run_channel<T: Drop, W: Copy + Eq, const N: usize, const REQS: usize, const K: usize>(
     alloc: Global,
     machine: &mut ChannelRun<T, W, N, REQS, K>,
     commands: Vec<ChannelCommand<T, W>>,
 ) -> Result<Vec<ChannelReply<T, W, K>>, AllocError>
     ensures run { IfOk result (λ replies. GoodRun (requests_meaning (channel_rules (BoundedList T N)) (channel_wakings W.eq (BoundedList T N)) W.eq K) (record { core = machine.old.state.store.items; requests = machine.old.requests }) machine.old.state.slots commands.items replies.items (record { core = machine.new.state.store.items; requests = machine.new.requests }) machine.new.state.slots) }
-    ensures order { IfOk result (λ replies. machine.old.requests ≡ replicate REQS None → InOrder machine.old.state.store.items commands.items replies.items machine.new.state.store.items) }
+    ensures order { IfOk result (λ replies. InOrder machine.old.requests machine.old.state.store.items commands.items replies.items machine.new.state.store.items) }
+    ensures sizes { IfOk result (λ replies. SizesAddUp N machine.old.requests machine.old.state.store.items commands.items replies.items) }
     ensures refused { OnErr result (machine.new ≡ machine.old) }
 {
     run(alloc, machine, commands)

@@ -1,5 +1,5 @@
 //! A channel that tasks on several threads share by reference, and its futures.
-ghost use Rattle.std.specs.Prelude.{◌≡◌, ◌≤◌, Some, IsSome, is_none};
+ghost use Rattle.std.specs.Prelude.{◌≡◌, ◌≤◌, Some, IsSome, IfErr, is_none};
 ghost use Rattle.esync_channel.specs.Polls.{LeavesRequest};
 
 use super::{
@@ -23,15 +23,18 @@ pub trait DynamicChannel {
     /// What may wait for the channel's lock.
     type Rt: Wait;
 
-    /// Sends a message where there is room.
-    fn try_send(&self, message: Self::Message) -> Result<(), TrySendError<Self::Message>>;
+    /// Sends a message where there is room. Where there is none it comes back.
+    fn try_send(&self, message: Self::Message) -> Result<(), TrySendError<Self::Message>>
+        ensures { IfErr result (λ error. error ≡ TrySendError.Full message) };
 
-    /// Sends a message where there is room. Where there is none, the waker of a context, if there is one, waits for it.
+    /// Sends a message where there is room. Where there is none it comes back, and the waker of a context, if there is one, waits for
+    /// room.
     fn try_send_with_context(
         &self,
         message: Self::Message,
         cx: Option<&Context<Self::Waker>>,
-    ) -> Result<(), TrySendError<Self::Message>>;
+    ) -> Result<(), TrySendError<Self::Message>>
+        ensures { IfErr result (λ error. error ≡ TrySendError.Full message) };
 
     /// Sends the message of the request where there is room. Where there is none, the context's waker waits for it.
     fn poll_send(
@@ -100,7 +103,9 @@ impl<S: Store, W: Copy + Eq, H: Hand<W>> SharedMailbox<S, W, H> {
 
     /// Sends a message where there is room. Where there is none it comes back.
     #[inline]
-    pub fn try_send(&self, message: S::Message) -> Result<(), TrySendError<S::Message>> {
+    pub fn try_send(&self, message: S::Message) -> Result<(), TrySendError<S::Message>>
+        ensures { IfErr result (λ error. error ≡ TrySendError.Full message) }
+    {
         step!(
             self.inner,
             |state, wakes| state.try_send(message, &mut wakes)
@@ -113,7 +118,9 @@ impl<S: Store, W: Copy + Eq, H: Hand<W>> SharedMailbox<S, W, H> {
         &self,
         message: S::Message,
         cx: Option<&Context<W>>,
-    ) -> Result<(), TrySendError<S::Message>> {
+    ) -> Result<(), TrySendError<S::Message>>
+        ensures { IfErr result (λ error. error ≡ TrySendError.Full message) }
+    {
         step!(
             self.inner,
             |state, wakes| state.try_send_with_context(message, cx, &mut wakes)

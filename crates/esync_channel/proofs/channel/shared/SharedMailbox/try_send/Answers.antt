@@ -1,4 +1,5 @@
 use Rattle.std.proofs.Common.{arith}
+use Rattle.esync_channel.proofs.Kept.{comes_back}
 use Rattle.esync_channel.proofs.Lives.{mailbox_lives}
 use Rattle.esync_channel.proofs.channel.shared.SharedMailbox.try_send.Goals as goal
 
@@ -21,4 +22,4 @@ pub step-wake-requires : goal.step-wake-requires
 step-wake-requires g c = c.step-guard.ensures 1 (omega arith)
 
 pub returns : goal.returns
-returns g c = tt
+returns g c = comes_back g.S.Store.keeping _ _ c.args.message c.try_send.result c.try_send.ensures.messages
