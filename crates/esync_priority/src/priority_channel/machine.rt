@@ -4,6 +4,7 @@ ghost use Rattle.esync_priority.specs.Prio.{Bag};
 ghost use Rattle.esync_machine.specs.Runs.{GoodRun};
 ghost use Rattle.esync_machine.specs.Object.{requests_meaning};
 ghost use Rattle.esync_channel.specs.ChannelRules.{channel_rules, channel_wakings};
+ghost use Rattle.esync_channel.specs.Sizes.{SizesAddUp};
 
 use crate::prio::{Kind, PrioQueue};
 use esync_channel::channel::Mailbox;
@@ -23,7 +24,8 @@ pub type PriorityRun<T, W, O, const N: usize, const REQS: usize, const K: usize>
 ///
 /// Each answer is one that a bag of at most `N` messages allows, from which one leaves that none of the held ones is above.
 /// No live request that last heard Pending would now be answered Ready, unless its waker was handed out in that poll or
-/// since. No Pending poll that changes nothing hands out its own waker.
+/// since. No Pending poll that changes nothing hands out its own waker. And its sizes add up: the length is the number of
+/// messages that were held at first or sent since, and not taken, and the free capacity what it lacks to `N`.
 pub fn run_priority_channel<
     T: Drop,
     W: Copy + Eq,
@@ -37,6 +39,7 @@ pub fn run_priority_channel<
     commands: Vec<ChannelCommand<T, W>>,
 ) -> Result<Vec<ChannelReply<T, W, K>>, AllocError>
     ensures run { IfOk result (λ replies. GoodRun (requests_meaning (channel_rules (Bag T O.above N)) (channel_wakings W.eq (Bag T O.above N)) W.eq K) (record { core = machine.old.state.store; requests = machine.old.requests }) machine.old.state.slots commands.items replies.items (record { core = machine.new.state.store; requests = machine.new.requests }) machine.new.state.slots) }
+    ensures sizes { IfOk result (λ replies. SizesAddUp N machine.old.requests machine.old.state.store commands.items replies.items) }
     ensures refused { OnErr result (machine.new ≡ machine.old) }
 {
     run(alloc, machine, commands)
