@@ -1,9 +1,9 @@
 -- A value that was set stays until it is taken: told of the commands and their answers alone.
-use Rattle.std.specs.Prelude.{◌≡◌, ◌⊎◌, List, Option, Some, None, Ok, Err, true, ℕ}
+use Rattle.std.specs.Prelude.{◌≡◌, ◌⊎◌, ℕ, ◌==◌, Bool, true, false, List, Option, Some, None, Ok, Err, if◌then◌else◌}
 use Rattle.esync_machine.specs.Account.{AtEach}
 use Rattle.esync_machine.specs.declared.run.Reply.{Reply}
 use Rattle.esync_machine.specs.declared.primitive.Answer.{Answer}
-use Rattle.esync_machine.specs.declared.primitive.Answer.TheVariants.{NoSuch, Gives}
+use Rattle.esync_machine.specs.declared.primitive.Answer.TheVariants.{Done, NoSuch, Gives}
 use Rattle.esync_machine.specs.declared.primitive.Command.{Command}
 use Rattle.esync_machine.specs.declared.primitive.Command.TheVariants.{Start, Poll, End, Call}
 use Rattle.esync_cells.specs.declared.once_lock.InitError.TheVariants.{Set}
@@ -13,18 +13,33 @@ use Rattle.esync_cells.specs.declared.once_lock.machine.OnceCall.TheVariants.{Tr
 use Rattle.esync_cells.specs.declared.once_lock.machine.OnceHeard.{OnceHeard}
 use Rattle.esync_cells.specs.declared.once_lock.machine.OnceHeard.TheVariants.{Got, Found, HasSet, Shown, IsSet as WasSet}
 
-module _ {T : Type 0} where
-  -- the value that is known to be there, after a call and its answer
-  abbrev pub set_by : Option T → OnceCall T → Answer (OnceHeard T) → Option T
-  set_by k (Init v) (Gives (HasSet (Ok done))) = Some v
-  set_by k Take (Gives (Found p)) = None
-  set_by k _ _ = k
+-- what commands and their answers tell of a once lock
+pub record Told (T : Type 0) : Type 0 where
+  -- the value that was set, and not yet taken
+  pub value : Option T
+  -- whether a request was started at a number, and neither answered nor ended since
+  pub is_waiting : ℕ → Bool
 
-  abbrev pub set_after : {W : Type 0} → Option T → Command Get W (OnceCall T) → Answer (OnceHeard T) → Option T
-  set_after k (Start r ask) a = k
-  set_after k (Poll r w) a = k
-  set_after k (End r) a = k
-  set_after k (Call call) a = set_by k call a
+module _ {T : Type 0} where
+  abbrev pub nothing_told : Told T
+  nothing_told = record { value = None; is_waiting = λ r. false }
+
+  -- with a request at the number, or without one
+  abbrev pub with_request : ℕ → Bool → Told T → Told T
+  with_request r waits k = record k { is_waiting = λ s. if r == s then waits else k.is_waiting s }
+
+  abbrev pub told_by_call : Told T → OnceCall T → Answer (OnceHeard T) → Told T
+  told_by_call k (Init v) (Gives (HasSet (Ok done))) = record k { value = Some v }
+  told_by_call k (GetOrInit x) (Gives (Shown v)) = record k { value = Some v }
+  told_by_call k Take (Gives (Found p)) = record k { value = None }
+  told_by_call k _ _ = k
+
+  abbrev pub told_after : {W : Type 0} → Told T → Command Get W (OnceCall T) → Answer (OnceHeard T) → Told T
+  told_after k (Start r ask) Done = with_request r true k
+  told_after k (Poll r w) (Gives heard) = with_request r false k
+  told_after k (End r) Done = with_request r false k
+  told_after k (Call call) a = told_by_call k call a
+  told_after k _ _ = k
 
   -- what a call is answered while this value is there
   abbrev pub ShowsTo : T → OnceCall T → Answer (OnceHeard T) → Type 0
@@ -34,14 +49,18 @@ module _ {T : Type 0} where
   ShowsTo v Take a = a ≡ Gives (Found (Some v))
   ShowsTo v IsSet a = a ≡ Gives (WasSet true)
 
-  -- and what any command is answered then, unless it names what isn't there
-  abbrev pub Shows : {W : Type 0} → Option T → Command Get W (OnceCall T) → Answer (OnceHeard T) → Type 0
-  Shows None c a = Unit {0}
-  Shows (Some v) (Start r ask) a = Unit {0}
-  Shows (Some v) (Poll r w) a = (a ≡ NoSuch) ⊎ (a ≡ Gives (Got v))
-  Shows (Some v) (End r) a = Unit {0}
-  Shows (Some v) (Call call) a = (a ≡ NoSuch) ⊎ ShowsTo v call a
+  -- what a poll is answered then, by whether a request is known at its number: elsewhere there may be none
+  abbrev pub ShowsToPoll : T → Bool → Answer (OnceHeard T) → Type 0
+  ShowsToPoll v true a = a ≡ Gives (Got v)
+  ShowsToPoll v false a = (a ≡ NoSuch) ⊎ (a ≡ Gives (Got v))
 
-  -- at each command of a run: from a successful `Init` on, until a `Take`, every answer shows the value that was set
+  -- what any command is answered, where this value was set or none was
+  abbrev pub Shows : {W : Type 0} → Option T → (ℕ → Bool) → Command Get W (OnceCall T) → Answer (OnceHeard T) → Type 0
+  Shows None is_waiting c a = Unit {0}
+  Shows (Some v) is_waiting (Poll r w) a = ShowsToPoll v (is_waiting r) a
+  Shows (Some v) is_waiting (Call call) a = ShowsTo v call a
+  Shows (Some v) is_waiting c a = Unit {0}
+
+  -- at each command of a run: from a successful `Init` or a `GetOrInit` on, until a `Take`, each call and each poll of a request shows the value
   abbrev pub StaysSet : {W : Type 0} {K : ℕ} → List (Command Get W (OnceCall T)) → List (Reply (Answer (OnceHeard T)) W K) → Type 0
-  StaysSet commands replies = AtEach (λ k c a. set_after k c a.answer) (λ k c a. Shows k c a.answer) None commands replies
+  StaysSet commands replies = AtEach (λ k c a. told_after k c a.answer) (λ k c a. Shows k.value k.is_waiting c a.answer) nothing_told commands replies

@@ -128,9 +128,10 @@ pub type OnceCommand<T, W> = Command<Get, W, OnceCall<T>>;
 /// What a value that is set once answers to a command, with the wakers that it hands out.
 pub type OnceReply<T, W, const K: usize> = Reply<Answer<OnceHeard<T>>, W, K>;
 
-/// Gives the commands to the value, one after another, as `run` does: the answers are those of an optional value, and no wake is
-/// lost, since a poll that finds no value wakes itself. And a value that was set stays: from a successful `Init` on, until a `Take`,
-/// every answer shows it.
+/// Gives the commands to the value, one after another, as `run` does.
+///
+/// The answers are those of an optional value, and no wake is lost, since a poll that finds no value wakes itself. A value that was
+/// set stays: from a successful `Init` or a `GetOrInit` on, until a `Take`, each call shows it, and so does each poll of a request.
 pub fn run_once<T: Copy, W: Copy + Eq, const REQS: usize, const K: usize>(
     alloc: Global,
     machine: &mut OnceRun<T, W, REQS, K>,
