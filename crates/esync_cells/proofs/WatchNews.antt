@@ -1,26 +1,28 @@
 -- A change is told once.
 use Rattle.std.proofs.Common.{◌≡◌, ℕ, ◌==◌, ◌&&◌, Bool, true, false, List, Option, Some, None, nat_lt, ◌⊎◌, inl, inr, refl, sym, ap, ◌∙◌, subst}
-use Rattle.std.specs.Prelude.{Result, Ok, Err, is_none, length, if◌then◌else◌}
+use Rattle.std.specs.Prelude.{[], Result, Ok, Err, IfSome, is_none, length, slice_get, if◌then◌else◌}
 use Rattle.std.specs.declared.alloc.AllocError.{AllocError}
 use Rattle.esync_base.specs.ListedLaws.{same_number, equal_number, unequal_number, same_or_not}
-use Rattle.esync_machine.specs.AccountLaws.{of_any_kind, KeepsEach, keeps_each, IsTold, law_run}
+use Rattle.esync_machine.specs.AccountLaws.{of_any_kind, ask_of-started, ask_of-other, KeepsEach, keeps_each, IsTold, law_run}
+use Rattle.esync_machine.specs.Account.{ask_of}
 use Rattle.esync_machine.specs.Numbers.{at_number}
-use Rattle.esync_machine.specs.NumbersLaws.{there_of, at_set_here, at_set_other}
+use Rattle.esync_machine.specs.NumbersLaws.{there_of, at_of, at_set_here, at_set_other}
 use Rattle.esync_machine.specs.Runs.{GoodRun}
-use Rattle.esync_machine.specs.Object.{Object, Allows, requests_meaning}
+use Rattle.esync_machine.specs.Object.{Object, Allows, AllowsAt, requests_meaning}
 use Rattle.esync_machine.specs.ObjectLaws.{each_step}
 use Rattle.esync_machine.specs.Wakings.{Wakings}
 use Rattle.esync_machine.specs.declared.run.Reply.{Reply}
 use Rattle.esync_machine.specs.declared.primitive.Answer.{Answer}
-use Rattle.esync_machine.specs.declared.primitive.Answer.TheVariants.{NoSuch, Gives}
+use Rattle.esync_machine.specs.declared.primitive.Answer.TheVariants.{Pending, NoSuch, Gives}
 use Rattle.esync_machine.specs.declared.primitive.Reach.TheVariants.{Number}
 use Rattle.esync_machine.specs.declared.primitive.Command.{Command}
 use Rattle.esync_machine.specs.declared.primitive.Command.TheVariants.{Start, Poll, End, Call}
 use Rattle.esync_cells.specs.Watch.{Answers, seen_after}
-use Rattle.esync_cells.specs.Receivers.{is_free, with_seen, with_seen_if}
+use Rattle.esync_cells.specs.Receivers.{is_free, seen_at, version_of, with_seen, with_seen_if}
 use Rattle.esync_cells.specs.ReceiversLaws.{and_first, and_second, nobody, at_marked}
-use Rattle.esync_cells.specs.WatchRules.{Watch, sought, marks, with_read, with_receiver, PollsAs, Calls, Joins, JoinsAnon, Leaves, Tried, Reads, reach, watch_rules}
-use Rattle.esync_cells.specs.WatchNews.{is_told, told_by, told_after, TellsNoMore, TellsOnce}
+use Rattle.esync_cells.specs.WatchRules.{Watch, sought, marks, with_read, with_receiver, Begins, PollsAs, Polls, Calls, Joins, JoinsAnon, Leaves, Tried, Reads, reach, watch_rules}
+use Rattle.esync_cells.specs.WatchLaws.{only_waits}
+use Rattle.esync_cells.specs.WatchNews.{News, is_told, told_by, after, WaitsOn, WaitsOnFor, TellsNoMore, TellsOnce}
 use Rattle.esync_cells.specs.declared.watch.machine.Seen.{Seen}
 use Rattle.esync_cells.specs.declared.watch.machine.Reading.{Reading}
 use Rattle.esync_cells.specs.declared.watch.machine.Reading.TheVariants.{Get, Changed, GetAnd, ChangedAnd}
@@ -29,7 +31,6 @@ use Rattle.esync_cells.specs.declared.watch.machine.WatchCall.{WatchCall}
 use Rattle.esync_cells.specs.declared.watch.machine.WatchCall.TheVariants.{Receiver, Anon, Leave, Clear, Send, Modify, ModifyIf, TryGet, Read, Id, Contains}
 use Rattle.esync_cells.specs.declared.watch.machine.WatchHeard.{WatchHeard}
 use Rattle.esync_cells.specs.declared.watch.machine.WatchHeard.TheVariants.{Found}
-use Rattle.esync_cells.proofs.OnceSet.{nothing_here}
 use Rattle.esync_cells.proofs.WatchKept.{not_newer, seen_or_not, seen_same}
 
 -- a free number is another one than that of somebody
@@ -60,6 +61,11 @@ told_seen (ChangedAnd judge) version seen None e = absurd cc
 seen_here : (q : List (Option Seen)) (r version : ℕ) (s : Seen) → at_number q r ≡ Some s → at_number (with_seen r version q) r ≡ Some (record s { version = version })
 seen_here q r version s there =
     ap (λ p. at_number (with_seen_if r version p q) r) there ∙ at_set_here q r (Some s) (Some (record s { version = version })) (there_of q r s there)
+
+-- a request that is started is what was asked
+begun_as : {J : Type 0} (b : Bool) (ask x : Await J) → Begins b ask (Some x) → ask ≡ x
+begun_as true ask x e = (let f : x ≡ ask = cc in sym f)
+begun_as false ask x e = absurd cc
 
 module _ {T : Type 0} (h : ℕ) where
   -- the receiver at h, if it is told, has seen the latest version
@@ -98,6 +104,12 @@ module _ {T : Type 0} (h : ℕ) where
     polled_as o o2 k held a p (Ok None) t there = still o o2 k t.1 there
     polled_as o o2 k held a p (Err e) t there = still o o2 k t.1 there
 
+    -- a request that goes on is still the one that was polled
+    goes_on : (P : Await J → Type 0) (o o2 : Watch T) (held : Await J) (a : Answer (WatchHeard T)) (p : Option (Await J)) (got : Result (Option T) AllocError) → PollsAs IsClone IsInfallible passes got o held a o2 p → P held → IfSome p P
+    goes_on P o o2 held a p (Ok (Some v)) t here = rw t.2 tt
+    goes_on P o o2 held a p (Ok None) t here = rw t.2 here
+    goes_on P o o2 held a p (Err e) t here = rw t.2 here
+
     -- a read of the receiver at r that found this
     module _ (o : Watch T) (k : Bool) (r : ℕ) (read : Reading J) (s : Seen) (at : at_number o.receivers r ≡ Some s) where
       abbrev after_read : Option T → Watch T
@@ -125,6 +137,12 @@ module _ {T : Type 0} (h : ℕ) where
         let at : at_number o.receivers r ≡ Some there.0 = ap (at_number o.receivers) same ∙ there.1 in
         let t2 = subst (λ p. Reads IsClone IsInfallible passes p r read o a o2) at t in
         finds_none o o2 _ a t2.0 (subst (λ x. Answers IsClone IsInfallible x t2.0) (hides there.0 there.2) t2.1) t2.2
+
+    -- so does what a poll looks for
+    no_news_at : (o : Watch T) (r : ℕ) (read : Reading J) → ((s : Seen) → nat_lt s.version o.version ≡ false → sought passes o.value o.version s.version read ≡ None) → IsThere o true → r ≡ h → sought passes o.value o.version (seen_at o.receivers r) read ≡ None
+    no_news_at o r read hides there same =
+        let at : at_number o.receivers r ≡ Some there.0 = ap (at_number o.receivers) same ∙ there.1 in
+        ap (λ p. sought passes o.value o.version (version_of p) read) at ∙ hides there.0 there.2
 
     module _ {C : Type 0} (n : ℕ) (changed : C → Option T → Option T) (tells : C → Option T → Bool) where
       tried : (o o2 : Watch T) (k : Bool) (r : ℕ) (read : Reading J) (s : Seen) (a : Answer (WatchHeard T)) (got : Result (Option T) AllocError) → at_number o.receivers r ≡ Some s → Tried got o (with_read r (seen_after (marks o.version s.version read) o.version s.version got) o) a o2 → IsThere o k → IsThere o2 (told_by {C = C} h k (Read r read) a)
@@ -173,43 +191,70 @@ module _ {T : Type 0} (h : ℕ) where
       not_at_a_number call r e = cc
 
       module _ (W : Type 0) where
-        refused : (k : Bool) (c : Command (Await J) W (WatchCall T C J)) → told_after h k c NoSuch ≡ k
+        refused : (k : News J) (c : Command (Await J) W (WatchCall T C J)) → after h k c NoSuch ≡ k
         refused k (Start r ask) = refl
         refused k (Poll r w) = refl
         refused k (End r) = refl
         refused k (Call (Leave r)) = refl
         refused k (Call call) = refl
 
-        keeps : KeepsEach (watch_rules n IsClone IsInfallible changed tells passes) (λ c. Unit {0}) (told_after {W = W} h) IsThere (λ k r x. Unit {0})
+        -- what was told to have been started is what stands at its number
+        abbrev IsAsked : News J → ℕ → Await J → Type 0
+        IsAsked k r x = IfSome (ask_of k.asked r) (λ ask. ask ≡ x)
+
+        keeps : KeepsEach (watch_rules n IsClone IsInfallible changed tells passes) (λ c. Unit {0}) (after {W = W} h) (λ o k. IsThere o k.told) IsAsked
         keeps = record {
           refused = refused;
-          starts = λ o k r ask x begins there. (there, tt);
-          polls = λ o o2 k r w x a p t there here. (polled_as o o2 k x a p t.0 t.2 there, nothing_here p);
-          ends = λ o o2 k r x e there here. still o o2 k e there;
+          starts = λ o k r ask x begins there. (there, subst (λ y. IfSome y (λ z. z ≡ x)) (sym (ask_of-started k.asked r ask)) (begun_as _ ask x begins));
+          polls = λ o o2 k r w x a p t there here. (polled_as o o2 k.told x a p t.0 t.2 there, goes_on (IsAsked k r) o o2 x a p t.0 t.2 here);
+          ends = λ o o2 k r x e there here. still o o2 k.told e there;
           calls = λ o o2 k call r p p2 a at t there here. absurd (not_at_a_number call r at);
-          alone = λ o o2 k call p a none t there. called o o2 k call a t.0 there;
-          others = λ k c a r x ne here. tt;
+          alone = λ o o2 k call p a none t there. called o o2 k.told call a t.0 there;
+          others = λ k c a r x ne here.
+              subst (λ y. IfSome y (λ z. z ≡ x)) (sym (ask_of-other (watch_rules n IsClone IsInfallible changed tells passes) k.asked c a r ne)) here;
         }
 
-        abbrev Told : Object (Watch T) (Await J) → Bool → Type 0
-        Told = IsTold (watch_rules n IsClone IsInfallible changed tells passes) (λ c. Unit {0}) (told_after {W = W} h) IsThere (λ k r x. Unit {0})
+        abbrev Told : Object (Watch T) (Await J) → News J → Type 0
+        Told = IsTold (watch_rules n IsClone IsInfallible changed tells passes) (λ c. Unit {0}) (after {W = W} h) (λ o k. IsThere o k.told) IsAsked
 
-        tells_no_more : (o o2 : Object (Watch T) (Await J)) (k : Bool) (c : Command (Await J) W (WatchCall T C J)) (a : Answer (WatchHeard T)) → Allows (watch_rules n IsClone IsInfallible changed tells passes) o c a o2 → Told o k → TellsNoMore h k c a
-        tells_no_more o o2 false c a allowed told = tt
-        tells_no_more o o2 true (Start r ask) a allowed told = tt
-        tells_no_more o o2 true (Poll r w) a allowed told = tt
-        tells_no_more o o2 true (End r) a allowed told = tt
-        tells_no_more o o2 true (Call (Read r Changed)) a allowed told =
+        -- what stands at the number of a poll finds no news, and nothing stands at another one
+        polled_tells : (o o2 : Object (Watch T) (Await J)) (r : ℕ) (w : W) (a : Answer (WatchHeard T)) (p : Option (Option (Await J))) (ask : Await J) → ((x : Await J) → p ≡ Some (Some x) → ask ≡ x) → AllowsAt (watch_rules n IsClone IsInfallible changed tells passes) o (Poll r w) r p a o2 → sought passes o.core.value o.core.version (seen_at o.core.receivers ask.receiver) ask.read ≡ None → (a ≡ NoSuch) ⊎ (a ≡ Pending)
+        polled_tells o o2 r w a None ask is allowed none = inl allowed.0
+        polled_tells o o2 r w a (Some None) ask is allowed none = inl allowed.2.0
+        polled_tells o o2 r w a (Some (Some x)) ask is allowed none =
+            let t : Polls IsClone IsInfallible passes o.core ask a allowed.0 allowed.1 =
+            subst (λ y. Polls IsClone IsInfallible passes o.core y a allowed.0 allowed.1) (sym (is x refl)) allowed.2 in
+            inr (only_waits n IsClone IsInfallible changed tells passes o.core ask a allowed.0 allowed.1 t.0 (subst (λ y. Answers IsClone IsInfallible y t.0) none t.1) t.2).0
+
+        waits_on : (o o2 : Object (Watch T) (Await J)) (r : ℕ) (w : W) (a : Answer (WatchHeard T)) (receiver : ℕ) (read : Reading J) → ((x : Await J) → slice_get o.requests r ≡ Some (Some x) → record { receiver = receiver; read = read } ≡ x) → Allows (watch_rules n IsClone IsInfallible changed tells passes) o (Poll r w) a o2 → IsThere o.core true → WaitsOn h receiver read a
+        waits_on o o2 r w a receiver Get is allowed there = tt
+        waits_on o o2 r w a receiver Changed is allowed there = λ same.
+            polled_tells o o2 r w a (slice_get o.requests r) (record { receiver = receiver; read = Changed }) is allowed (no_news_at o.core receiver Changed (λ s seen. rw seen refl) there same)
+        waits_on o o2 r w a receiver (GetAnd judge) is allowed there = tt
+        waits_on o o2 r w a receiver (ChangedAnd judge) is allowed there = λ same.
+            polled_tells o o2 r w a (slice_get o.requests r) (record { receiver = receiver; read = ChangedAnd judge }) is allowed (no_news_at o.core receiver (ChangedAnd judge) (λ s seen. rw seen refl) there same)
+
+        waits_on_for : (o o2 : Object (Watch T) (Await J)) (r : ℕ) (w : W) (a : Answer (WatchHeard T)) (ask : Option (Await J)) → ((x : Await J) → slice_get o.requests r ≡ Some (Some x) → IfSome ask (λ y. y ≡ x)) → Allows (watch_rules n IsClone IsInfallible changed tells passes) o (Poll r w) a o2 → IsThere o.core true → WaitsOnFor h ask a
+        waits_on_for o o2 r w a None is allowed there = tt
+        waits_on_for o o2 r w a (Some ask) is allowed there = waits_on o o2 r w a ask.receiver ask.read is allowed there
+
+        tells_no_more : (o o2 : Object (Watch T) (Await J)) (told : Bool) (asked : List (ℕ × Await J)) (c : Command (Await J) W (WatchCall T C J)) (a : Answer (WatchHeard T)) → Allows (watch_rules n IsClone IsInfallible changed tells passes) o c a o2 → Told o (record { told = told; asked = asked }) → TellsNoMore h told asked c a
+        tells_no_more o o2 false asked c a allowed told = tt
+        tells_no_more o o2 true asked (Start r ask) a allowed told = tt
+        tells_no_more o o2 true asked (Poll r w) a allowed told =
+            waits_on_for o o2 r w a (ask_of asked r) (λ x at. told.here r x (at_of o.requests r (Some x) at)) allowed told.core
+        tells_no_more o o2 true asked (End r) a allowed told = tt
+        tells_no_more o o2 true asked (Call (Read r Changed)) a allowed told =
             no_news o.core allowed.0 r Changed a (λ s seen. rw seen refl) allowed.2.0 told.core
-        tells_no_more o o2 true (Call (Read r (ChangedAnd judge))) a allowed told =
+        tells_no_more o o2 true asked (Call (Read r (ChangedAnd judge))) a allowed told =
             no_news o.core allowed.0 r (ChangedAnd judge) a (λ s seen. rw seen refl) allowed.2.0 told.core
-        tells_no_more o o2 true (Call call) a allowed told = tt
+        tells_no_more o o2 true asked (Call call) a allowed told = tt
 
 -- whatever wakers the watch hands out
 pub tells_once : {T C J W : Type 0} (n : ℕ) (IsClone : T → T → Type 0) (IsInfallible : T → Type 0) (changed : C → Option T → Option T) (tells : C → Option T → Bool) (passes : J → T → Bool) (H : Wakings (Watch T) (Await J) (WatchCall T C J) (WatchHeard T) W) (eq : W → W → Bool) (K h : ℕ) (o o2 : Object (Watch T) (Await J)) (g g2 : H.Registered) (cs : List (Command (Await J) W (WatchCall T C J))) (as' : List (Reply (Answer (WatchHeard T)) W K)) → GoodRun (requests_meaning (watch_rules n IsClone IsInfallible changed tells passes) H eq K) o g cs as' o2 g2 → TellsOnce h cs as'
 tells_once {T} {C} {J} {W} n IsClone IsInfallible changed tells passes H eq K h o o2 g g2 cs as' run =
     let rules = watch_rules n IsClone IsInfallible changed tells passes in
-    law_run (requests_meaning rules H eq K) (λ c. Unit {0}) (λ k c a. told_after h k c a.answer) (Told h IsClone IsInfallible passes n changed tells W)
-    (λ o o2 k c a kind allowed. each_step rules (keeps_each rules (λ c. Unit {0}) (told_after h) (keeps h IsClone IsInfallible passes n changed tells W)) o o2 c a.answer allowed k kind)
-    (λ k c a. TellsNoMore h k c a.answer) (λ o o2 k c a kind allowed told. tells_no_more h IsClone IsInfallible passes n changed tells W o o2 k c a.answer allowed told)
-    o o2 g g2 false cs as' (of_any_kind cs) run (record { core = tt; here = λ r x e. tt })
+    law_run (requests_meaning rules H eq K) (λ c. Unit {0}) (λ k c a. after h k c a.answer) (Told h IsClone IsInfallible passes n changed tells W)
+    (λ o o2 k c a kind allowed. each_step rules (keeps_each rules (λ c. Unit {0}) (after h) (keeps h IsClone IsInfallible passes n changed tells W)) o o2 c a.answer allowed k kind)
+    (λ k c a. TellsNoMore h k.told k.asked c a.answer) (λ o o2 k c a kind allowed told. tells_no_more h IsClone IsInfallible passes n changed tells W o o2 k.told k.asked c a.answer allowed told)
+    o o2 g g2 (record { told = false; asked = [] }) cs as' (of_any_kind cs) run (record { core = tt; here = λ r x e. tt })

@@ -22,7 +22,8 @@ module _ {T C J : Type 0} (n : ℕ) (IsClone : T → T → Type 0) (IsInfallible
   finds_nothing o h (Some v) (Ok None) is polls = absurd is
   finds_nothing o h x (Err e) is polls = (let f = polls.0 in absurd cc)
 
-  only_waits : (o : Watch T) (h : Await J) (a : Answer (WatchHeard T)) (o2 : Watch T) (p : Option (Await J)) (got : Result (Option T) AllocError) → Answers IsClone IsInfallible None got → PollsAs IsClone IsInfallible passes got o h a o2 p → (a ≡ Pending) × (o2 ≡ o) × (p ≡ Some h)
+  -- a poll that finds nothing waits
+  pub only_waits : (o : Watch T) (h : Await J) (a : Answer (WatchHeard T)) (o2 : Watch T) (p : Option (Await J)) (got : Result (Option T) AllocError) → Answers IsClone IsInfallible None got → PollsAs IsClone IsInfallible passes got o h a o2 p → (a ≡ Pending) × (o2 ≡ o) × (p ≡ Some h)
   only_waits o h a o2 p (Ok (Some v)) is polls = absurd is
   only_waits o h a o2 p (Ok None) is polls = polls
   only_waits o h a o2 p (Err e) is polls = absurd is

@@ -1,9 +1,9 @@
 -- A change is told once: told of the commands and their answers alone.
-use Rattle.std.specs.Prelude.{◌≡◌, ℕ, ◌==◌, ◌&&◌, Bool, true, false, List, Option, None, Ok, is_some, if◌then◌else◌}
-use Rattle.esync_machine.specs.Account.{AtEach}
+use Rattle.std.specs.Prelude.{◌≡◌, ◌⊎◌, ℕ, ◌==◌, ◌&&◌, Bool, true, false, List, [], Option, Some, None, Ok, is_some, if◌then◌else◌}
+use Rattle.esync_machine.specs.Account.{AtEach, ask_of, asked_after}
 use Rattle.esync_machine.specs.declared.run.Reply.{Reply}
 use Rattle.esync_machine.specs.declared.primitive.Answer.{Answer}
-use Rattle.esync_machine.specs.declared.primitive.Answer.TheVariants.{Done, Gives}
+use Rattle.esync_machine.specs.declared.primitive.Answer.TheVariants.{Done, Pending, NoSuch, Gives}
 use Rattle.esync_machine.specs.declared.primitive.Command.{Command}
 use Rattle.esync_machine.specs.declared.primitive.Command.TheVariants.{Start, Poll, End, Call}
 use Rattle.esync_cells.specs.declared.watch.machine.Reading.{Reading}
@@ -21,6 +21,24 @@ is_told Changed p = true
 is_told (GetAnd judge) p = is_some p
 is_told (ChangedAnd judge) p = is_some p
 
+-- what commands and their answers tell of a watch, and of the receiver at a number
+pub record News (J : Type 0) : Type 0 where
+  -- whether that receiver was told of the latest change
+  pub told : Bool
+  -- what was started at which number, the newest first
+  pub asked : List (ℕ × Await J)
+
+-- what the poll of a request that the receiver at r started for this is answered, while the one at h is told of the latest change:
+-- one for a newer version waits on, unless it is over
+abbrev pub WaitsOn : {T J : Type 0} → ℕ → ℕ → Reading J → Answer (WatchHeard T) → Type 0
+WaitsOn h r Changed a = r ≡ h → (a ≡ NoSuch) ⊎ (a ≡ Pending)
+WaitsOn h r (ChangedAnd judge) a = r ≡ h → (a ≡ NoSuch) ⊎ (a ≡ Pending)
+WaitsOn h r read a = Unit {0}
+
+abbrev pub WaitsOnFor : {T J : Type 0} → ℕ → Option (Await J) → Answer (WatchHeard T) → Type 0
+WaitsOnFor h None a = Unit {0}
+WaitsOnFor h (Some ask) a = WaitsOn h ask.receiver ask.read a
+
 module _ {T C J : Type 0} where
   -- whether the receiver at h was told of the latest change, after a call and its answer
   abbrev pub told_by : ℕ → Bool → WatchCall T C J → Answer (WatchHeard T) → Bool
@@ -37,6 +55,9 @@ module _ {T C J : Type 0} where
   told_after h k (End r) a = k
   told_after h k (Call call) a = told_by h k call a
 
+  abbrev pub after : {W : Type 0} → ℕ → News J → Command (Await J) W (WatchCall T C J) → Answer (WatchHeard T) → News J
+  after h k c a = record { told = told_after h k.told c a; asked = asked_after k.asked c a }
+
   -- what a call is answered while that receiver is told: its reads for a newer version find nothing
   abbrev pub HasNoNews : ℕ → WatchCall T C J → Answer (WatchHeard T) → Type 0
   HasNoNews h (Read r Changed) a = r ≡ h → a ≡ Gives (Found None)
@@ -44,13 +65,14 @@ module _ {T C J : Type 0} where
   HasNoNews h call a = Unit {0}
 
   -- and what any command is answered then
-  abbrev pub TellsNoMore : {W : Type 0} → ℕ → Bool → Command (Await J) W (WatchCall T C J) → Answer (WatchHeard T) → Type 0
-  TellsNoMore h false c a = Unit {0}
-  TellsNoMore h true (Start r ask) a = Unit {0}
-  TellsNoMore h true (Poll r w) a = Unit {0}
-  TellsNoMore h true (End r) a = Unit {0}
-  TellsNoMore h true (Call call) a = HasNoNews h call a
+  abbrev pub TellsNoMore : {W : Type 0} → ℕ → Bool → List (ℕ × Await J) → Command (Await J) W (WatchCall T C J) → Answer (WatchHeard T) → Type 0
+  TellsNoMore h false asked c a = Unit {0}
+  TellsNoMore h true asked (Start r ask) a = Unit {0}
+  TellsNoMore h true asked (Poll r w) a = WaitsOnFor h (ask_of asked r) a
+  TellsNoMore h true asked (End r) a = Unit {0}
+  TellsNoMore h true asked (Call call) a = HasNoNews h call a
 
-  -- at each command of a run: from a read of the receiver at h on, until a send, it finds no news
+  -- at each command of a run: from a read of the receiver at h on, until a send, its reads and its requests find no news
   abbrev pub TellsOnce : {W : Type 0} {K : ℕ} → ℕ → List (Command (Await J) W (WatchCall T C J)) → List (Reply (Answer (WatchHeard T)) W K) → Type 0
-  TellsOnce h commands replies = AtEach (λ k c a. told_after h k c a.answer) (λ k c a. TellsNoMore h k c a.answer) false commands replies
+  TellsOnce h commands replies =
+      AtEach (λ k c a. after h k c a.answer) (λ k c a. TellsNoMore h k.told k.asked c a.answer) (record { told = false; asked = [] }) commands replies
