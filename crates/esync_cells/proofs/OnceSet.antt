@@ -16,7 +16,7 @@ use Rattle.esync_machine.specs.declared.primitive.Command.{Command}
 use Rattle.esync_machine.specs.declared.primitive.Command.TheVariants.{Start, Poll, End, Call}
 use Rattle.esync_cells.specs.OnceLock.{set_answer}
 use Rattle.esync_cells.specs.OnceRules.{once_rules, Polls, Calls}
-use Rattle.esync_cells.specs.OnceSet.{Told, nothing_told, told_by_call, told_after, ShowsTo, ShowsToPoll, Shows, StaysSet}
+use Rattle.esync_cells.specs.OnceSet.{Account, after_call, after, ShowsTo, ShowsToPoll, Shows, StaysSet}
 use Rattle.esync_cells.specs.declared.once_lock.machine.Get.{Get}
 use Rattle.esync_cells.specs.declared.once_lock.machine.OnceCall.{OnceCall}
 use Rattle.esync_cells.specs.declared.once_lock.machine.OnceCall.TheVariants.{TryGet, Init, GetOrInit, Take, IsSet}
@@ -32,9 +32,9 @@ abbrev AreThere : (ℕ → Bool) → List (Option Get) → Type 0
 AreThere is_waiting q = (r : ℕ) → is_waiting r ≡ true → (h : Get) × (at_number q r ≡ Some h)
 
 -- what is told of all other numbers was told before, and what is told of this one is so once this is written there
-written_at : (before after : ℕ → Bool) (q : List (Option Get)) (r : ℕ) (x : Option Get) → ((s : ℕ) → (r ≡ s → ⊥) → after s ≡ true → before s ≡ true) → (after r ≡ true → (h : Get) × (at_number (slice_set q r x) r ≡ Some h)) → AreThere before q → AreThere after (slice_set q r x)
-written_at before after q r x others here are s e = elim (same_or_not r s) [
-  | inl same ↦ subst (λ n. (h : Get) × (at_number (slice_set q r x) n ≡ Some h)) same (here (subst (λ n. after n ≡ true) (sym same) e))
+written_at : (before now : ℕ → Bool) (q : List (Option Get)) (r : ℕ) (x : Option Get) → ((s : ℕ) → (r ≡ s → ⊥) → now s ≡ true → before s ≡ true) → (now r ≡ true → (h : Get) × (at_number (slice_set q r x) r ≡ Some h)) → AreThere before q → AreThere now (slice_set q r x)
+written_at before now q r x others here are s e = elim (same_or_not r s) [
+  | inl same ↦ subst (λ n. (h : Get) × (at_number (slice_set q r x) n ≡ Some h)) same (here (subst (λ n. now n ≡ true) (sym same) e))
   | inr ne ↦ (let at = are s (others s ne e) in (at.0, at_set_other q r s x ne ∙ at.1))
 ]
 
@@ -59,14 +59,14 @@ module _ {T : Type 0} where
   abbrev IsThere : Option T → Option T → Type 0
   IsThere o k = IfSome k (λ v. o ≡ Some v)
 
-  abbrev IsTold : Object (Option T) Get → Told T → Type 0
+  abbrev IsTold : Object (Option T) Get → Account T → Type 0
   IsTold o k = IsThere o.core k.value × AreThere k.is_waiting o.requests
 
   still : (o o2 k : Option T) → o2 ≡ o → IsThere o k → IsThere o2 k
   still o o2 k e there = subst (λ x. IsThere x k) (sym e) there
 
   -- a call leaves the requests, and what it tells of the value is so
-  called : (o o2 : Option T) (k : Told T) (call : OnceCall T) (a : Answer (OnceHeard T)) → Calls o call a o2 → IsThere o k.value → IsThere o2 (told_by_call k call a).value
+  called : (o o2 : Option T) (k : Account T) (call : OnceCall T) (a : Answer (OnceHeard T)) → Calls o call a o2 → IsThere o k.value → IsThere o2 (after_call k call a).value
   called o o2 k TryGet a t there = still o o2 k.value t.1 there
   called None o2 k (Init x) a t there = rw t.0 t.1
   called (Some y) o2 k (Init x) a t there = rw t.0 (still (Some y) o2 k.value t.1 there)
@@ -74,7 +74,7 @@ module _ {T : Type 0} where
   called o o2 k Take a t there = rw t.0 tt
   called o o2 k IsSet a t there = still o o2 k.value t.1 there
 
-  same_requests : (k : Told T) (call : OnceCall T) (a : Answer (OnceHeard T)) (o o2 : Option T) → Calls o call a o2 → (told_by_call k call a).is_waiting ≡ k.is_waiting
+  same_requests : (k : Account T) (call : OnceCall T) (a : Answer (OnceHeard T)) (o o2 : Option T) → Calls o call a o2 → (after_call k call a).is_waiting ≡ k.is_waiting
   same_requests k TryGet a o o2 t = refl
   same_requests k (Init x) a None o2 t = rw t.0 refl
   same_requests k (Init x) a (Some y) o2 t = rw t.0 refl
@@ -82,7 +82,7 @@ module _ {T : Type 0} where
   same_requests k Take a o o2 t = rw t.0 refl
   same_requests k IsSet a o o2 t = refl
 
-  polled : {W : Type 0} (o : Option T) (q : List (Option Get)) (k : Told T) (r : ℕ) (w : W) (h : Get) (a : Answer (OnceHeard T)) (core : Option T) (p : Option Get) → slice_get q r ≡ Some (Some h) → Polls o h a core p → IsThere o k.value → AreThere k.is_waiting q → IsTold (record { core = core; requests = slice_set q r p }) (told_after k (Poll r w) a)
+  polled : {W : Type 0} (o : Option T) (q : List (Option Get)) (k : Account T) (r : ℕ) (w : W) (h : Get) (a : Answer (OnceHeard T)) (core : Option T) (p : Option Get) → slice_get q r ≡ Some (Some h) → Polls o h a core p → IsThere o k.value → AreThere k.is_waiting q → IsTold (record { core = core; requests = slice_set q r p }) (after k (Poll r w) a)
   polled None q k r w h a core p at t there are = rw (t.0, t.2) (still None core k.value t.1 there, goes_on_at k.is_waiting q r h h at are)
   polled (Some x) q k r w h a core p at t there are = rw t.0 (still (Some x) core k.value t.1 there, ended_at k.is_waiting q r p are)
 
@@ -94,7 +94,7 @@ module _ {T : Type 0} where
   told_of o v IsSet a o2 e t = (let b = rw e at t in b.0)
 
   module _ (W : Type 0) where
-    refused : (k : Told T) (c : Command Get W (OnceCall T)) → told_after k c NoSuch ≡ k
+    refused : (k : Account T) (c : Command Get W (OnceCall T)) → after k c NoSuch ≡ k
     refused k (Start r ask) = refl
     refused k (Poll r w) = refl
     refused k (End r) = refl
@@ -104,7 +104,7 @@ module _ {T : Type 0} where
     refused k (Call Take) = refl
     refused k (Call IsSet) = refl
 
-    keeps : EachStep (once_rules T) (KeepsTold (once_rules T) (λ c. Unit {0}) (told_after {W = W}) IsTold)
+    keeps : EachStep (once_rules T) (KeepsTold (once_rules T) (λ c. Unit {0}) (after {W = W}) IsTold)
     keeps = record {
       refused = λ o c k kind told. subst (λ x. IsTold o x) (sym (refused k c)) told;
       starts = λ o r ask h at begins k kind told. (told.0, started_at k.is_waiting o.requests r h at told.1);
@@ -138,7 +138,7 @@ module _ {T : Type 0} where
 
 pub stays_set : {T W : Type 0} (H : Wakings (Option T) Get (OnceCall T) (OnceHeard T) W) (eq : W → W → Bool) (K : ℕ) (o o2 : Object (Option T) Get) (g g2 : H.Registered) (cs : List (Command Get W (OnceCall T))) (as' : List (Reply (Answer (OnceHeard T)) W K)) → GoodRun (requests_meaning (once_rules T) H eq K) o g cs as' o2 g2 → StaysSet cs as'
 stays_set {T} {W} H eq K o o2 g g2 cs as' run =
-    law_run (requests_meaning (once_rules T) H eq K) (λ c. Unit {0}) (λ k c a. told_after k c a.answer) IsTold
+    law_run (requests_meaning (once_rules T) H eq K) (λ c. Unit {0}) (λ k c a. after k c a.answer) IsTold
     (λ o o2 k c a kind allowed. each_step (once_rules T) (keeps W) o o2 c a.answer allowed k kind)
     (λ k c a. Shows k.value k.is_waiting c a.answer) (λ o o2 k c a kind allowed told. shows W o o2 k.value k.is_waiting c a.answer allowed told)
-    o o2 g g2 nothing_told cs as' (of_any_kind cs) run (tt, λ r e. absurd cc)
+    o o2 g g2 (record { value = None; is_waiting = λ r. false }) cs as' (of_any_kind cs) run (tt, λ r e. absurd cc)

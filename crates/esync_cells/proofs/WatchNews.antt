@@ -22,7 +22,7 @@ use Rattle.esync_cells.specs.Receivers.{is_free, seen_at, version_of, with_seen,
 use Rattle.esync_cells.specs.ReceiversLaws.{and_first, and_second, nobody, at_marked}
 use Rattle.esync_cells.specs.WatchRules.{Watch, sought, marks, with_read, with_receiver, Begins, PollsAs, Polls, Calls, Joins, JoinsAnon, Leaves, Tried, Reads, reach, watch_rules}
 use Rattle.esync_cells.specs.WatchLaws.{only_waits}
-use Rattle.esync_cells.specs.WatchNews.{News, is_told, told_by, after, WaitsOn, WaitsOnFor, TellsNoMore, TellsOnce}
+use Rattle.esync_cells.specs.WatchNews.{Account, is_told, told_by, after, WaitsOn, WaitsOnFor, TellsNoMore, TellsOnce}
 use Rattle.esync_cells.specs.declared.watch.machine.Seen.{Seen}
 use Rattle.esync_cells.specs.declared.watch.machine.Reading.{Reading}
 use Rattle.esync_cells.specs.declared.watch.machine.Reading.TheVariants.{Get, Changed, GetAnd, ChangedAnd}
@@ -191,7 +191,7 @@ module _ {T : Type 0} (h : ℕ) where
       not_at_a_number call r e = cc
 
       module _ (W : Type 0) where
-        refused : (k : News J) (c : Command (Await J) W (WatchCall T C J)) → after h k c NoSuch ≡ k
+        refused : (k : Account J) (c : Command (Await J) W (WatchCall T C J)) → after h k c NoSuch ≡ k
         refused k (Start r ask) = refl
         refused k (Poll r w) = refl
         refused k (End r) = refl
@@ -199,7 +199,7 @@ module _ {T : Type 0} (h : ℕ) where
         refused k (Call call) = refl
 
         -- what was told to have been started is what stands at its number
-        abbrev IsAsked : News J → ℕ → Await J → Type 0
+        abbrev IsAsked : Account J → ℕ → Await J → Type 0
         IsAsked k r x = IfSome (ask_of k.asked r) (λ ask. ask ≡ x)
 
         keeps : KeepsEach (watch_rules n IsClone IsInfallible changed tells passes) (λ c. Unit {0}) (after {W = W} h) (λ o k. IsThere o k.told) IsAsked
@@ -214,7 +214,7 @@ module _ {T : Type 0} (h : ℕ) where
               subst (λ y. IfSome y (λ z. z ≡ x)) (sym (ask_of-other (watch_rules n IsClone IsInfallible changed tells passes) k.asked c a r ne)) here;
         }
 
-        abbrev Told : Object (Watch T) (Await J) → News J → Type 0
+        abbrev Told : Object (Watch T) (Await J) → Account J → Type 0
         Told = IsTold (watch_rules n IsClone IsInfallible changed tells passes) (λ c. Unit {0}) (after {W = W} h) (λ o k. IsThere o k.told) IsAsked
 
         -- what stands at the number of a poll finds no news, and nothing stands at another one

@@ -13,33 +13,30 @@ use Rattle.esync_cells.specs.declared.once_lock.machine.OnceCall.TheVariants.{Tr
 use Rattle.esync_cells.specs.declared.once_lock.machine.OnceHeard.{OnceHeard}
 use Rattle.esync_cells.specs.declared.once_lock.machine.OnceHeard.TheVariants.{Got, Found, HasSet, Shown, IsSet as WasSet}
 
--- what commands and their answers tell of a once lock
-pub record Told (T : Type 0) : Type 0 where
+-- what is known of a once lock from its commands and answers
+pub record Account (T : Type 0) : Type 0 where
   -- the value that was set, and not yet taken
   pub value : Option T
   -- whether a request was started at a number, and neither answered nor ended since
   pub is_waiting : ℕ → Bool
 
 module _ {T : Type 0} where
-  abbrev pub nothing_told : Told T
-  nothing_told = record { value = None; is_waiting = λ r. false }
-
   -- with a request at the number, or without one
-  abbrev pub with_request : ℕ → Bool → Told T → Told T
+  abbrev pub with_request : ℕ → Bool → Account T → Account T
   with_request r waits k = record k { is_waiting = λ s. if r == s then waits else k.is_waiting s }
 
-  abbrev pub told_by_call : Told T → OnceCall T → Answer (OnceHeard T) → Told T
-  told_by_call k (Init v) (Gives (HasSet (Ok done))) = record k { value = Some v }
-  told_by_call k (GetOrInit x) (Gives (Shown v)) = record k { value = Some v }
-  told_by_call k Take (Gives (Found p)) = record k { value = None }
-  told_by_call k _ _ = k
+  abbrev pub after_call : Account T → OnceCall T → Answer (OnceHeard T) → Account T
+  after_call k (Init v) (Gives (HasSet (Ok done))) = record k { value = Some v }
+  after_call k (GetOrInit x) (Gives (Shown v)) = record k { value = Some v }
+  after_call k Take (Gives (Found p)) = record k { value = None }
+  after_call k _ _ = k
 
-  abbrev pub told_after : {W : Type 0} → Told T → Command Get W (OnceCall T) → Answer (OnceHeard T) → Told T
-  told_after k (Start r ask) Done = with_request r true k
-  told_after k (Poll r w) (Gives heard) = with_request r false k
-  told_after k (End r) Done = with_request r false k
-  told_after k (Call call) a = told_by_call k call a
-  told_after k _ _ = k
+  abbrev pub after : {W : Type 0} → Account T → Command Get W (OnceCall T) → Answer (OnceHeard T) → Account T
+  after k (Start r ask) Done = with_request r true k
+  after k (Poll r w) (Gives heard) = with_request r false k
+  after k (End r) Done = with_request r false k
+  after k (Call call) a = after_call k call a
+  after k _ _ = k
 
   -- what a call is answered while this value is there
   abbrev pub ShowsTo : T → OnceCall T → Answer (OnceHeard T) → Type 0
@@ -63,4 +60,4 @@ module _ {T : Type 0} where
 
   -- at each command of a run: from a successful `Init` or a `GetOrInit` on, until a `Take`, each call and each poll of a request shows the value
   abbrev pub StaysSet : {W : Type 0} {K : ℕ} → List (Command Get W (OnceCall T)) → List (Reply (Answer (OnceHeard T)) W K) → Type 0
-  StaysSet commands replies = AtEach (λ k c a. told_after k c a.answer) (λ k c a. Shows k.value k.is_waiting c a.answer) nothing_told commands replies
+  StaysSet commands replies = AtEach (λ k c a. after k c a.answer) (λ k c a. Shows k.value k.is_waiting c a.answer) (record { value = None; is_waiting = λ r. false }) commands replies

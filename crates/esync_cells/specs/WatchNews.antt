@@ -21,11 +21,11 @@ is_told Changed p = true
 is_told (GetAnd judge) p = is_some p
 is_told (ChangedAnd judge) p = is_some p
 
--- what commands and their answers tell of a watch, and of the receiver at a number
-pub record News (J : Type 0) : Type 0 where
+-- what is known of a watch from its commands and answers, and of the receiver at a number
+pub record Account (J : Type 0) : Type 0 where
   -- whether that receiver was told of the latest change
   pub told : Bool
-  -- what was started at which number, the newest first
+  -- what each request was started for
   pub asked : List (ℕ × Await J)
 
 -- what the poll of a request that the receiver at r started for this is answered, while the one at h is told of the latest change:
@@ -55,7 +55,7 @@ module _ {T C J : Type 0} where
   told_after h k (End r) a = k
   told_after h k (Call call) a = told_by h k call a
 
-  abbrev pub after : {W : Type 0} → ℕ → News J → Command (Await J) W (WatchCall T C J) → Answer (WatchHeard T) → News J
+  abbrev pub after : {W : Type 0} → ℕ → Account J → Command (Await J) W (WatchCall T C J) → Answer (WatchHeard T) → Account J
   after h k c a = record { told = told_after h k.told c a; asked = asked_after k.asked c a }
 
   -- what a call is answered while that receiver is told: its reads for a newer version find nothing
