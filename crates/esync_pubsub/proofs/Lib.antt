@@ -9,3 +9,4 @@ pub mod Machine
 pub mod Unread
 pub mod Order
 pub mod Parts
+pub mod Sizes

@@ -4,3 +4,4 @@ pub mod Events
 pub mod PubSubRules
 pub mod PubSubLaws
 pub mod Order
+pub mod Sizes

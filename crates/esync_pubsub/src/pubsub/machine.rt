@@ -8,6 +8,7 @@ ghost use Rattle.esync_machine.specs.Wakings.{IsHanded, unless_refused};
 ghost use Rattle.esync_pubsub.specs.Events.{AreNamed};
 ghost use Rattle.esync_log.specs.Log.{Log, is_live, position, left};
 ghost use Rattle.esync_pubsub.specs.Order.{ReadsInOrder, CountsUnread};
+ghost use Rattle.esync_pubsub.specs.Sizes.{SizesAddUp};
 ghost use Rattle.esync_pubsub.specs.PubSub.{PubSub, fresh, frees};
 ghost use Rattle.esync_pubsub.specs.PubSubRules.{topic_of, is_free, is_subscriber, is_publisher, is_of_subscriber, is_of_publisher, leaves, place_at, names_it, departed, Where, WithLog, Comes, Counts, TriesPublish, AtOnce, Tries, TriesPure, Calls, Polls, room_hands, immediate_of, immediate_hands, call_hands, reach, rest_of, publish_of, read_of, pure_of, stream_of, publish_hands, read_hands, pure_hands, stream_hands, poll_hands, pubsub_rules, pubsub_wakings, PollsPublish, PollsMessage, PollsPure, PollsStream, PollsLog};
 
@@ -844,6 +845,9 @@ pub type PubSubReply<T, W, const K: usize> = Reply<Answer<PubSubHeard<T>>, W, K>
 ///
 /// What a subscriber reads and what it passes over, from its coming on, is what was published since then, in order, up to its position. What it
 /// is told of how much is unread is so.
+///
+/// And the channel's sizes add up: a length and a free capacity make up `CAP`, as long as no message is published or given between them, no
+/// subscriber leaves, and nothing is cleared.
 pub fn run_pubsub<
     T: Clone,
     W: Copy + Eq,
@@ -861,6 +865,7 @@ pub fn run_pubsub<
     ensures run { IfOk result (λ replies. GoodRun (requests_meaning (pubsub_rules T.is_clone T.is_infallible CAP PUBS) (pubsub_wakings W.eq SUBS PUBS) W.eq K) (record { core = topic_of machine.old.state.state machine.old.state.tables; requests = machine.old.requests }) machine.old.state.state.lists commands.items replies.items (record { core = topic_of machine.new.state.state machine.new.state.tables; requests = machine.new.requests }) machine.new.state.state.lists) }
     ensures order { IfOk result (λ replies. machine.old.requests ≡ replicate REQS None → (s : ℕ) → ReadsInOrder T.is_clone s commands.items replies.items (topic_of machine.new.state.state machine.new.state.tables)) }
     ensures counts { IfOk result (λ replies. machine.old.requests ≡ replicate REQS None → (s : ℕ) → CountsUnread T.is_clone s commands.items replies.items) }
+    ensures sizes { IfOk result (λ replies. SizesAddUp CAP (length machine.old.state.state.log.held) commands.items replies.items) }
     ensures refused { OnErr result (machine.new ≡ machine.old) }
 {
     machine.state().named();

@@ -1,11 +1,13 @@
-use Rattle.std.proofs.Common.{◌≡◌, ℕ, None}
+use Rattle.std.proofs.Common.{◌≡◌, ℕ, length, None}
 use Rattle.std.proofs.Math.ListN.{replicate}
 use Rattle.std.proofs.lemmas.Result.{IfOk-weaker}
 use Rattle.esync_machine.specs.Runs.{GoodRun}
 use Rattle.esync_machine.specs.Object.{requests_meaning}
 use Rattle.esync_pubsub.specs.PubSubRules.{topic_of, pubsub_rules, pubsub_wakings}
 use Rattle.esync_pubsub.specs.Order.{ReadsInOrder, CountsUnread}
+use Rattle.esync_pubsub.specs.Sizes.{SizesAddUp}
 use Rattle.esync_pubsub.proofs.Order.{whole_of, in_order, counts_unread}
+use Rattle.esync_pubsub.proofs.Sizes.{sizes_add_up}
 use Rattle.esync_pubsub.proofs.pubsub.machine.run_pubsub.Goals as goal
 
 pub returns : goal.returns
@@ -28,6 +30,12 @@ returns g c =
           (λ replies. GoodRun (requests_meaning (pubsub_rules clone.is_clone clone.is_infallible g.row.CAP g.row.PUBS) wakings g.W.PartialEq.eq g.row.K) (record { core = topic_of old.state.state old.state.tables; requests = old.requests }) old.state.state.lists c.args.commands.items replies.items (record { core = topic_of new.state.state new.state.tables; requests = new.requests }) new.state.state.lists)
           (λ replies. old.requests ≡ replicate g.row.REQS None → (s : ℕ) → CountsUnread clone.is_clone s c.args.commands.items replies.items)
           (λ replies run free s. counts_unread clone.is_clone g.row.NAMES s clone.is_infallible g.row.CAP g.row.PUBS _ wakings g.W.PartialEq.eq g.row.K g.row.REQS _ _ _ _ c.args.commands.items replies.items run free whole)
+          c.run.ensures.run);
+      sizes = (
+          IfOk-weaker c.run.result
+          (λ replies. GoodRun (requests_meaning (pubsub_rules clone.is_clone clone.is_infallible g.row.CAP g.row.PUBS) wakings g.W.PartialEq.eq g.row.K) (record { core = topic_of old.state.state old.state.tables; requests = old.requests }) old.state.state.lists c.args.commands.items replies.items (record { core = topic_of new.state.state new.state.tables; requests = new.requests }) new.state.state.lists)
+          (λ replies. SizesAddUp g.row.CAP (length old.state.state.log.held) c.args.commands.items replies.items)
+          (λ replies run. sizes_add_up clone.is_clone clone.is_infallible g.row.CAP g.row.PUBS _ wakings g.W.PartialEq.eq g.row.K _ _ _ _ c.args.commands.items replies.items run)
           c.run.ensures.run);
       refused = c.run.ensures.refused;
     }
