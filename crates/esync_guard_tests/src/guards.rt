@@ -1,6 +1,5 @@
-use crate::threads::Deaf;
 use esync_guards::mutex::{Mutex, Second, TryLockError};
-use esync_notes::{Notes, same};
+use esync_notes::{Deaf, Notes, same};
 use std::process::Abort;
 
 #[test]

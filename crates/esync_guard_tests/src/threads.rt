@@ -1,37 +1,10 @@
 use esync_base::waitqueue::{Context, Hand, Poll};
 use esync_guards::mutex::{Mutex, TryLockError};
-use esync_notes::same;
-use std::marker::PhantomData;
+use esync_notes::{Deaf, same};
 use std::process::Abort;
 use std::sync::Wait;
 use std::sync::atomic::{AtomicU32, Ordering};
 use std::thread;
-
-// A hand that is made of nothing, and wakes nobody: nobody waits for it. It may wait, as the runtime that it names.
-#[derive(Drop)]
-pub struct Deaf<R> {
-    runtime: PhantomData<R>,
-}
-
-impl<R> Default for Deaf<R> {
-    fn default() -> Self {
-        Deaf {
-            runtime: PhantomData,
-        }
-    }
-}
-
-impl<R: Wait> Wait for Deaf<R> {}
-
-impl<R: Wait> Hand<u64> for Deaf<R> {
-    type Rt = Self;
-
-    fn rt(&self) -> &Self {
-        self
-    }
-
-    fn wake(&self, _waker: u64) {}
-}
 
 // Adds one under the lock, so many times. It tries until it has the lock.
 fn adds<H: Hand<u64>>(rt: &impl Wait, mutex: &Mutex<u32, u64, H>, rounds: u32) {

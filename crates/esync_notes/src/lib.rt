@@ -1,12 +1,13 @@
-//! For tests: a hand that notes what it is given, what was handed out, and assertions that are quick to prove.
+//! For tests: a hand that notes what it is given and one that doesn't, what was handed out, and assertions that are quick to prove.
 //!
 //! `assert!` and `assert_eq!` write a branch into the test, and what lives across branches is most of what a test's proof
 //! costs. [`holds!`](holds!) and [`same!`](same!) make calls in their place, so that a test is proved in half of the time.
 #![tactic(auto)]
 
-use esync_base::waitqueue::{Hand, Wakes};
+use esync_base::waitqueue::{Hand, TaskId, Wakes};
 use std::cell::Cell;
 use std::fmt::{self, Debug, Formatter, InlineText, Write};
+use std::marker::PhantomData;
 use std::sync::Wait;
 
 /// A hand that notes the wakers that it was given, in order. It has room for 8.
@@ -63,6 +64,42 @@ impl<R: Wait> Hand<u64> for &Notes<'_, R> {
         given.push(waker);
         self.given.set(given);
     }
+}
+
+/// A hand that is made of nothing, and wakes no task. It may wait, as the runtime that it names.
+#[derive(Drop)]
+pub struct Deaf<R> {
+    runtime: PhantomData<R>,
+}
+
+impl<R> Default for Deaf<R> {
+    fn default() -> Self {
+        Deaf {
+            runtime: PhantomData,
+        }
+    }
+}
+
+impl<R: Wait> Wait for Deaf<R> {}
+
+impl<R: Wait> Hand<u64> for Deaf<R> {
+    type Rt = Self;
+
+    fn rt(&self) -> &Self {
+        self
+    }
+
+    fn wake(&self, _waker: u64) {}
+}
+
+impl<R: Wait> Hand<TaskId> for Deaf<R> {
+    type Rt = Self;
+
+    fn rt(&self) -> &Self {
+        self
+    }
+
+    fn wake(&self, _waker: TaskId) {}
 }
 
 /// Two that should be equal and aren't, as `Debug` shows them.
