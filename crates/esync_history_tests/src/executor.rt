@@ -9,7 +9,7 @@ use esync_run::requests::Requests;
 use std::alloc::Global;
 use std::process::Abort;
 
-pub type ChannelAct = Act<ChannelAsk<u32>, ChannelCommand<u32, TaskId>>;
+type ChannelAct = Act<ChannelAsk<u32>, ChannelCommand<u32, TaskId>>;
 
 type ChannelAnswer = Answer<ChannelHeard<u32>>;
 
@@ -21,16 +21,16 @@ const SEND: ChannelAct = Act::Call(Command::Call(ChannelCall::TrySend(7)));
 
 const RECEIVE: ChannelAct = Act::Await(0, ChannelAsk::Receive);
 
-/// A task that receives, and one that sends.
-pub const RECEIVES_AND_SENDS: &[&[ChannelAct]] = &[&[RECEIVE], &[SEND]];
+// A task that receives, and one that sends.
+const RECEIVES_AND_SENDS: &[&[ChannelAct]] = &[&[RECEIVE], &[SEND]];
 
 const RECEIVED: ChannelAnswer = Answer::Gives(ChannelHeard::Received(7));
 
 const SENT: ChannelAnswer = Answer::Gives(ChannelHeard::TrySent(Ok(())));
 
-/// Gives these commands to a channel of one place, and runs these tasks over it: each run, of so many turns at most, ends so, and then
-/// the tasks have heard this. Then the channel holds so many messages.
-pub fn plays(
+// Gives these commands to a channel of one place, and runs these tasks over it: each run, of so many turns at most, ends so, and then
+// the tasks have heard this. Then the channel holds so many messages.
+fn plays(
     rt: &impl Abort,
     alloc: Global,
     commands: &[ChannelCommand<u32, TaskId>],

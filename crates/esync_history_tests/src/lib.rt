@@ -18,8 +18,6 @@ mod priority;
 #[cfg(test)]
 mod pubsub;
 #[cfg(test)]
-mod refused;
-#[cfg(test)]
 mod runs;
 pub mod stalls;
 #[cfg(test)]

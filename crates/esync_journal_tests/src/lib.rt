@@ -5,8 +5,6 @@
 mod books;
 #[cfg(test)]
 mod flags;
-#[cfg(test)]
-mod refused;
 pub mod seats;
 #[cfg(test)]
 mod threads;

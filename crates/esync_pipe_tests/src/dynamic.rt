@@ -46,35 +46,53 @@ fn fills<P: DynamicPipe + Drop>(rt: &impl Abort, reader: &mut DynamicReader<P>, 
     }
 }
 
-// Two bytes are filled, of which one is consumed and the other one read.
-fn takes_two<P: DynamicPipe + Drop>(rt: &impl Abort, reader: &mut DynamicReader<P>) {
-    fills(rt, reader, &[42, 43]);
-    holds!(*rt; !reader.filled().is_empty());
-    reader.consume(1);
-    same!(*rt; reader.filled(), [43].as_slice());
-    fills(rt, reader, &[43]);
-    let mut to = [0; 2];
-    holds!(*rt; reader.try_read(&mut to) == Ok(1));
-    same!(*rt; to, [43, 0]);
-    fills(rt, reader, &[]);
+// So many bytes that a fill showed are consumed.
+fn consumes<P: DynamicPipe + Drop>(rt: &impl Abort, reader: &mut DynamicReader<P>, count: usize) {
+    assert!(rt; count <= reader.filled().len());
+    reader.consume(count);
 }
 
-// The growth of the reader is the only one of this test. Where all memory is given, it is there at once: `rt try --test
-// --fail-alloc 1` refuses it.
+// What fits is written.
+fn writes<P: DynamicPipe>(
+    rt: &impl Abort,
+    writer: &DynamicWriter<P>,
+    bytes: &[u8],
+    answer: Result<usize, TryWriteError>,
+) {
+    holds!(*rt; writer.try_write(bytes) == answer);
+}
+
+// Up to the wrap of a pipe of three bytes, and across it.
+fn goes_round<P: DynamicPipe + Drop>(
+    rt: &impl Abort,
+    reader: &mut DynamicReader<P>,
+    writer: &DynamicWriter<P>,
+) {
+    writes(rt, writer, &[42, 43], Ok(2));
+    fills(rt, reader, &[42, 43]);
+    fills(rt, reader, &[42, 43]);
+    consumes(rt, reader, 1);
+    fills(rt, reader, &[43]);
+    consumes(rt, reader, 1);
+    fills(rt, reader, &[]);
+    writes(rt, writer, &[44, 45, 46], Ok(3));
+    writes(rt, writer, &[45, 46], Err(TryWriteError::Full));
+    fills(rt, reader, &[44]);
+    consumes(rt, reader, 1);
+    fills(rt, reader, &[45, 46]);
+    writes(rt, writer, &[47], Ok(1));
+    fills(rt, reader, &[45, 46, 47]);
+    consumes(rt, reader, 3);
+}
+
 #[test]
-fn a_refused_reader_is_made_again(rt: HostRuntime) -> Result<(), AllocError> {
+fn dynamic_dispatch_pipe(rt: HostRuntime) -> Result<(), AllocError> {
     let shared: Pipe<TaskId, _, 3> = pipe(rt);
     let pipe: &dyn DynamicPipe = &shared;
+    let mut reader: DynamicReader<&dyn DynamicPipe> = DynamicReader::new(rt.alloc(), pipe)?;
     let writer: DynamicWriter<&dyn DynamicPipe> = DynamicWriter::new(pipe);
-    holds!(rt; writer.try_write(&[42, 43]) == Ok(2));
-    let mut reader: DynamicReader<&dyn DynamicPipe> = match DynamicReader::new(rt.alloc(), pipe) {
-        Ok(reader) => reader,
-        Err(AllocError) => {
-            same!(rt; shared.len(), 2);
-            DynamicReader::new(rt.alloc(), pipe)?
-        }
-    };
-    takes_two(&rt, &mut reader);
+    goes_round(&rt, &mut reader, &writer);
+    same!(rt; shared.len(), 0);
     Ok(())
 }
 
