@@ -12,11 +12,11 @@ use std::alloc::{AllocError, Global};
 use std::cell::Cell;
 use std::process::Abort;
 
-// A message that counts its clones, and whose clone has no memory while the cell says so.
+/// A message that counts its clones, and whose clone has no memory while the cell says so.
 #[derive(Drop)]
-struct Counted<'a> {
+pub struct Counted<'a> {
     is_refused: &'a Cell<bool>,
-    clones: u32,
+    pub clones: u32,
     text: &'static str,
 }
 
@@ -33,7 +33,8 @@ impl Clone for Counted<'_> {
     }
 }
 
-fn message<'a>(is_refused: &'a Cell<bool>, text: &'static str) -> Counted<'a> {
+/// A message that wasn't cloned yet.
+pub fn message<'a>(is_refused: &'a Cell<bool>, text: &'static str) -> Counted<'a> {
     Counted {
         is_refused,
         clones: 0,

@@ -1,6 +1,8 @@
+use crate::clones::{Counted, message};
 use esync_base::waitqueue::{Context, Poll};
 use esync_notes::{Notes, holds, woken};
 use esync_pubsub::pubsub::{Error, Pub, PubSubBehavior, PubSubChannel, Sub, WaitResult};
+use std::cell::Cell;
 use std::process::Abort;
 use std::sync::Wait;
 
@@ -75,4 +77,45 @@ fn a_sink_publishes_what_it_stored_last(rt: HostRuntime) {
     let notes = Notes::new(&rt);
     let channel: PubSubChannel<u32, u64, _, 1, 1, 1, 1> = PubSubChannel::new(&notes);
     sinks(&rt, &notes, channel.publisher(), channel.subscriber());
+}
+
+// A read of the subscriber gives a message that was cloned so often.
+fn reads_cloned<'m, B: PubSubBehavior<Message = Counted<'m>>>(
+    rt: &impl Abort,
+    subscriber: &mut Sub<'_, B>,
+    clones: u32,
+) {
+    match subscriber.try_next_message_pure() {
+        Ok(Some(message)) => holds!(*rt; message.clones == clones),
+        _ => rt.abort(),
+    }
+}
+
+// Of two that read a message, the last one is given the message itself.
+fn clones_once<'m, B: PubSubBehavior<Message = Counted<'m>, Waker = u64>>(
+    rt: &impl Abort,
+    publisher: Result<Pub<'_, B>, Error>,
+    subscribers: (Result<Sub<'_, B>, Error>, Result<Sub<'_, B>, Error>),
+    message: Counted<'m>,
+) {
+    let mut first = subscribes(rt, subscribers.0);
+    let mut second = subscribes(rt, subscribers.1);
+    let publisher = counts(rt, publisher);
+    let published = publisher.publish(message).poll(&Context::from_waker(1));
+    holds!(*rt; matches!(published, Poll::Ready(Ok(()))));
+    reads_cloned(rt, &mut first, 1);
+    reads_cloned(rt, &mut second, 0);
+}
+
+#[test]
+fn skip_clone_for_last_message(rt: HostRuntime) {
+    let (notes, is_refused) = (Notes::new(&rt), Cell::new(false));
+    let channel: PubSubChannel<Counted<'_>, u64, _, 1, 2, 1, 2> = PubSubChannel::new(&notes);
+    let subscribers = (channel.subscriber(), channel.subscriber());
+    clones_once(
+        &rt,
+        channel.publisher(),
+        subscribers,
+        message(&is_refused, "x"),
+    );
 }

@@ -7,7 +7,7 @@ use esync_pubsub::pubsub::{
 use esync_streams::{Registrations, SinkAdapter, SubStream};
 use futures::task::Poll;
 use futures::test::MockTask;
-use futures::{Sink, Stream};
+use futures::{Sink, SinkExt, Stream, StreamExt, stream};
 use std::alloc::AllocError;
 use std::process::Abort;
 use std::sync::Wait;
@@ -217,6 +217,57 @@ fn a_hand_has_the_places_that_it_was_made_with<R: Abort + Wait>(
     let channel: PubSubChannel<u32, TaskId, _, 1, 1, 1, 1> = PubSubChannel::new(hand);
     has_no_place(rt, hand, channel.subscriber());
     holds!(rt; channel.subscriber().is_ok());
+}
+
+// The sink takes this message, and is flushed.
+fn sends<'h, 's, B: PubSubBehavior<Message = u32, Waker = TaskId>>(
+    rt: &impl Abort,
+    task: &MockTask,
+    sink: SinkAdapter<'h, 's, B>,
+    message: u32,
+) -> SinkAdapter<'h, 's, B> {
+    match task.poll(&mut sink.send(message)) {
+        Poll::Ready(Ok(sink)) => sink,
+        _ => rt.abort(),
+    }
+}
+
+// The sink takes four messages as one stream, and is flushed.
+fn sends_all<B: PubSubBehavior<Message = u32, Waker = TaskId>>(
+    rt: &impl Abort,
+    task: &MockTask,
+    sink: SinkAdapter<'_, '_, B>,
+) {
+    let mut sent = sink.send_all(stream::iter(0..4u32).map(Ok));
+    holds!(rt; matches!(task.poll(&mut sent), Poll::Ready(Ok(_))));
+}
+
+fn publishes_a_stream<B: PubSubBehavior<Message = u32, Waker = TaskId>>(
+    rt: &impl Abort,
+    hand: &Registrations<'_, impl Wait>,
+    task: &MockTask,
+    subscriber: Result<Sub<'_, B>, Error>,
+    publisher: Result<Pub<'_, B>, Error>,
+) {
+    let mut subscriber = subscribes(rt, subscriber);
+    let publisher = counts(rt, publisher);
+    let sink = sends(rt, task, sink(rt, hand, &publisher), 0);
+    reads(rt, &mut subscriber, 0);
+    let sink = sends(rt, task, sink, 1);
+    reads(rt, &mut subscriber, 1);
+    sends_all(rt, task, sink);
+    for message in 0..4 {
+        reads(rt, &mut subscriber, message);
+    }
+}
+
+#[test]
+fn publisher_sink(rt: HostRuntime) -> Result<(), Fail> {
+    let hand = Registrations::new(&rt, rt.alloc(), 1)?;
+    let task = MockTask::new(&rt)?;
+    let channel: PubSubChannel<u32, TaskId, _, 4, 4, 4, 4> = PubSubChannel::new(&hand);
+    publishes_a_stream(&rt, &hand, &task, channel.subscriber(), channel.publisher());
+    Ok(())
 }
 
 #[test]
