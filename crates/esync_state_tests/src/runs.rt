@@ -7,7 +7,7 @@ use esync_channel::channel::machine::{
 };
 use esync_machine::primitive::{Answer, Command};
 use esync_machine::requests::Requests;
-use esync_machine::run::{Awaits, Machine, end_request};
+use esync_machine::run::{Awaits, Machine, end_request, run};
 use esync_notes::{holds, same};
 use esync_priority::prio::Max;
 use esync_priority::priority_channel;
@@ -35,6 +35,37 @@ fn a_run_of_a_channel(rt: HostRuntime) -> Result<(), AllocError> {
         (Answer::Pending, None),
         (Answer::Gives(Heard::TrySent(Ok(()))), Some(4)),
         (Answer::Gives(Heard::Received(7)), None),
+    ];
+    are(&rt, replies, &want)
+}
+
+// A receiver displaces another, which is woken; the message comes, and its task ends before it takes it.
+#[test]
+fn a_run_in_which_a_receiver_is_displaced(rt: HostRuntime) -> Result<(), AllocError> {
+    let commands = Vec::from_array(
+        rt.alloc(),
+        [
+            Command::Start(1, Ask::Receive),
+            Command::Poll(1, 1),
+            Command::Start(2, Ask::Receive),
+            Command::Poll(2, 2),
+            Command::Call(Call::TrySend(7)),
+            Command::End(2),
+            Command::Poll(1, 1),
+            Command::Poll(1, 1),
+        ],
+    )?;
+    let mut machine: Run = Requests::new(ChannelState::new());
+    let replies = run(rt.alloc(), &mut machine, commands);
+    let want = [
+        (Answer::Done, None),
+        (Answer::Pending, None),
+        (Answer::Done, None),
+        (Answer::Pending, Some(1)),
+        (Answer::Gives(Heard::TrySent(Ok(()))), Some(2)),
+        (Answer::Done, None),
+        (Answer::Gives(Heard::Received(7)), None),
+        (Answer::NoSuch, None),
     ];
     are(&rt, replies, &want)
 }

@@ -1,7 +1,7 @@
 //! What no recorded run says of a watch: changes and values of any kind, and who is counted.
 use crate::wakers::hands_out;
 use esync_base::waitqueue::{Context, Wakes};
-use esync_cells::watch::{Change, Judge, WatchState};
+use esync_cells::watch::{Change, Exhausted, Judge, WatchState};
 use esync_notes::{holds, same};
 use std::alloc::AllocError;
 use std::cell::Cell;
@@ -157,4 +157,31 @@ fn a_change_is_news_where_it_tells_or_is_sent(rt: HostRuntime) {
     changes(&rt, &mut watch, &Asked(&asked));
     hears(&rt, &watch, &mut seen, Some(9));
     same!(rt; watch.get_msg_id(), 2);
+}
+
+// A value is sent, or comes back. Nobody waits for it.
+fn sends(rt: &impl Abort, watch: &mut One, value: u32, answer: Result<(), Exhausted<u32>>) {
+    let mut wakes = Wakes::new();
+    holds!(rt; watch.send(value, &mut wakes) == answer);
+    hands_out(rt, &wakes, None);
+}
+
+// No version is left for a change, which isn't asked.
+fn changes_nothing(rt: &impl Abort, watch: &mut One) {
+    let (mut wakes, asked) = (Wakes::new(), Cell::new(false));
+    holds!(rt; watch.send_modify(&Asked(&asked), &mut wakes) == Err(Exhausted(())));
+    hands_out(rt, &wakes, None);
+    holds!(rt; !asked.get());
+}
+
+#[test]
+fn the_last_version_is_sent_once(rt: HostRuntime) {
+    let (mut watch, mut seen): (One, u64) = (WatchState::new_at(u64::MAX - 1), 0);
+    holds!(rt; watch.add_receiver());
+    sends(&rt, &mut watch, 1, Ok(()));
+    sends(&rt, &mut watch, 2, Err(Exhausted(2)));
+    changes_nothing(&rt, &mut watch);
+    hears(&rt, &watch, &mut seen, Some(1));
+    watch.clear();
+    holds!(rt; watch.try_get(&mut seen) == Ok(None));
 }

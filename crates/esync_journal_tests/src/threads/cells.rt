@@ -58,7 +58,7 @@ const SENT_OR_FOUND: [&[WatchAnswer]; 5] = [
 ];
 
 // A watch with the receiver 0.
-fn watch() -> WatchRun<u32, TaskId, Never, Never, 1, 1, 1, 1> {
+fn watch() -> WatchRun<u32, TaskId, Never, Never, 4, 1, 1, 4> {
     let mut watch = Requests::new(Watched::new());
     watch.step(Command::Call(WatchCall::Receiver(0)));
     watch
