@@ -125,7 +125,7 @@ impl<T: Drop, W: Copy + Eq> ChannelState<T, W> {
         self.lend(Side::Sender)
     }
 
-    /// The same. Where no slot is spare, the context's waker waits for one.
+    /// Lends the next spare slot, to be written, if there is one. Otherwise the context's waker waits for one.
     pub fn poll_send<const K: usize>(
         &mut self,
         cx: &Context<W>,
@@ -160,7 +160,7 @@ impl<T: Drop, W: Copy + Eq> ChannelState<T, W> {
         self.lend(Side::Receiver)
     }
 
-    /// The same. Where no slot is held, the context's waker waits for one.
+    /// Lends the oldest held slot, to be read or written, if there is one. Otherwise the context's waker waits for one.
     pub fn poll_receive<const K: usize>(
         &mut self,
         cx: &Context<W>,

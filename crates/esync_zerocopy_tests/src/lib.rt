@@ -1,6 +1,9 @@
-//! What neither a clause nor a script says of the zero-copy channel: what a loan shows its sender, calls of the whole channel, and threads.
+//! What neither a clause nor a script says of the zero-copy channel: what a loan shows its sender, calls of the whole channel,
+//! polls between the two steps of a loan's end, and threads.
 #![tactic(auto)]
 
+#[cfg(test)]
+mod ends;
 #[cfg(test)]
 mod shared;
 #[cfg(test)]

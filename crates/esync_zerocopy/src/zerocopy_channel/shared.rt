@@ -1,6 +1,6 @@
 //! A zero-copy channel that tasks on several threads share by reference, its handles, its loans and its futures.
-ghost use Rattle.std.specs.Prelude.{◌≡◌, ◌<◌, [], length, slice_get, OnSome, IsSome};
-ghost use Rattle.esync_zerocopy.specs.Slots.{all_spare, count, before, out_if, waiting_unless};
+ghost use Rattle.std.specs.Prelude.{◌≡◌, ◌<◌, true, [], length, slice_get, OnSome, IsSome, None};
+ghost use Rattle.esync_zerocopy.specs.Slots.{all_spare, count, before, is_out, out_if, waiting_unless};
 ghost use Rattle.esync_zerocopy.specs.Turned.{wakes_of_turn, DoneIf};
 
 use super::turns::Turns;
@@ -15,7 +15,12 @@ use std::sync::{self, Wait};
 /// A slot for a message, whose value one side at a time takes, which never waits for it.
 pub type Slot<T> = Place<T>;
 
-// Takes the side's next slot out, and its value, where there is a slot and its value is there.
+// Takes the side's next slot out, with its value. There is no turn to be won where the side has no slot, or where the
+// slot's value can't be taken just now.
+//
+// Nor is there one while the side's slot is out, even where its value is back: a loan puts the value back first and
+// tells the state afterwards (`Loan::put_back`), and in between another thread can poll the request that the loan came
+// from.
 fn try_turn<'a, T, W: Copy + Eq>(
     slots: &'a [Slot<T>],
     turns: &mut Turns<W>,
@@ -23,15 +28,20 @@ fn try_turn<'a, T, W: Copy + Eq>(
 ) -> Option<sync::MutexGuard<'a, T>>
     ensures state { turns.new ≡ record { sides = out_if result side turns.old.sides; waiting = turns.old.waiting } }
     ensures slot { OnSome result (IsSome (slice_get (before side turns.old.sides) 0)) }
+    ensures out { is_out side turns.old.sides ≡ true → result ≡ None }
 {
+    if turns.is_out(side) {
+        return None;
+    }
     let slot = slots.get(turns.next(side)?)?;
     let value = slot.turn()?;
     let _ = turns.lend(side);
     Some(value)
 }
 
-// The same, or else waits for a slot. Where there is one and its value isn't there, it hands out the waker, so that the task polls
-// again.
+// Takes the side's next slot out, with its value, as `try_turn` does. Where the side has no slot, the context's waker
+// waits for one. Where it has one that is out, or whose value can't be taken just now, the context's waker is handed
+// out, so that the task polls again.
 fn poll_turn<'a, T, W: Copy + Eq>(
     slots: &'a [Slot<T>],
     turns: &mut Turns<W>,
@@ -40,6 +50,7 @@ fn poll_turn<'a, T, W: Copy + Eq>(
     wakes: &mut Wakes<W, 1>,
 ) -> Option<sync::MutexGuard<'a, T>>
     requires { wakes.old ≡ [] }
+    ensures out { is_out side turns.old.sides ≡ true → result ≡ None }
     ensures sides { turns.new.sides ≡ out_if result side turns.old.sides }
     ensures waiting { turns.new.waiting ≡ waiting_unless W.eq (slice_get (before side turns.old.sides) 0) side cx.now turns.old.waiting }
     ensures wakes { wakes.new ≡ wakes_of_turn W.eq (slice_get (before side turns.old.sides) 0) result side cx.now turns.old.waiting }
@@ -78,8 +89,9 @@ fn reset<W: Copy + Eq>(turns: &mut Turns<W>, wakes: &mut Wakes<W, 1>)
 
 /// A channel of slots, which a sender and a receiver share by reference.
 ///
-/// Its lock is held for the length of a state call alone. A loan has the slot's value to itself: it reads and writes it without
-/// waiting. A slot whose value can't be taken just now is answered as if there were none, and a poll hands out its own waker then.
+/// Its lock is held for the length of a state call alone. A loan has the slot's value to itself: it reads and writes it
+/// without waiting. While a side's slot is lent, or where its value can't be taken just now, the side is answered as if
+/// it had no slot, and a poll hands out its own waker then.
 #[derive(Drop)]
 pub struct Channel<T, W, H> {
     slots: Vec<Slot<T>>,
@@ -194,7 +206,7 @@ impl<T, W: Copy + Eq, H: Hand<W>> Sender<'_, T, W, H> {
         self.channel.try_lend(Side::Sender)
     }
 
-    /// The same. Where no slot is spare, the context's waker waits for one.
+    /// Lends the next spare slot, if there is one now. Otherwise the context's waker waits for one.
     pub fn poll_send(&mut self, cx: &Context<W>) -> Poll<SendSlot<'_, T, W, H>> {
         self.channel.poll_lend(Side::Sender, cx)
     }
@@ -262,7 +274,7 @@ impl<T, W: Copy + Eq, H: Hand<W>> Receiver<'_, T, W, H> {
         self.channel.try_lend(Side::Receiver)
     }
 
-    /// The same. Where no slot is held, the context's waker waits for one.
+    /// Lends the oldest held slot, if there is one now. Otherwise the context's waker waits for one.
     pub fn poll_receive(&mut self, cx: &Context<W>) -> Poll<ReceiveSlot<'_, T, W, H>> {
         self.channel.poll_lend(Side::Receiver, cx)
     }
@@ -311,8 +323,8 @@ impl<T, W: Copy + Eq, H: Hand<W>> Receiver<'_, T, W, H> {
     }
 }
 
-/// A request of a side for its next slot. It acts anew after it was ready; while the slot is lent, it waits and hands out its own
-/// waker.
+/// A request of a side for its next slot. It acts anew after it was ready. Until the end of its loan is over, it waits and
+/// hands out its own waker.
 #[must_use]
 #[derive(Drop)]
 pub struct ZeroRequest<'a, T, W, H> {
@@ -327,8 +339,9 @@ pub type ZeroSend<'a, T, W, H> = ZeroRequest<'a, T, W, H>;
 pub type ZeroReceive<'a, T, W, H> = ZeroRequest<'a, T, W, H>;
 
 impl<'a, T, W: Copy + Eq, H: Hand<W>> ZeroRequest<'a, T, W, H> {
-    /// Lends the side's next slot, if there is one now. Otherwise the context's waker waits for one. Where there is one, but its value
-    /// can't be taken just now, the answer is Pending too, and the context's waker is handed out, so that the task polls again.
+    /// Lends the side's next slot, if there is one now. Otherwise the context's waker waits for one. Where there is one
+    /// that is lent, or whose value can't be taken just now, the answer is Pending too, and the context's waker is handed
+    /// out, so that the task polls again.
     pub fn poll(&mut self, cx: &Context<W>) -> Poll<SlotLoan<'a, T, W, H>> {
         self.channel.poll_lend(self.side, cx)
     }
@@ -388,7 +401,13 @@ impl<S: EndsLoan, G> Model for Loan<S, G> {
 }
 
 impl<S: EndsLoan, G: Drop> Loan<S, G> {
-    // Puts the value back, and gives the side alone: a state that shows the slot never meets a value that is still out.
+    // Puts the value back, and gives the side alone, by which the state is told next that the loan has ended.
+    //
+    // In this order a state that shows the slot to the other side never meets a value that is still out. In between, the
+    // slot is still out in the state, so that it stays the side's next one and this loan the only one: a poll of the
+    // request wins no turn (`try_turn`), and a clear by the other side is refused. Nothing else can move the slot or end
+    // the loan: it borrows its side, and with it the channel, so that neither the side's own `send_done`, `receive_done`
+    // and `clear` nor the `clear` of the whole channel can be called before the state was told.
     fn put_back(self) -> S {
         let Loan { side, value } = self;
         drop(value);

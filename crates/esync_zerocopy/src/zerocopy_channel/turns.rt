@@ -169,7 +169,8 @@ impl<W: Copy + Eq> Turns<W> {
         }
     }
 
-    /// The same. Where there is no slot, the context's waker waits for one.
+    /// Takes the side's next slot out, if there is one, and tells its number. Where there is none, the context's waker waits
+    /// for one.
     pub fn poll_lend<const K: usize>(
         &mut self,
         side: Side,
