@@ -4,3 +4,4 @@ pub mod ZeroRules
 pub mod ZeroLaws
 pub mod LendingLaws
 pub mod Turned
+pub mod Shared

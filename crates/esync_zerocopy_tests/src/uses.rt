@@ -1,8 +1,9 @@
-//! What is known of the value of a slot that is lent: what was last written through the loan is what is read.
-ghost use Rattle.std.specs.Prelude.{◌≡◌, IfSome};
+//! What a program can prove of a shared channel: what was last written through a loan is what is read, and how many slots there are.
+ghost use Rattle.std.specs.Prelude.{◌≡◌, [], ◌∷◌, IfSome, IfOk};
 
 use esync_base::waitqueue::Hand;
-use esync_zerocopy::zerocopy_channel::{Receiver, Sender};
+use esync_zerocopy::zerocopy_channel::{Channel, Receiver, Sender, Slot};
+use std::alloc::{AllocError, Global};
 
 /// Writes the next spare slot, reads it, and sends it.
 pub fn sends_seven<H: Hand<u64>>(sender: &mut Sender<'_, u32, u64, H>) -> Option<u32>
@@ -24,4 +25,17 @@ pub fn reads_twice<H: Hand<u64>>(receiver: &mut Receiver<'_, u32, u64, H>) -> Op
     let second = *slot.get();
     slot.end();
     Some((first, second))
+}
+
+/// Makes a channel of two slots. It tells a capacity of 2: before it is split, by its two sides, also where these are lent,
+/// and after they have ended.
+pub fn tells_two<H: Hand<u64> + Drop>(alloc: Global, hand: H) -> Result<[usize; 4], AllocError>
+    ensures { IfOk result (λ told. told ≡ 2 ∷ 2 ∷ 2 ∷ 2 ∷ []) }
+{
+    let slots = vec![in alloc; Slot::new(8u32), Slot::new(9u32)]?;
+    let mut channel = Channel::new(slots, hand);
+    let before = channel.capacity();
+    let (mut sender, mut receiver) = channel.split();
+    let (sending, receiving) = (sender.borrow().capacity(), receiver.borrow().capacity());
+    Ok([before, sending, receiving, channel.capacity()])
 }

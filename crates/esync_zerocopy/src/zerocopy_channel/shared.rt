@@ -2,6 +2,7 @@
 ghost use Rattle.std.specs.Prelude.{◌≡◌, ◌<◌, true, [], length, slice_get, OnSome, IsSome, None};
 ghost use Rattle.esync_zerocopy.specs.Slots.{all_spare, count, before, is_out, out_if, waiting_unless};
 ghost use Rattle.esync_zerocopy.specs.Turned.{wakes_of_turn, DoneIf};
+ghost use Rattle.esync_zerocopy.specs.Shared.{slots_of, slots_of_sender, slots_of_receiver};
 
 use super::turns::Turns;
 use super::{Side, SlotLent};
@@ -99,9 +100,15 @@ pub struct Channel<T, W, H> {
 }
 
 impl<T, W: Copy + Eq, H: Hand<W>> Channel<T, W, H> {
+    ghost use Rattle.std.specs.Prelude.{⊤};
+    ghost use Rattle.std.specs.Borrow.{sem, follows_so};
+    ghost use mathlib.Core.Option.{none};
+    ghost use Rattle.esync_zerocopy.specs.contracts.zerocopy_channel.shared.Channel.{the_row};
+
     /// A channel of these slots, all spare. There has to be a slot.
     pub fn new(slots: Vec<Slot<T>>, hand: H) -> Self
         requires { 0 < length slots.items }
+        ensures { slots_of result ≡ length slots.items }
     {
         let capacity = slots.len();
         Channel {
@@ -111,13 +118,19 @@ impl<T, W: Copy + Eq, H: Hand<W>> Channel<T, W, H> {
     }
 
     /// The two sides of the channel.
-    pub fn split(&mut self) -> (Sender<'_, T, W, H>, Receiver<'_, T, W, H>) {
+    pub fn split(&mut self) -> (Sender<'_, T, W, H>, Receiver<'_, T, W, H>)
+        ensures* leaves { sem 𝓛 (follows_so (the_row T.row W.row H.row) (the_row T.row W.row H.row) self.entry.ghost_name none (λ _ _. ⊤) (λ v. slots_of v ≡ slots_of self.old)) }
+        ensures sender { slots_of_sender result.0 ≡ slots_of self.old }
+        ensures receiver { slots_of_receiver result.1 ≡ slots_of self.old }
+    {
         let channel = &*self;
         (Sender { channel }, Receiver { channel })
     }
 
     /// Makes all slots spare, and wakes who waits to send. Nobody has a loan, since the channel is borrowed whole.
-    pub fn clear(&mut self) {
+    pub fn clear(&mut self)
+        ensures { slots_of self.new ≡ slots_of self.old }
+    {
         step!(self.turns, |turns, wakes| reset(&mut turns, &mut wakes))
     }
 
@@ -136,8 +149,10 @@ impl<T, W: Copy + Eq, H: Hand<W>> Channel<T, W, H> {
         self.free_capacity() == 0
     }
 
-    /// How many slots there are.
-    pub fn capacity(&self) -> usize {
+    /// How many slots there are. It takes no lock.
+    pub fn capacity(&self) -> usize
+        ensures { result ≡ slots_of self.now }
+    {
         self.slots.len()
     }
 
@@ -194,8 +209,10 @@ pub struct Sender<'a, T, W, H> {
 }
 
 impl<T, W: Copy + Eq, H: Hand<W>> Sender<'_, T, W, H> {
-    /// The same side, for as long as this one is borrowed.
-    pub fn borrow(&mut self) -> Sender<'_, T, W, H> {
+    /// Lends the side, for as long as this one is borrowed.
+    pub fn borrow(&mut self) -> Sender<'_, T, W, H>
+        ensures { slots_of_sender result ≡ slots_of_sender self.old }
+    {
         Sender {
             channel: self.channel,
         }
@@ -244,8 +261,10 @@ impl<T, W: Copy + Eq, H: Hand<W>> Sender<'_, T, W, H> {
         self.channel.is_full()
     }
 
-    /// How many slots there are.
-    pub fn capacity(&self) -> usize {
+    /// How many slots there are. It takes no lock.
+    pub fn capacity(&self) -> usize
+        ensures { result ≡ slots_of_sender self.now }
+    {
         self.channel.capacity()
     }
 
@@ -262,8 +281,10 @@ pub struct Receiver<'a, T, W, H> {
 }
 
 impl<T, W: Copy + Eq, H: Hand<W>> Receiver<'_, T, W, H> {
-    /// The same side, for as long as this one is borrowed.
-    pub fn borrow(&mut self) -> Receiver<'_, T, W, H> {
+    /// Lends the side, for as long as this one is borrowed.
+    pub fn borrow(&mut self) -> Receiver<'_, T, W, H>
+        ensures { slots_of_receiver result ≡ slots_of_receiver self.old }
+    {
         Receiver {
             channel: self.channel,
         }
@@ -312,8 +333,10 @@ impl<T, W: Copy + Eq, H: Hand<W>> Receiver<'_, T, W, H> {
         self.channel.is_full()
     }
 
-    /// How many slots there are.
-    pub fn capacity(&self) -> usize {
+    /// How many slots there are. It takes no lock.
+    pub fn capacity(&self) -> usize
+        ensures { result ≡ slots_of_receiver self.now }
+    {
         self.channel.capacity()
     }
 
