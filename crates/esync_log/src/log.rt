@@ -1,6 +1,7 @@
 //! Messages with consecutive numbers, and how far each subscriber has read.
 ghost use Rattle.std.specs.Prelude.{◌≡◌, ℕ, true, false, not, nat_lt, ◌+◌, ◌-◌, ◌<◌, ◌≤◌, ◌↔◌, [], Some, None, length, is_some, IsTrue, replicate, slice_get, slice_set, slice_index_or, IfOk, OnOk, OnErr, IfSome, IfNone};
 ghost use Rattle.std.specs.List.{list_all};
+ghost use Rattle.esync_log.specs.Counts.{readers_of};
 ghost use Rattle.esync_log.specs.Log.{IsLeastFree, oldest, has_subscribers, last_number, published, with_room, is_last, settled, moved, is_live, position, left, cleared, Joins, Publishes, PublishesAtOnce, ClonesAt, MayFailAt, Takes, IsRefused, Reads, ReadsOn, caught, found};
 
 use held::Held;
@@ -157,6 +158,20 @@ impl<T: Drop, const CAP: usize, const SUBS: usize> Log<T, CAP, SUBS> {
         match self.positions.get(place) {
             Some(position) => self.next - position,
             None => 0,
+        }
+    }
+
+    /// Returns the count beside message `index`, where message 0 is the oldest that is held: how many subscribers have still to read
+    /// it. `None` where no more than `index` messages are held.
+    pub fn reader_count(&self, index: usize) -> Option<usize>
+        ensures held { index < length self.now.held → result ≡ Some (readers_of (oldest self.now + index) self.now.positions) }
+        ensures none { length self.now.held ≤ index → result ≡ None }
+    {
+        let len = self.held.len();
+        if index < len {
+            Some(self.held.count(index))
+        } else {
+            None
         }
     }
 

@@ -1,6 +1,7 @@
 //! A pub-sub channel: whoever publishes reaches all who subscribed before.
 ghost use Rattle.std.specs.Prelude.{◌≡◌, ◌+◌, ◌-◌, ◌<◌, ◌≤◌, ◌++◌, ◌↔◌, IsTrue, [], None, Some, IsSome, IfSome, IfOk, OnErr, is_none, length, not, nat_lt};
-ghost use Rattle.esync_log.specs.Log.{has_subscribers, is_live, position, left, cleared, Publishes, PublishesAtOnce, lags, caught, Reads, ReadsOn, Streams, IsRefused};
+ghost use Rattle.esync_log.specs.Counts.{readers_of};
+ghost use Rattle.esync_log.specs.Log.{oldest, has_subscribers, is_live, position, left, cleared, Publishes, PublishesAtOnce, lags, caught, Reads, ReadsOn, Streams, IsRefused};
 ghost use Rattle.esync_pubsub.specs.PubSub.{fresh, Subscribes, Adds, frees, lists_after_news, wakes_of_news, lists_after_room, wakes_of_room, lists_after_publish, wakes_of_publish, tried, still, lists_after_immediate, wakes_of_immediate, heard, lists_after_read, wakes_of_read, lists_after_stream, wakes_of_stream};
 
 pub mod machine;
@@ -345,6 +346,15 @@ impl<T: Drop, W: Copy + Eq, const CAP: usize, const SUBS: usize, const PUBS: usi
         ensures numbered { length self.now.log.held ≤ self.now.log.next }
     {
         self.log.len()
+    }
+
+    /// Returns the reader count that is kept for held message `index`, counted from the oldest: how many subscribers have still to read
+    /// that message. `None` where no more than `index` messages are held.
+    pub fn reader_count(&self, index: usize) -> Option<usize>
+        ensures held { index < length self.now.log.held → result ≡ Some (readers_of (oldest self.now.log + index) self.now.log.positions) }
+        ensures none { length self.now.log.held ≤ index → result ≡ None }
+    {
+        self.log.reader_count(index)
     }
 
     /// No message is held.

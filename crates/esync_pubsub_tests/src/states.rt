@@ -55,3 +55,18 @@ fn a_request_displaces_another_where_one_may_wait(rt: HostRuntime) {
         Err(_full) => rt.abort(),
     }
 }
+
+#[test]
+fn a_state_counts_who_has_still_to_read(rt: HostRuntime) -> Result<(), AllocError> {
+    let mut state: Two<u32, 2> = PubSubState::new();
+    let _first = joins(&rt, &mut state);
+    let mut wakes: Wakes<u64, 2> = Wakes::new();
+    holds!(rt; state.publish_immediate(7, &mut wakes).is_ok());
+    let _second = joins(&rt, &mut state);
+    let mut wakes: Wakes<u64, 2> = Wakes::new();
+    holds!(rt; state.publish_immediate(8, &mut wakes).is_ok());
+    same!(rt; state.reader_count(0), Some(1));
+    same!(rt; state.reader_count(1), Some(2));
+    same!(rt; state.reader_count(2), None);
+    Ok(())
+}
