@@ -97,6 +97,11 @@ module _ {T : Type 0} where
   Joins log (Some place) log2 = IsLeastFree place log.positions × (log2 ≡ moved place log.next log)
   Joins log None log2 = (list_all is_some log.positions ≡ true) × (log2 ≡ log)
 
+  -- the message that comes back where it was not published
+  abbrev pub message_of : TryPublishError T → T
+  message_of (Full message) = message
+  message_of (Exhausted message) = message
+
   -- without subscribers a message is let go, and else it is held
   abbrev pub Accepts : Bool → Log T → Log T → Log T → Type 0
   Accepts true log log2 after = (log.next < last_number) × (log2 ≡ after)

@@ -61,12 +61,18 @@ abbrev pub still : {T A : Type 0} → T → Poll A → Option T
 still message (Ready a) = None
 still message Pending = Some message
 
+-- a poll that refuses to publish the message for good gives it back
+abbrev pub GivesBack : {A T : Type 0} → T → Poll (Result A (NoNumber T)) → Type 0
+GivesBack message (Ready (Ok done)) = Unit {0}
+GivesBack message (Ready (Err back)) = back.0 ≡ message
+GivesBack message Pending = Unit {0}
+
 -- what a poll of a sink answers, and what it stores then: nothing stored is nothing to publish
 abbrev pub Flushes : {T : Type 0} → Option T → Poll (Result (Unit {0}) (NoNumber T)) → Option T → Type 0
 Flushes None (Ready (Ok done)) rest = rest ≡ None
 Flushes None (Ready (Err refused)) rest = ⊥
 Flushes None Pending rest = ⊥
-Flushes (Some message) answer rest = rest ≡ still message answer
+Flushes (Some message) answer rest = (rest ≡ still message answer) × GivesBack message answer
 
 -- what a poll read
 abbrev pub heard : {A : Type 0} → Poll A → Option A

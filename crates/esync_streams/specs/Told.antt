@@ -8,3 +8,8 @@ use Rattle.futures.specs.declared.task.Poll.TheVariants.{Pending as StillPending
 abbrev pub told : {A : Type 0} → Poll A → TaskPoll A
 told (Ready a) = NowReady a
 told Pending = StillPending
+
+-- an answer of `futures`, as a poll of the channel says it
+abbrev pub as_poll : {A : Type 0} → TaskPoll A → Poll A
+as_poll (NowReady a) = Ready a
+as_poll StillPending = Pending

@@ -1,8 +1,10 @@
 //! Subscribers as streams of the crate `futures`, and publishers as its sinks, for its executors.
 #![tactic(auto)]
 
-ghost use Rattle.std.specs.Prelude.{◌≡◌, None};
-ghost use Rattle.esync_streams.specs.Told.{told};
+ghost use Rattle.std.specs.Prelude.{◌≡◌, Some, None, Ok};
+ghost use Rattle.esync_pubsub.specs.PubSub.{Flushes};
+ghost use Rattle.esync_streams.specs.Told.{told, as_poll};
+ghost use Rattle.futures.specs.Poll.{OnPending};
 ghost use Rattle.futures.specs.Task.{Covers, Keeps};
 
 use esync_base::waitqueue::{Context, Hand, Poll, TaskId};
@@ -178,22 +180,53 @@ impl<B: PubSubBehavior<Waker = TaskId>> Sink<B::Message> for SinkAdapter<'_, '_,
 
     ghost needs = { λ adapter s. s ≡ adapter.registration.now.source.id };
 
-    fn poll_ready(&mut self, cx: &mut TaskContext<'_>) -> TaskPoll<Result<(), Self::Error>> {
+    /// Publishes the stored message. Ready once none is stored; Pending while the channel is full.
+    ///
+    /// # Errors
+    ///
+    /// `Exhausted` with the stored message where the numbers of messages have run out. No message is stored then.
+    fn poll_ready(&mut self, cx: &mut TaskContext<'_>) -> TaskPoll<Result<(), Self::Error>>
+        ensures flushes { Flushes self.old.sink (as_poll result) self.new.sink }
+        ensures registered { OnPending result (Covers cx.new (λ s. s ≡ self.new.registration.now.source.id)) }
+        ensures kept { Keeps cx.old cx.new }
+    {
         self.registration.register(cx);
         told(self.sink.poll_ready(&Context::from_waker(self.task)))
     }
 
-    fn start_send(&mut self, item: B::Message) -> Result<(), Self::Error> {
+    /// Stores a message, which is never refused. One that is still stored is replaced, and lost.
+    fn start_send(&mut self, item: B::Message) -> Result<(), Self::Error>
+        ensures accepted { result ≡ Ok tt }
+        ensures stored { self.new.sink ≡ Some item }
+    {
         self.sink.start_send(item);
         Ok(())
     }
 
-    fn poll_flush(&mut self, cx: &mut TaskContext<'_>) -> TaskPoll<Result<(), Self::Error>> {
+    /// Publishes the stored message. Ready once none is stored; Pending while the channel is full.
+    ///
+    /// # Errors
+    ///
+    /// `Exhausted` with the stored message where the numbers of messages have run out. No message is stored then.
+    fn poll_flush(&mut self, cx: &mut TaskContext<'_>) -> TaskPoll<Result<(), Self::Error>>
+        ensures flushes { Flushes self.old.sink (as_poll result) self.new.sink }
+        ensures registered { OnPending result (Covers cx.new (λ s. s ≡ self.new.registration.now.source.id)) }
+        ensures kept { Keeps cx.old cx.new }
+    {
         self.registration.register(cx);
         told(self.sink.poll_flush(&Context::from_waker(self.task)))
     }
 
-    fn poll_close(&mut self, cx: &mut TaskContext<'_>) -> TaskPoll<Result<(), Self::Error>> {
+    /// Publishes the stored message. Ready once none is stored; Pending while the channel is full.
+    ///
+    /// # Errors
+    ///
+    /// `Exhausted` with the stored message where the numbers of messages have run out. No message is stored then.
+    fn poll_close(&mut self, cx: &mut TaskContext<'_>) -> TaskPoll<Result<(), Self::Error>>
+        ensures flushes { Flushes self.old.sink (as_poll result) self.new.sink }
+        ensures registered { OnPending result (Covers cx.new (λ s. s ≡ self.new.registration.now.source.id)) }
+        ensures kept { Keeps cx.old cx.new }
+    {
         self.registration.register(cx);
         told(self.sink.poll_close(&Context::from_waker(self.task)))
     }

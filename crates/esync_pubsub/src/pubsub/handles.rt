@@ -1,6 +1,7 @@
 //! Publishers and subscribers of a shared channel, and their futures.
-ghost use Rattle.std.specs.Prelude.{◌≡◌, ◌≤◌, Some, None, IsSome, IfSome, is_none};
-ghost use Rattle.esync_pubsub.specs.PubSub.{still, Flushes};
+ghost use Rattle.std.specs.Prelude.{◌≡◌, ◌≤◌, Some, None, IsSome, IfSome, IfErr, is_none};
+ghost use Rattle.esync_log.specs.Log.{message_of};
+ghost use Rattle.esync_pubsub.specs.PubSub.{still, GivesBack, Flushes};
 
 use super::{
     Exhausted, PubSubBehavior, PubSubChannel, PublishRequest, SubId, TryPublishError, WaitResult,
@@ -47,7 +48,9 @@ impl<'a, B: PubSubBehavior> Pub<'a, B> {
     /// # Errors
     ///
     /// `Exhausted` with the message where the numbers of messages have run out.
-    pub fn publish_immediate(&self, message: B::Message) -> Result<(), Exhausted<B::Message>> {
+    pub fn publish_immediate(&self, message: B::Message) -> Result<(), Exhausted<B::Message>>
+        ensures { IfErr result (λ back. back.0 ≡ message) }
+    {
         self.channel.publish_immediate(message)
     }
 
@@ -66,7 +69,9 @@ impl<'a, B: PubSubBehavior> Pub<'a, B> {
     /// # Errors
     ///
     /// The message comes back: `Full` where the channel is full, and else `Exhausted` where the numbers of messages have run out.
-    pub fn try_publish(&self, message: B::Message) -> Result<(), TryPublishError<B::Message>> {
+    pub fn try_publish(&self, message: B::Message) -> Result<(), TryPublishError<B::Message>>
+        ensures { IfErr result (λ error. message_of error ≡ message) }
+    {
         self.channel.try_publish(message)
     }
 
@@ -148,7 +153,9 @@ impl<'a, B: PubSubBehavior> ImmediatePub<'a, B> {
     /// # Errors
     ///
     /// `Exhausted` with the message where the numbers of messages have run out.
-    pub fn publish_immediate(&self, message: B::Message) -> Result<(), Exhausted<B::Message>> {
+    pub fn publish_immediate(&self, message: B::Message) -> Result<(), Exhausted<B::Message>>
+        ensures { IfErr result (λ back. back.0 ≡ message) }
+    {
         self.channel.publish_immediate(message)
     }
 
@@ -157,7 +164,9 @@ impl<'a, B: PubSubBehavior> ImmediatePub<'a, B> {
     /// # Errors
     ///
     /// The message comes back: `Full` where the channel is full, and else `Exhausted` where the numbers of messages have run out.
-    pub fn try_publish(&self, message: B::Message) -> Result<(), TryPublishError<B::Message>> {
+    pub fn try_publish(&self, message: B::Message) -> Result<(), TryPublishError<B::Message>>
+        ensures { IfErr result (λ error. message_of error ≡ message) }
+    {
         self.channel.try_publish(message)
     }
 
@@ -350,7 +359,8 @@ impl<'s, B: PubSubBehavior> PublisherWaitFuture<'s, B> {
     /// `Exhausted` with the message where the numbers of messages have run out. The future is finished.
     pub fn poll(&mut self, cx: &Context<B::Waker>) -> Poll<Result<(), Exhausted<B::Message>>>
         requires { IsSome self.old }
-        ensures { IfSome self.old (λ message. self.new ≡ still message result) }
+        ensures request { IfSome self.old (λ message. self.new ≡ still message result) }
+        ensures returned { IfSome self.old (λ message. GivesBack message result) }
     {
         self.channel.poll_publish(&mut self.request, cx)
     }

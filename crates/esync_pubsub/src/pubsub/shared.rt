@@ -1,6 +1,7 @@
 //! A pub-sub channel that tasks on several threads share by reference.
-ghost use Rattle.std.specs.Prelude.{◌≡◌, ℕ, ◌-◌, ◌<◌, ◌≤◌, [], Some, None, IsSome, IfSome, length, max};
-ghost use Rattle.esync_pubsub.specs.PubSub.{fresh, Subscribes, Adds, still};
+ghost use Rattle.std.specs.Prelude.{◌≡◌, ℕ, ◌-◌, ◌<◌, ◌≤◌, [], Some, None, IsSome, IfSome, IfErr, length, max};
+ghost use Rattle.esync_log.specs.Log.{message_of};
+ghost use Rattle.esync_pubsub.specs.PubSub.{fresh, Subscribes, Adds, still, GivesBack};
 ghost use Rattle.esync_pubsub.specs.Steps.{answered, to_read, Leaving, Clearing, Publishing, PublishingAtOnce, PollingPublish, ReadingNext, ReadingOn, Streaming};
 
 use super::{
@@ -340,7 +341,8 @@ pub trait PubSubBehavior {
     /// # Errors
     ///
     /// `Exhausted` with the message where the numbers of messages have run out.
-    fn publish_immediate(&self, message: Self::Message) -> Result<(), Exhausted<Self::Message>>;
+    fn publish_immediate(&self, message: Self::Message) -> Result<(), Exhausted<Self::Message>>
+        ensures { IfErr result (λ back. back.0 ≡ message) };
 
     /// How many messages can be held. It takes no lock.
     fn capacity(&self) -> usize
@@ -364,7 +366,8 @@ pub trait PubSubBehavior {
     fn clear(&self);
 
     /// Publishes a message for all who are subscribers. Where there is no room it comes back, and where the numbers have run out.
-    fn try_publish(&self, message: Self::Message) -> Result<(), TryPublishError<Self::Message>>;
+    fn try_publish(&self, message: Self::Message) -> Result<(), TryPublishError<Self::Message>>
+        ensures { IfErr result (λ error. message_of error ≡ message) };
 
     /// Publishes the message of a request where there is room. Where there is none, the context's waker waits for it.
     fn poll_publish(
@@ -373,7 +376,8 @@ pub trait PubSubBehavior {
         cx: &Context<Self::Waker>,
     ) -> Poll<Result<(), Exhausted<Self::Message>>>
         requires { IsSome request.old }
-        ensures { IfSome request.old (λ message. request.new ≡ still message result) };
+        ensures request { IfSome request.old (λ message. request.new ≡ still message result) }
+        ensures returned { IfSome request.old (λ message. GivesBack message result) };
 
     /// What this subscriber reads next; `None` where it has read all.
     fn try_next_message(&self, id: &SubId) -> Result<Option<WaitResult<Self::Message>>, AllocError>;
