@@ -7,6 +7,7 @@ pub mod Reading
 pub mod Told
 pub mod Machine
 pub mod Unread
+pub mod Advance
 pub mod Order
 pub mod Parts
 pub mod Sizes

@@ -5,7 +5,7 @@ use Rattle.std.specs.List.{list_any}
 use Rattle.std.proofs.lemmas.List.{length_push, length-replicate, drop_all, get_or-set_same, get_or-set_other}
 use Rattle.esync_base.specs.ListedLaws.{same_number, equal_number}
 use Rattle.esync_machine.specs.AccountLaws.{of_any_kind, ask_of-started, ask_of-other, KeepsEach, keeps_each, told_requests, law_requests, IsTold, HasLaw}
-use Rattle.esync_machine.specs.Account.{ask_of}
+use Rattle.esync_machine.specs.Account.{ask_of, asked_after}
 use Rattle.esync_machine.specs.Runs.{GoodRun}
 use Rattle.esync_machine.specs.Numbers.{at_number}
 use Rattle.esync_machine.specs.NumbersLaws.{nothing_there, at_of, at_set_here, at_set_other}
@@ -23,7 +23,8 @@ use Rattle.esync_pubsub.specs.Events.{Eventing, AreNamed}
 use Rattle.esync_log.specs.Log.{Log, oldest, number_of, has_subscribers, is_live, position, published, with_room, moved, without, left, cleared, lags, caught, gap, Accepts, Joins, Publishes, PublishesAtOnce, Reads, ReadsOn}
 use Rattle.esync_pubsub.specs.PubSub.{PubSub}
 use Rattle.esync_pubsub.specs.PubSubRules.{Topic, topic_of, place_at, is_subscriber, is_free, is_publisher, names_it, reach, rest_of, departed, WithLog, Begins, IsBelow, PollsLog, Polls, Comes, Counts, TriesPublish, AtOnce, Tries, TriesPure, Calls, pubsub_rules}
-use Rattle.esync_pubsub.specs.Order.{Reading, Told, Account, and, published_by_poll, published_by_call, reading_of, pure_reading_of, read_by_poll, read_by_call, more, told_by_call, after, AreUnread, Follow, HasRead, ReadsInOrder, unread_by_poll, unread_by_call, unread_told, HasUnread, CountsUnread}
+use Rattle.esync_pubsub.specs.Advance.{gone, topic_after, topic_after_poll, topic_after_call}
+use Rattle.esync_pubsub.specs.Order.{Reading, Told, Account, and, published_by_poll, published_by_call, reading_of, pure_reading_of, read_by_poll, read_by_call, more, told_by_call, told_after, after, known_at_first, AreUnread, Follow, HasRead, ReadsInOrder, unread_by_poll, unread_by_call, unread_told, HasUnread, CountsUnread}
 use Rattle.esync_log.specs.declared.log.TryPublishError.TheVariants.{Full, Exhausted}
 use Rattle.esync_pubsub.specs.declared.pubsub.Error.TheVariants.{MaximumSubscribersReached, MaximumPublishersReached}
 use Rattle.esync_log.specs.declared.log.WaitResult.{WaitResult}
@@ -34,6 +35,7 @@ use Rattle.esync_pubsub.specs.declared.pubsub.machine.PubSubCall.{PubSubCall}
 use Rattle.esync_pubsub.specs.declared.pubsub.machine.PubSubCall.TheVariants.{Join, Leave, Publisher, Retire, TryPublish, Immediate, Next, NextPure, Available, Clear, Len, FreeCapacity}
 use Rattle.esync_pubsub.specs.declared.pubsub.machine.PubSubHeard.{PubSubHeard}
 use Rattle.esync_pubsub.specs.declared.pubsub.machine.PubSubHeard.TheVariants.{Published, Read, ReadPure, Streamed, Came, TriedPublish, PublishedAtOnce, Tried, TriedPure, Unread}
+use Rattle.esync_pubsub.proofs.Advance.{no_poll as no_topic_poll, no_call as no_topic_call, topic_polled, topic_called}
 use Rattle.esync_pubsub.proofs.Calls.{where_done}
 use Rattle.esync_pubsub.proofs.Kept.{GoesOn, read_goes, pure_goes}
 use Rattle.esync_log.specs.LogLaws.{free_below, free_there, some_number}
@@ -161,12 +163,12 @@ module _ {T : Type 0} (C : T → T → Type 0) (names s : ℕ) where
     steps_at_once : (cap : ℕ) (m : T) (log2 : Log T) → PublishesAtOnce cap m o.log (Ok tt) log2 → Steps (Some m) None o log2
     steps_at_once cap m log2 h = accepted m (with_room cap o.log) log2 refl refl (end_room (nat_lt (length o.log.held) cap) o.log.held) (has_subscribers o.log) refl h
 
-    -- the subscriber t reads
-    steps_read : (t : ℕ) (x : Reading T) (log2 : Log T) → is_subscriber t o ≡ true → GoesOn (place_at t o) o.log log2 → IsEnd o.log.held log2.held → ((unread : List T) → AreUnread (place_at t o) o.log unread → Tells C x (place_at t o) log2 unread) → (b : Bool) → (s == t) ≡ b → Steps None (if b then Some x else None) o log2
+    -- the subscriber t reads, for whom so many messages are gone
+    steps_read : (t : ℕ) (x : ℕ → Reading T) (log2 : Log T) → is_subscriber t o ≡ true → GoesOn (place_at t o) o.log log2 → IsEnd o.log.held log2.held → ((unread : List T) → AreUnread (place_at t o) o.log unread → Tells C (x (gone t o)) (place_at t o) log2 unread) → (b : Bool) → (s == t) ≡ b → Steps None (if b then Some (x (gone s o)) else None) o log2
     steps_read t x log2 e g held tells true i = record {
       live = g.live;
       numbered = numbered_end o.log log2 w.numbered g.next held;
-      grows = λ here. subst (λ r. Grows None (Some x) (place_at r o) o.log log2) (sym (same_number s t i)) (λ unread u. (let k = tells unread u in (_, k.rest, λ p xs f. follow_reading C p unread xs x k.over k.most k.skips k.given f)));
+      grows = λ here. subst (λ r. Grows None (Some (x (gone r o))) (place_at r o) o.log log2) (sym (same_number s t i)) (λ unread u. (let k = tells unread u in (_, k.rest, λ p xs f. follow_reading C p unread xs (x (gone t o)) k.most k.given f)));
     }
     steps_read t x log2 e g held tells false i = record {
       live = g.live;
@@ -177,24 +179,24 @@ module _ {T : Type 0} (C : T → T → Type 0) (names s : ℕ) where
     module _ (t : ℕ) (e : is_subscriber t o ≡ true) (log2 : Log T) where
       reads : (answer : WaitResult T) → IsBelow (Some answer) (position (place_at t o) o.log) o.log → Reads C (place_at t o) o.log (Some answer) log2 → Steps None (if s == t then Some (reading_of answer) else None) o log2
       reads answer b r =
-          steps_read t (reading_of answer) log2 e (read_goes C (place_at t o) o.log (Some answer) log2 (live_at t e) b r) (read_end C (place_at t o) o.log log2 (Some answer) r) (λ unread u. read_tells C (place_at t o) o.log log2 unread w.numbered (live_at t e) u answer r) (s == t) refl
+          steps_read t (λ n. reading_of answer) log2 e (read_goes C (place_at t o) o.log (Some answer) log2 (live_at t e) b r) (read_end C (place_at t o) o.log log2 (Some answer) r) (λ unread u. read_tells C (place_at t o) o.log log2 unread w.numbered (live_at t e) u answer r) (s == t) refl
 
-      reads_on : (answer : Option T) → IsBelow answer (position (place_at t o) (caught (place_at t o) o.log)) o.log → ReadsOn C (place_at t o) o.log answer log2 → Steps None (if s == t then Some (pure_reading_of answer) else None) o log2
+      reads_on : (answer : Option T) → IsBelow answer (position (place_at t o) (caught (place_at t o) o.log)) o.log → ReadsOn C (place_at t o) o.log answer log2 → Steps None (if s == t then Some (pure_reading_of (gone s o) answer) else None) o log2
       reads_on answer b r =
-          steps_read t (pure_reading_of answer) log2 e (pure_goes C (place_at t o) o.log answer log2 (live_at t e) b r) (pure_end C (place_at t o) o.log log2 answer r) (λ unread u. pure_tells C (place_at t o) o.log log2 unread w.numbered (live_at t e) u answer r) (s == t) refl
+          steps_read t (λ n. pure_reading_of n answer) log2 e (pure_goes C (place_at t o) o.log answer log2 (live_at t e) b r) (pure_end C (place_at t o) o.log log2 answer r) (λ unread u. pure_tells C (place_at t o) o.log log2 unread w.numbered (live_at t e) u answer r) (s == t) refl
 
       gap_below : (b : Bool) (k : ℕ) → Reads C (place_at t o) o.log (gap b k) log2 → IsBelow (gap {T = T} b k) (position (place_at t o) o.log) o.log
       gap_below true k r = omega (arith, r.0)
       gap_below false k r = tt
 
-      streams : Reads C (place_at t o) o.log (gap (lags (place_at t o) o.log) (oldest o.log - position (place_at t o) o.log)) log2 → Steps None (if s == t then Some (pure_reading_of None) else None) o log2
+      streams : Reads C (place_at t o) o.log (gap (lags (place_at t o) o.log) (oldest o.log - position (place_at t o) o.log)) log2 → Steps None (if s == t then Some (pure_reading_of (gone s o) None) else None) o log2
       streams r =
           let q = place_at t o in
           let x = gap {T = T} (lags q o.log) (oldest o.log - position q o.log) in
-          steps_read t (pure_reading_of None) log2 e (read_goes C q o.log x log2 (live_at t e) (gap_below (lags q o.log) (oldest o.log - position q o.log) r) r) (read_end C q o.log log2 x r) (λ unread u. stream_tells C q o.log log2 unread w.numbered (live_at t e) u r) (s == t) refl
+          steps_read t (λ n. pure_reading_of n None) log2 e (read_goes C q o.log x log2 (live_at t e) (gap_below (lags q o.log) (oldest o.log - position q o.log) r) r) (read_end C q o.log log2 x r) (λ unread u. stream_tells C q o.log log2 unread w.numbered (live_at t e) u r) (s == t) refl
 
     -- a poll of a request
-    polled : (I : T → Type 0) (cap : ℕ) (ask : PubSubAsk T) (a : Answer (PubSubHeard T)) (log2 : Log T) → names_it ask o ≡ true → PollsLog C I cap o ask a log2 → Steps (published_by_poll (Some ask) a) (read_by_poll s (Some ask) a) o log2
+    polled : (I : T → Type 0) (cap : ℕ) (ask : PubSubAsk T) (a : Answer (PubSubHeard T)) (log2 : Log T) → names_it ask o ≡ true → PollsLog C I cap o ask a log2 → Steps (published_by_poll (Some ask) a) (read_by_poll s (gone s o) (Some ask) a) o log2
     polled I cap (Publish p message) Pending log2 f h = steps_same log2 h.3
     polled I cap (Publish p message) (Gives (Published (Ok done))) log2 f h = steps_published cap message log2 h
     polled I cap (Publish p message) (Gives (Published (Err refused))) log2 f h = steps_same log2 h.4
@@ -224,13 +226,13 @@ module _ {T : Type 0} (C : T → T → Type 0) (names s : ℕ) where
     at_once cap message (Gives (PublishedAtOnce (Err refused))) log2 h = steps_same log2 h.3
     at_once cap message a log2 h = absurd h
 
-    tries : (I : T → Type 0) (t : ℕ) → is_subscriber t o ≡ true → (a : Answer (PubSubHeard T)) (log2 : Log T) → Tries C I (place_at t o) o.log a log2 → Steps None (read_by_call s (Next t) a) o log2
+    tries : (I : T → Type 0) (t : ℕ) → is_subscriber t o ≡ true → (a : Answer (PubSubHeard T)) (log2 : Log T) → Tries C I (place_at t o) o.log a log2 → Steps None (read_by_call s (gone s o) (Next t) a) o log2
     tries I t e (Gives (Tried None)) log2 h = steps_same log2 h.1.1
     tries I t e (Gives (Tried (Some answer))) log2 h = reads t e log2 answer h.0 h.1
     tries I t e NoMemory log2 h = steps_same log2 h.2
     tries I t e a log2 h = absurd h
 
-    tries_pure : (I : T → Type 0) (t : ℕ) → is_subscriber t o ≡ true → (a : Answer (PubSubHeard T)) (log2 : Log T) → TriesPure C I (place_at t o) o.log a log2 → Steps None (read_by_call s (NextPure t) a) o log2
+    tries_pure : (I : T → Type 0) (t : ℕ) → is_subscriber t o ≡ true → (a : Answer (PubSubHeard T)) (log2 : Log T) → TriesPure C I (place_at t o) o.log a log2 → Steps None (read_by_call s (gone s o) (NextPure t) a) o log2
     tries_pure I t e (Gives (TriedPure answer)) log2 h = reads_on t e log2 answer h.0 h.1
     tries_pure I t e NoMemory log2 h = steps_same log2 h.2
     tries_pure I t e a log2 h = absurd h
@@ -329,50 +331,73 @@ module _ {T : Type 0} (C : T → T → Type 0) (names s : ℕ) where
   either_none true = refl
   either_none false = refl
 
-  no_poll : (ask : Option (PubSubAsk T)) → (published_by_poll ask NoSuch ≡ None) × (read_by_poll s ask NoSuch ≡ None)
-  no_poll None = (refl, refl)
-  no_poll (Some (Publish p message)) = (refl, refl)
-  no_poll (Some (Message t)) = (refl, either_none (s == t))
-  no_poll (Some (MessagePure t)) = (refl, either_none (s == t))
-  no_poll (Some (Stream t)) = (refl, either_none (s == t))
+  no_poll : (n : ℕ) (ask : Option (PubSubAsk T)) → (published_by_poll ask NoSuch ≡ None) × (read_by_poll s n ask NoSuch ≡ None)
+  no_poll n None = (refl, refl)
+  no_poll n (Some (Publish p message)) = (refl, refl)
+  no_poll n (Some (Message t)) = (refl, either_none (s == t))
+  no_poll n (Some (MessagePure t)) = (refl, either_none (s == t))
+  no_poll n (Some (Stream t)) = (refl, either_none (s == t))
 
-  no_call : (told : Option (Told T)) (call : PubSubCall T) → told_by_call s told call NoSuch ≡ more None None told
-  no_call told (Join t) = refl
-  no_call told (Leave t) = refl
-  no_call told (Publisher p) = refl
-  no_call told (Retire p) = refl
-  no_call told (TryPublish p message) = refl
-  no_call told (Immediate message) = refl
-  no_call told (Next t) = refl
-  no_call told (NextPure t) = refl
-  no_call told (Available t) = refl
-  no_call told Clear = refl
-  no_call told Len = refl
-  no_call told FreeCapacity = refl
+  no_call : (n : ℕ) (told : Option (Told T)) (call : PubSubCall T) → told_by_call s n told call NoSuch ≡ more None None told
+  no_call n told (Join t) = refl
+  no_call n told (Leave t) = refl
+  no_call n told (Publisher p) = refl
+  no_call n told (Retire p) = refl
+  no_call n told (TryPublish p message) = refl
+  no_call n told (Immediate message) = refl
+  no_call n told (Next t) = refl
+  no_call n told (NextPure t) = refl
+  no_call n told (Available t) = refl
+  no_call n told Clear = refl
+  no_call n told Len = refl
+  no_call n told FreeCapacity = refl
 
   module _ (I : T → Type 0) (cap pubs : ℕ) (W : Type 0) where
     abbrev rules : Rules (PubSubAsk T) (PubSubAsk T) (PubSubCall T) (PubSubHeard T)
     rules = pubsub_rules C I cap pubs
 
-    abbrev On : Topic T → Account T → Type 0
-    On o k = Stands o k.told
+    -- what is told of the channel is so, and what is told of the subscriber
+    record On (o : Topic T) (k : Account T) : Type 0 where
+      stands : Stands o k.told
+      same : k.topic ≡ o
 
     -- the account has what the request is for
     abbrev IsKnown : Account T → ℕ → PubSubAsk T → Type 0
     IsKnown k r ask = ask_of k.asked r ≡ Some ask
 
-    told_as : (k : Account T) (told : Option (Told T)) → told ≡ k.told → record { asked = k.asked; told = told } ≡ k
-    told_as k told e = ap (λ x. record { asked = k.asked; told = x }) e
+    refused_told : (n : ℕ) (k : Account T) (c : Command (PubSubAsk T) W (PubSubCall T)) → told_after s n k c NoSuch ≡ k.told
+    refused_told n k (Start r ask) = refl
+    refused_told n k (Poll r w) = (let e = no_poll n (ask_of k.asked r) in ap (λ m. more m (read_by_poll s n (ask_of k.asked r) NoSuch) k.told) e.0 ∙ ap (λ x. more None x k.told) e.1 ∙ more_none k.told)
+    refused_told n k (End r) = refl
+    refused_told n k (Call call) = no_call n k.told call ∙ more_none k.told
 
-    refused : (k : Account T) (c : Command (PubSubAsk T) W (PubSubCall T)) → after s k c NoSuch ≡ k
-    refused k (Start r ask) = refl
-    refused k (Poll r w) = (let n = no_poll (ask_of k.asked r) in told_as k _ (ap (λ m. more m (read_by_poll s (ask_of k.asked r) NoSuch) k.told) n.0 ∙ ap (λ x. more None x k.told) n.1 ∙ more_none k.told))
-    refused k (End r) = refl
-    refused k (Call call) = told_as k _ (no_call k.told call ∙ more_none k.told)
+    refused_topic : (k : Account T) (c : Command (PubSubAsk T) W (PubSubCall T)) → topic_after cap k.asked k.topic c NoSuch ≡ k.topic
+    refused_topic k (Start r ask) = refl
+    refused_topic k (Poll r w) = no_topic_poll k.topic (ask_of k.asked r)
+    refused_topic k (End r) = refl
+    refused_topic k (Call call) = no_topic_call cap k.topic call
+
+    refused_asked : (k : Account T) (c : Command (PubSubAsk T) W (PubSubCall T)) → asked_after {A = PubSubHeard T} k.asked c NoSuch ≡ k.asked
+    refused_asked k (Start r ask) = refl
+    refused_asked k (Poll r w) = refl
+    refused_asked k (End r) = refl
+    refused_asked k (Call call) = refl
+
+    refused : (k : Account T) (c : Command (PubSubAsk T) W (PubSubCall T)) → after cap s k c NoSuch ≡ k
+    refused k c =
+        let a : List (ℕ × PubSubAsk T) → Topic T → Option (Told T) → Account T = λ asked topic told. record { asked = asked; topic = topic; told = told } in
+        ap (λ x. a x (topic_after cap k.asked k.topic c NoSuch) (told_after s (gone s k.topic) k c NoSuch)) (refused_asked k c) ∙ ap (λ x. a k.asked x (told_after s (gone s k.topic) k c NoSuch)) (refused_topic k c) ∙ ap (λ x. a k.asked k.topic x) (refused_told (gone s k.topic) k c)
 
     -- nothing changed
-    by_refused : (o o2 : Topic T) (k : Account T) (c : Command (PubSubAsk T) W (PubSubCall T)) (a : Answer (PubSubHeard T)) → On o k → a ≡ NoSuch → o2 ≡ o → On o2 (after s k c a)
-    by_refused o o2 k c a h e f = subst (λ x. On o2 (after s k c x)) (sym e) (subst (λ x. On x (after s k c NoSuch)) (sym f) (subst (λ x. On o x) (sym (refused k c)) h))
+    by_refused : (o o2 : Topic T) (k : Account T) (c : Command (PubSubAsk T) W (PubSubCall T)) (a : Answer (PubSubHeard T)) → Stands o k.told → a ≡ NoSuch → o2 ≡ o → Stands o2 (told_after s (gone s o) k c a)
+    by_refused o o2 k c a h e f = subst (λ x. Stands o2 (told_after s (gone s o) k c x)) (sym e) (subst (λ x. Stands x (told_after s (gone s o) k c NoSuch)) (sym f) (subst (λ x. Stands o x) (sym (refused_told (gone s o) k c)) h))
+
+    -- a step after which what is told stands
+    goes_on : (o o2 : Topic T) (k : Account T) (c : Command (PubSubAsk T) W (PubSubCall T)) (a : Answer (PubSubHeard T)) → k.topic ≡ o → topic_after cap k.asked o c a ≡ o2 → Stands o2 (told_after s (gone s o) k c a) → On o2 (after cap s k c a)
+    goes_on o o2 k c a e f h = record {
+      stands = subst (λ x. Stands o2 (told_after s (gone s x) k c a)) (sym e) h;
+      same = subst (λ x. topic_after cap k.asked x c a ≡ o2) (sym e) f;
+    }
 
     began : (b : Bool) (ask h : PubSubAsk T) → Begins b ask (Some h) → Some h ≡ Some ask
     began true ask h e = e
@@ -385,15 +410,15 @@ module _ {T : Type 0} (C : T → T → Type 0) (names s : ℕ) where
     rest_known k r ask NoMemory known = known
     rest_known k r ask (Gives heard) known = tt
 
-    module _ (o o2 : Topic T) (k : Account T) (on : On o k) where
-      on_polled : (r : ℕ) (v : W) (ask : PubSubAsk T) (a : Answer (PubSubHeard T)) (p : Option (PubSubAsk T)) → IsKnown k r ask → Polls C I cap o ask a o2 p → On o2 (after s k (Poll r v) a)
+    module _ (o o2 : Topic T) (k : Account T) (on : Stands o k.told) where
+      on_polled : (r : ℕ) (v : W) (ask : PubSubAsk T) (a : Answer (PubSubHeard T)) (p : Option (PubSubAsk T)) → IsKnown k r ask → Polls C I cap o ask a o2 p → Stands o2 (told_after s (gone s o) k (Poll r v) a)
       on_polled r v ask a p known h = elim (where_done (names_it ask o) o (PollsLog C I cap o ask a o2.log × WithLog o o2) a o2 h.0) [
-        | inl d ↦ subst (λ x. Stands o2 (more (published_by_poll x a) (read_by_poll s x a) k.told)) (sym known) (stands_log o o2 (published_by_poll (Some ask) a) (read_by_poll s (Some ask) a) k.told (ap (λ x. x.subscribers) d.1.1) (polled o on.whole I cap ask a o2.log d.0 d.1.0) on)
+        | inl d ↦ subst (λ x. Stands o2 (more (published_by_poll x a) (read_by_poll s (gone s o) x a) k.told)) (sym known) (stands_log o o2 (published_by_poll (Some ask) a) (read_by_poll s (gone s o) (Some ask) a) k.told (ap (λ x. x.subscribers) d.1.1) (polled o on.whole I cap ask a o2.log d.0 d.1.0) on)
         | inr n ↦ by_refused o o2 k (Poll r v) a on n.0 n.1
       ]
 
-      came : (t : ℕ) (a : Answer (PubSubHeard T)) → is_free t o.subscribers ≡ true → Comes t o a o2 → Stands o2 (told_by_call s k.told (Join t) a)
-      came t (Gives (Came (Ok done))) f h = subst (λ x. Stands x (told_by_call s k.told (Join t) (Gives (Came (Ok done))))) (sym h.2) (record {
+      came : (t : ℕ) (a : Answer (PubSubHeard T)) → is_free t o.subscribers ≡ true → Comes t o a o2 → Stands o2 (told_by_call s (gone s o) k.told (Join t) a)
+      came t (Gives (Came (Ok done))) f h = subst (λ x. Stands x (told_by_call s (gone s o) k.told (Join t) (Gives (Came (Ok done))))) (sym h.2) (record {
         whole = joined_whole o on.whole t h.0 f o2.log h.1;
         reads = joined_reads o on.whole t h.0 f o2.log h.1 k.told on.reads (s == t) refl;
       })
@@ -401,22 +426,22 @@ module _ {T : Type 0} (C : T → T → Type 0) (names s : ℕ) where
       came t (Gives (Came (Err MaximumPublishersReached))) f h = absurd h.0
       came t a f h = absurd h
 
-      counted : (p : ℕ) (a : Answer (PubSubHeard T)) → Counts pubs p o a o2 → Stands o2 (told_by_call s k.told (Publisher p) a)
+      counted : (p : ℕ) (a : Answer (PubSubHeard T)) → Counts pubs p o a o2 → Stands o2 (told_by_call s (gone s o) k.told (Publisher p) a)
       counted p (Gives (Came (Ok done))) h = stands_same o on.whole o2 k.told (ap (λ x. x.log) h.1) (ap (λ x. x.subscribers) h.1) on
       counted p (Gives (Came (Err MaximumPublishersReached))) h = stands_same o on.whole o2 k.told (ap (λ x. x.log) h.1) (ap (λ x. x.subscribers) h.1) on
       counted p a h = absurd h
 
       module _ (a : Answer (PubSubHeard T)) where
-        by_done : (call : PubSubCall T) → a ≡ Done → Stands o2 (told_by_call s k.told call Done) → Stands o2 (told_by_call s k.told call a)
-        by_done call e h = subst (λ x. Stands o2 (told_by_call s k.told call x)) (sym e) h
+        by_done : (call : PubSubCall T) → a ≡ Done → Stands o2 (told_by_call s (gone s o) k.told call Done) → Stands o2 (told_by_call s (gone s o) k.told call a)
+        by_done call e h = subst (λ x. Stands o2 (told_by_call s (gone s o) k.told call x)) (sym e) h
 
-        called : (call : PubSubCall T) → Calls C I cap pubs o call a o2 → On o2 (after s {W = W} k (Call call) a)
+        called : (call : PubSubCall T) → Calls C I cap pubs o call a o2 → Stands o2 (told_by_call s (gone s o) k.told call a)
         called (Join t) h = elim (where_done (is_free t o.subscribers) o (Comes t o a o2) a o2 h) [
           | inl d ↦ came t a d.0 d.1
           | inr n ↦ by_refused o o2 k (Call (Join t)) a on n.0 n.1
         ]
         called (Leave t) h = elim (where_done (is_subscriber t o) o ((a ≡ Done) × (o2 ≡ departed t o)) a o2 h) [
-          | inl d ↦ by_done (Leave t) d.1.0 (subst (λ x. Stands x (told_by_call s k.told (Leave t) Done)) (sym d.1.1) (record {
+          | inl d ↦ by_done (Leave t) d.1.0 (subst (λ x. Stands x (told_by_call s (gone s o) k.told (Leave t) Done)) (sym d.1.1) (record {
             whole = left_whole o on.whole t d.0;
             reads = left_reads o on.whole t d.0 k.told on.reads (s == t) refl;
           }))
@@ -436,11 +461,11 @@ module _ {T : Type 0} (C : T → T → Type 0) (names s : ℕ) where
         ]
         called (Immediate message) h = stands_log o o2 (published_by_call (Immediate message) a) None k.told (ap (λ x. x.subscribers) h.1) (at_once o on.whole cap message a o2.log h.0) on
         called (Next t) h = elim (where_done (is_subscriber t o) o (Tries C I (place_at t o) o.log a o2.log × WithLog o o2) a o2 h) [
-          | inl d ↦ stands_log o o2 None (read_by_call s (Next t) a) k.told (ap (λ x. x.subscribers) d.1.1) (tries o on.whole I t d.0 a o2.log d.1.0) on
+          | inl d ↦ stands_log o o2 None (read_by_call s (gone s o) (Next t) a) k.told (ap (λ x. x.subscribers) d.1.1) (tries o on.whole I t d.0 a o2.log d.1.0) on
           | inr n ↦ by_refused o o2 k (Call (Next t)) a on n.0 n.1
         ]
         called (NextPure t) h = elim (where_done (is_subscriber t o) o (TriesPure C I (place_at t o) o.log a o2.log × WithLog o o2) a o2 h) [
-          | inl d ↦ stands_log o o2 None (read_by_call s (NextPure t) a) k.told (ap (λ x. x.subscribers) d.1.1) (tries_pure o on.whole I t d.0 a o2.log d.1.0) on
+          | inl d ↦ stands_log o o2 None (read_by_call s (gone s o) (NextPure t) a) k.told (ap (λ x. x.subscribers) d.1.1) (tries_pure o on.whole I t d.0 a o2.log d.1.0) on
           | inr n ↦ by_refused o o2 k (Call (NextPure t)) a on n.0 n.1
         ]
         called (Available t) h = elim (where_done (is_subscriber t o) o _ a o2 h) [
@@ -457,14 +482,17 @@ module _ {T : Type 0} (C : T → T → Type 0) (names s : ℕ) where
     no_number (Retire p) r e = cc
     no_number call r e = cc
 
-    keeps : KeepsEach rules (λ c. Unit {0}) (after s {W = W}) On IsKnown
+    keeps : KeepsEach rules (λ c. Unit {0}) (after {W = W} cap s) On IsKnown
     keeps = record {
       refused = refused;
-      starts = λ o k r ask h begins on. (on, ask_of-started k.asked r ask ∙ sym (began (names_it ask o) ask h begins));
-      polls = λ o o2 k r v ask a p h on known. (on_polled o o2 k on r v ask a p known h, subst (λ q. IfSome q (λ x. IsKnown k r x)) (sym h.1) (rest_known k r ask a known));
-      ends = λ o o2 k r ask e on known. subst (λ x. Stands x k.told) (sym e) on;
+      starts = λ o k r ask h begins on. (goes_on o o k (Start r ask) Done on.same refl on.stands, ask_of-started k.asked r ask ∙ sym (began (names_it ask o) ask h begins));
+      polls = λ o o2 k r v ask a p h on known. (
+        goes_on o o2 k (Poll r v) a on.same (subst (λ x. topic_after_poll o x a ≡ o2) (sym known) (topic_polled C I cap o o2 ask a p h)) (on_polled o o2 k on.stands r v ask a p known h),
+        subst (λ q. IfSome q (λ x. IsKnown k r x)) (sym h.1) (rest_known k r ask a known),
+      );
+      ends = λ o o2 k r ask e on known. goes_on o o2 k (End r) Done on.same (sym e) (subst (λ x. Stands x k.told) (sym e) on.stands);
       calls = λ o o2 k call r p p2 a reach h on known. absurd (no_number call r reach);
-      alone = λ o o2 k call p a none h on. called o o2 k on a call h.0;
+      alone = λ o o2 k call p a none h on. goes_on o o2 k (Call call) a on.same (topic_called C I cap o o2 pubs a call h.0) (called o o2 k on.stands a call h.0);
       others = λ k c a r ask ne known. ask_of-other rules k.asked c a r ne ∙ known;
     }
 
@@ -476,7 +504,7 @@ module _ {T : Type 0} (C : T → T → Type 0) (names s : ℕ) where
     so_if told n true h = h refl
     so_if told n false h = tt
 
-    module _ (o o2 : Topic T) (k : Account T) (on : On o k) where
+    module _ (o o2 : Topic T) (k : Account T) (on : Stands o k.told) where
       so_many : (told : Option (Told T)) → IfSome told (λ k. HasRead C s o k) → (n : ℕ) → n ≡ o.log.next - position (place_at s o) o.log → IfSome told (λ k. HasUnread C n k)
       so_many None h n e = tt
       so_many (Some k) h n e = (let c = h.rest.count in (h.unread, h.follow, omega (arith, c, e)))
@@ -516,26 +544,28 @@ module _ {T : Type 0} (C : T → T → Type 0) (names s : ℕ) where
     nothing_told k (End r) = tt
     nothing_told k (Call call) = nothing_called k.told call
 
-    so : EachStep rules (HasLaw rules (λ c. Unit {0}) (after s {W = W}) (IsTold rules (λ c. Unit {0}) (after s {W = W}) On IsKnown) (λ k c a. IsSo (unread_told s k c a) k.told))
+    so : EachStep rules (HasLaw rules (λ c. Unit {0}) (after {W = W} cap s) (IsTold rules (λ c. Unit {0}) (after {W = W} cap s) On IsKnown) (λ k c a. IsSo (unread_told s k c a) k.told))
     so = record {
       refused = λ o c k kind told. nothing_told k c;
       starts = λ o r ask h there begins k kind told. tt;
-      polls = λ o r v h a core p there polls k kind told. subst (λ x. IsSo (unread_by_poll s x a) k.told) (sym (told.here r h (at_of o.requests r (Some h) there))) (polled_so o.core core k told.core h a p polls);
+      polls = λ o r v h a core p there polls k kind told. subst (λ x. IsSo (unread_by_poll s x a) k.told) (sym (told.here r h (at_of o.requests r (Some h) there))) (polled_so o.core core k told.core.stands h a p polls);
       ends = λ o r h core there ends k kind told. tt;
       calls = λ o call r p a core p2 reach there calls k kind told. absurd (no_number call r reach);
-      alone = λ o call a core p reach calls k kind told. called_so o.core core k told.core call a calls.0;
-      leaves = λ o call a core p reach calls k kind told. called_so o.core core k told.core call a calls.0;
+      alone = λ o call a core p reach calls k kind told. called_so o.core core k told.core.stands call a calls.0;
+      leaves = λ o call a core p reach calls k kind told. called_so o.core core k told.core.stands call a calls.0;
     }
 
     module _ (H : Wakings (Topic T) (PubSubAsk T) (PubSubCall T) (PubSubHeard T) W) (eq : W → W → Bool) (K REQS : ℕ) (o o2 : Object (Topic T) (PubSubAsk T)) (g g2 : H.Registered) (cs : List (Command (PubSubAsk T) W (PubSubCall T))) (as' : List (Reply (Answer (PubSubHeard T)) W K)) (run : GoodRun (requests_meaning rules H eq K) o g cs as' o2 g2) (free : o.requests ≡ replicate REQS None) (whole : IsWhole names o.core) where
-      at_first : IsTold rules (λ c. Unit {0}) (after s {W = W}) On IsKnown o (record { asked = []; told = None })
+      at_first : IsTold rules (λ c. Unit {0}) (after {W = W} cap s) On IsKnown o (known_at_first o.core)
       at_first = record {
-        core = record { whole = whole; reads = tt };
+        core = record { stands = record { whole = whole; reads = tt }; same = refl };
         here = λ r ask e. absurd (nothing_there REQS r ask (subst (λ q. at_number q r ≡ Some ask) free e));
       }
 
-      pub in_order : ReadsInOrder C s cs as' o2.core
-      in_order = (told_requests rules (λ c. Unit {0}) (after s) H eq K (keeps_each rules (λ c. Unit {0}) (after s) keeps) o o2 g g2 (record { asked = []; told = None }) cs as' (of_any_kind cs) run at_first).core.reads
+      pub in_order : ReadsInOrder C cap s o.core cs as' o2.core
+      in_order =
+          let told = told_requests rules (λ c. Unit {0}) (after cap s) H eq K (keeps_each rules (λ c. Unit {0}) (after cap s) keeps) o o2 g g2 (known_at_first o.core) cs as' (of_any_kind cs) run at_first in
+          (told.core.same, told.core.stands.reads)
 
-      pub counts_unread : CountsUnread C s cs as'
-      counts_unread = law_requests rules (λ c. Unit {0}) (after s) H eq K (keeps_each rules (λ c. Unit {0}) (after s) keeps) so o o2 g g2 (record { asked = []; told = None }) cs as' (of_any_kind cs) run at_first
+      pub counts_unread : CountsUnread C cap s o.core cs as'
+      counts_unread = law_requests rules (λ c. Unit {0}) (after cap s) H eq K (keeps_each rules (λ c. Unit {0}) (after cap s) keeps) so o o2 g g2 (known_at_first o.core) cs as' (of_any_kind cs) run at_first

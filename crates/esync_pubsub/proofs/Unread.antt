@@ -5,7 +5,7 @@ use Rattle.std.proofs.lemmas.Bool.Decides.{nat_tests}
 use Rattle.std.proofs.lemmas.List.{length_push, length-drop, drop-drop, drop-append-le, drop_all}
 use Rattle.esync_base.specs.ListedLaws.{true_or_false}
 use Rattle.esync_log.specs.Log.{Log, oldest, is_read, trimmed, is_live, position, published, moved, settled, lags, caught, found, gap, Gives, Takes, Reads, ReadsOn, Streams}
-use Rattle.esync_pubsub.specs.Order.{Reading, reading_of, pure_reading_of, Skips, behind, AreUnread, IsGiven, Follow}
+use Rattle.esync_pubsub.specs.Order.{Reading, reading_of, pure_reading_of, behind, AreUnread, IsGiven, Follow}
 use Rattle.esync_pubsub.proofs.Kept.{caught_held}
 use Rattle.esync_log.specs.LogLaws.{caught_lagging, caught_up, moved_live, moved_position}
 use Rattle.esync_base.specs.declared.waitqueue.Poll.TheVariants.{Pending as NotYet}
@@ -117,13 +117,11 @@ module _ {T : Type 0} where
     given_front q log unread true v l g u = (let f = unread_front q log unread v l g u in rw f.1 (inl refl, omega arith))
     given_front q log unread false v l g u = (let f = unread_front q log unread g.message l g.here u in rw f.1 (inr g.clone, omega arith))
 
-    -- what the subscriber at the place was told by a step, which took so many of the unread
+    -- what the subscriber at the place was told by a step, of what it had not read
     pub record Tells (x : Reading T) (q : ℕ) (log2 : Log T) (unread : List T) : Type 0 where
-      pub over : ℕ
-      pub most : over ≤ length unread
-      pub skips : Skips x.skipped over
-      pub given : IsGiven C x.given (drop over unread)
-      pub rest : AreUnread q log2 (behind x.given (drop over unread))
+      pub most : x.skipped ≤ length unread
+      pub given : IsGiven C x.given (drop x.skipped unread)
+      pub rest : AreUnread q log2 (behind x.given (drop x.skipped unread))
 
     -- a message is taken, after so many were passed over
     takes : (q : ℕ) (log log2 : Log T) (unread : List T) (v : T) → IsNumbered log → is_live q log ≡ true → Takes C q (position q log) log v log2 → AreUnread q log unread → IsGiven C (Some v) unread × AreUnread q log2 (drop 1 unread)
@@ -141,36 +139,36 @@ module _ {T : Type 0} where
     module _ (q : ℕ) (log log2 : Log T) (unread : List T) (n : IsNumbered log) (here : is_live q log ≡ true) (u : AreUnread q log unread) where
       pub read_tells : (answer : WaitResult T) → Reads C q log (Some answer) log2 → Tells (reading_of answer) q log2 unread
       read_tells (Lagged k) r = (let m = lagged q log log2 unread here r.0 r.2 u in record {
-        over = k;
         most = omega (arith, m.0, r.1);
-        skips = refl;
         given = tt;
         rest = subst (λ x. AreUnread q log2 (drop x unread)) (sym r.1) m.1;
       })
-      read_tells (Given v) r = (let t = takes q log log2 unread v n here r u in record { over = 0; most = omega arith; skips = refl; given = t.0; rest = t.1 })
+      read_tells (Given v) r = (let t = takes q log log2 unread v n here r u in record { most = omega arith; given = t.0; rest = t.1 })
 
-      nothing_tells : log2 ≡ log → Tells (pure_reading_of None) q log2 unread
-      nothing_tells e = record { over = 0; most = omega arith; skips = tt; given = tt; rest = subst (λ x. AreUnread q x unread) (sym e) u }
+      nothing_tells : (over : ℕ) → over ≡ 0 → log2 ≡ log → Tells (pure_reading_of over None) q log2 unread
+      nothing_tells over none e =
+          let k : Tells (pure_reading_of 0 None) q log2 unread = record { most = omega arith; given = tt; rest = subst (λ x. AreUnread q x unread) (sym e) u } in
+          subst (λ x. Tells (pure_reading_of x None) q log2 unread) (sym none) k
 
-      gap_tells : (b : Bool) → Reads C q log (gap b (oldest log - position q log)) log2 → Tells (pure_reading_of None) q log2 unread
-      gap_tells true r = (let m = lagged q log log2 unread here r.0 r.2 u in record { over = oldest log - position q log; most = m.0; skips = tt; given = tt; rest = m.1 })
-      gap_tells false r = nothing_tells r.1
+      gap_tells : (b : Bool) → Reads C q log (gap b (oldest log - position q log)) log2 → Tells (pure_reading_of (oldest log - position q log) None) q log2 unread
+      gap_tells true r = (let m = lagged q log log2 unread here r.0 r.2 u in record { most = m.0; given = tt; rest = m.1 })
+      gap_tells false r = nothing_tells (oldest log - position q log) (omega (arith, r.0)) r.1
 
       -- after so many that are gone
       module _ (over : ℕ) (most : over ≤ length unread) (log1 : Log T) (n1 : IsNumbered log1) (here1 : is_live q log1 ≡ true) (u1 : AreUnread q log1 (drop over unread)) where
-        then_tells : (answer : Option T) → Reads C q log1 (found answer) log2 → Tells (pure_reading_of answer) q log2 unread
-        then_tells None r = record { over = over; most = most; skips = tt; given = tt; rest = subst (λ x. AreUnread q x (drop over unread)) (sym r.1) u1 }
-        then_tells (Some v) r = (let t = takes q log1 log2 (drop over unread) v n1 here1 r u1 in record { over = over; most = most; skips = tt; given = t.0; rest = t.1 })
+        then_tells : (answer : Option T) → Reads C q log1 (found answer) log2 → Tells (pure_reading_of over answer) q log2 unread
+        then_tells None r = record { most = most; given = tt; rest = subst (λ x. AreUnread q x (drop over unread)) (sym r.1) u1 }
+        then_tells (Some v) r = (let t = takes q log1 log2 (drop over unread) v n1 here1 r u1 in record { most = most; given = t.0; rest = t.1 })
 
-      pub pure_tells : (answer : Option T) → ReadsOn C q log answer log2 → Tells (pure_reading_of answer) q log2 unread
+      pub pure_tells : (answer : Option T) → ReadsOn C q log answer log2 → Tells (pure_reading_of (oldest log - position q log) answer) q log2 unread
       pure_tells answer r = elim (true_or_false (nat_lt (position q log) (oldest log))) [
         | inl e ↦ (let l : position q log < oldest log = grind (arith, nat_tests) in let c = caught_lagging q log l in let m = lagged q log (moved q (oldest log) log) unread here l refl u in
             then_tells (oldest log - position q log) m.0 (moved q (oldest log) log) n (moved_live q log here (oldest log)) m.1 answer (subst (λ x. Reads C q x (found answer) log2) c r))
-        | inr e ↦ (let l : oldest log ≤ position q log = grind (arith, nat_tests) in let c = caught_up q log l in
-            then_tells 0 (omega arith) log n here u answer (subst (λ x. Reads C q x (found answer) log2) c r))
+        | inr e ↦ (let l : oldest log ≤ position q log = grind (arith, nat_tests) in let c = caught_up q log l in let none : oldest log - position q log ≡ 0 = omega (arith, l) in
+            subst (λ x. Tells (pure_reading_of x answer) q log2 unread) (sym none) (then_tells 0 (omega arith) log n here u answer (subst (λ x. Reads C q x (found answer) log2) c r)))
       ]
 
-      pub stream_tells : Streams C q log NotYet log2 → Tells (pure_reading_of None) q log2 unread
+      pub stream_tells : Streams C q log NotYet log2 → Tells (pure_reading_of (oldest log - position q log) None) q log2 unread
       stream_tells r = gap_tells (lags q log) r
 
     -- what is held after a read
@@ -190,22 +188,18 @@ module _ {T : Type 0} where
 
     pub follow_published : (published unread : List T) (readings : List (Reading T)) (m : T) → Follow C published readings unread → Follow C (published ++ m ∷ []) readings (unread ++ m ∷ [])
     follow_published published unread [] m f = ap (λ l. l ++ m ∷ []) f
-    follow_published published unread (x ∷ readings) m (k, most, skips, given, rest) =
-        let d : drop k (published ++ m ∷ []) ≡ drop k published ++ m ∷ [] = drop-append-le k published (m ∷ []) most in
-        let g = given_more x.given (drop k published) m given in (
-          k,
+    follow_published published unread (x ∷ readings) m (most, given, rest) =
+        let d : drop x.skipped (published ++ m ∷ []) ≡ drop x.skipped published ++ m ∷ [] = drop-append-le x.skipped published (m ∷ []) most in
+        let g = given_more x.given (drop x.skipped published) m given in (
           (let p = length_push published m in omega (arith, p, most)),
-          skips,
           subst (λ l. IsGiven C x.given l) (sym d) g.0,
-          subst (λ l. Follow C l readings (unread ++ m ∷ [])) (sym (ap (λ l. behind x.given l) d ∙ g.1)) (follow_published (behind x.given (drop k published)) unread readings m rest),
+          subst (λ l. Follow C l readings (unread ++ m ∷ [])) (sym (ap (λ l. behind x.given l) d ∙ g.1)) (follow_published (behind x.given (drop x.skipped published)) unread readings m rest),
         )
 
-    pub follow_reading : (published unread : List T) (readings : List (Reading T)) (x : Reading T) (k : ℕ) → k ≤ length unread → Skips x.skipped k → IsGiven C x.given (drop k unread) → Follow C published readings unread → Follow C published (readings ++ x ∷ []) (behind x.given (drop k unread))
-    follow_reading published unread [] x k most skips given f = (
-      k,
-      subst (λ l. k ≤ length l) f most,
-      skips,
-      subst (λ l. IsGiven C x.given (drop k l)) f given,
-      ap (λ l. behind x.given (drop k l)) f,
+    pub follow_reading : (published unread : List T) (readings : List (Reading T)) (x : Reading T) → x.skipped ≤ length unread → IsGiven C x.given (drop x.skipped unread) → Follow C published readings unread → Follow C published (readings ++ x ∷ []) (behind x.given (drop x.skipped unread))
+    follow_reading published unread [] x most given f = (
+      subst (λ l. x.skipped ≤ length l) f most,
+      subst (λ l. IsGiven C x.given (drop x.skipped l)) f given,
+      ap (λ l. behind x.given (drop x.skipped l)) f,
     )
-    follow_reading published unread (y ∷ readings) x k most skips given (i, most2, skips2, given2, rest) = (i, most2, skips2, given2, follow_reading (behind y.given (drop i published)) unread readings x k most skips given rest)
+    follow_reading published unread (y ∷ readings) x most given (most2, given2, rest) = (most2, given2, follow_reading (behind y.given (drop y.skipped published)) unread readings x most given rest)

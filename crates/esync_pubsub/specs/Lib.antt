@@ -3,5 +3,6 @@ pub mod Steps
 pub mod Events
 pub mod PubSubRules
 pub mod PubSubLaws
+pub mod Advance
 pub mod Order
 pub mod Sizes

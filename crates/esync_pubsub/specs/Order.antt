@@ -1,4 +1,5 @@
--- A subscriber reads what was published since it came, in order, but for what it passed over: told of the commands and their answers alone.
+-- A subscriber reads what was published since it came, in order, but for just the messages that were gone: told of the channel at first,
+-- and of the commands and their answers.
 use Rattle.std.specs.Prelude.{◌≡◌, ℕ, ◌+◌, ◌-◌, ◌≤◌, ◌==◌, ◌⊎◌, true, List, [], ◌∷◌, ◌++◌, length, drop, Option, Some, None, IfSome, Ok, if◌then◌else◌}
 use Rattle.esync_machine.specs.Account.{account, AtEach, ask_of, asked_after}
 use Rattle.esync_machine.specs.declared.run.Reply.{Reply}
@@ -7,6 +8,7 @@ use Rattle.esync_machine.specs.declared.primitive.Answer.TheVariants.{Done, Pend
 use Rattle.esync_machine.specs.declared.primitive.Command.{Command}
 use Rattle.esync_machine.specs.declared.primitive.Command.TheVariants.{Start, Poll, End, Call}
 use Rattle.esync_log.specs.Log.{Log, oldest, position}
+use Rattle.esync_pubsub.specs.Advance.{gone, topic_after}
 use Rattle.esync_pubsub.specs.PubSubRules.{Topic, place_at, is_subscriber, is_of_subscriber}
 use Rattle.esync_log.specs.declared.log.WaitResult.{WaitResult}
 use Rattle.esync_log.specs.declared.log.WaitResult.TheVariants.{Lagged, Message as Given}
@@ -17,9 +19,9 @@ use Rattle.esync_pubsub.specs.declared.pubsub.machine.PubSubCall.TheVariants.{Jo
 use Rattle.esync_pubsub.specs.declared.pubsub.machine.PubSubHeard.{PubSubHeard}
 use Rattle.esync_pubsub.specs.declared.pubsub.machine.PubSubHeard.TheVariants.{Published, Read, ReadPure, Streamed, Came, TriedPublish, PublishedAtOnce, Tried, TriedPure, Unread}
 
--- what an answer tells a subscriber: how many messages it passed over, where that is told, and which one it was given behind them
+-- what an answer tells a subscriber: how many messages it passed over, and which one it was given behind them
 pub record Reading (T : Type 0) : Type 0 where
-  pub skipped : Option ℕ
+  pub skipped : ℕ
   pub given : Option T
 
 -- what is known of a subscriber since it came
@@ -29,10 +31,12 @@ pub record Told (T : Type 0) : Type 0 where
   -- what it was told, in order
   pub readings : List (Reading T)
 
--- what is known from the commands and answers, for one subscriber
+-- what is known from the channel at first and from the commands and answers, for one subscriber
 pub record Account (T : Type 0) : Type 0 where
   -- what each request was started for
   pub asked : List (ℕ × PubSubAsk T)
+  -- the channel, as the answers tell it
+  pub topic : Topic T
   -- nothing where the subscriber didn't come, or left
   pub told : Option (Told T)
 
@@ -40,11 +44,6 @@ pub record Account (T : Type 0) : Type 0 where
 abbrev pub and : {A : Type 0} → List A → Option A → List A
 and xs None = xs
 and xs (Some x) = xs ++ x ∷ []
-
--- so many messages are passed over
-abbrev pub Skips : Option ℕ → ℕ → Type 0
-Skips None k = Unit {0}
-Skips (Some n) k = k ≡ n
 
 module _ {T : Type 0} where
   -- the message that was published by a poll of a request for this
@@ -60,36 +59,36 @@ module _ {T : Type 0} where
 
   -- a read tells how many messages are gone, or gives the next one
   abbrev pub reading_of : WaitResult T → Reading T
-  reading_of (Lagged k) = record { skipped = Some k; given = None }
-  reading_of (Given message) = record { skipped = Some 0; given = Some message }
+  reading_of (Lagged k) = record { skipped = k; given = None }
+  reading_of (Given message) = record { skipped = 0; given = Some message }
 
-  -- a pure read passes over those that are gone, and doesn't tell how many
-  abbrev pub pure_reading_of : Option T → Reading T
-  pure_reading_of given = record { skipped = None; given = given }
+  -- a pure read passes over those that are gone
+  abbrev pub pure_reading_of : ℕ → Option T → Reading T
+  pure_reading_of n given = record { skipped = n; given = given }
 
-  -- what a poll of a request tells its subscriber: a stream that is Pending may have passed over what is gone
-  abbrev pub heard_by_poll : PubSubAsk T → Answer (PubSubHeard T) → Option (Reading T)
-  heard_by_poll (Message t) (Gives (Read answer)) = Some (reading_of answer)
-  heard_by_poll (MessagePure t) (Gives (ReadPure message)) = Some (pure_reading_of (Some message))
-  heard_by_poll (MessagePure t) Pending = Some (pure_reading_of None)
-  heard_by_poll (Stream t) (Gives (Streamed (Some message))) = Some (reading_of (Given message))
-  heard_by_poll (Stream t) Pending = Some (pure_reading_of None)
-  heard_by_poll _ _ = None
+  -- what a poll of a request tells its subscriber, for whom n messages are gone: a stream that is Pending has passed over them
+  abbrev pub heard_by_poll : ℕ → PubSubAsk T → Answer (PubSubHeard T) → Option (Reading T)
+  heard_by_poll n (Message t) (Gives (Read answer)) = Some (reading_of answer)
+  heard_by_poll n (MessagePure t) (Gives (ReadPure message)) = Some (pure_reading_of n (Some message))
+  heard_by_poll n (MessagePure t) Pending = Some (pure_reading_of n None)
+  heard_by_poll n (Stream t) (Gives (Streamed (Some message))) = Some (reading_of (Given message))
+  heard_by_poll n (Stream t) Pending = Some (pure_reading_of n None)
+  heard_by_poll n _ _ = None
 
   -- with a message that was published, and a reading
   abbrev pub more : Option T → Option (Reading T) → Option (Told T) → Option (Told T)
   more message reading None = None
   more message reading (Some k) = Some (record { published = and k.published message; readings = and k.readings reading })
 
-  -- what is told to the subscriber with the number s
-  module _ (s : ℕ) where
+  -- what is told to the subscriber with the number s, for whom n messages are gone
+  module _ (s n : ℕ) where
     abbrev pub read_by_poll : Option (PubSubAsk T) → Answer (PubSubHeard T) → Option (Reading T)
     read_by_poll None a = None
-    read_by_poll (Some ask) a = if is_of_subscriber s ask then heard_by_poll ask a else None
+    read_by_poll (Some ask) a = if is_of_subscriber s ask then heard_by_poll n ask a else None
 
     abbrev pub read_by_call : PubSubCall T → Answer (PubSubHeard T) → Option (Reading T)
     read_by_call (Next t) (Gives (Tried (Some answer))) = if s == t then Some (reading_of answer) else None
-    read_by_call (NextPure t) (Gives (TriedPure given)) = if s == t then Some (pure_reading_of given) else None
+    read_by_call (NextPure t) (Gives (TriedPure given)) = if s == t then Some (pure_reading_of n given) else None
     read_by_call _ _ = None
 
     -- who comes knows of nothing, and who leaves is gone
@@ -104,8 +103,13 @@ module _ {T : Type 0} where
     told_after k (End r) a = k.told
     told_after k (Call call) a = told_by_call k.told call a
 
-    abbrev pub after : {W : Type 0} → Account T → Command (PubSubAsk T) W (PubSubCall T) → Answer (PubSubHeard T) → Account T
-    after k c a = record { asked = asked_after k.asked c a; told = told_after k c a }
+  -- what is known after a command, of a channel of at most cap messages
+  abbrev pub after : {W : Type 0} → ℕ → ℕ → Account T → Command (PubSubAsk T) W (PubSubCall T) → Answer (PubSubHeard T) → Account T
+  after cap s k c a = record { asked = asked_after k.asked c a; topic = topic_after cap k.asked k.topic c a; told = told_after s (gone s k.topic) k c a }
+
+  -- what is known at first of a channel without requests, whoever came to it before
+  abbrev pub known_at_first : Topic T → Account T
+  known_at_first o = record { asked = []; topic = o; told = None }
 
   -- those behind the one that is given
   abbrev pub behind : Option T → List T → List T
@@ -145,7 +149,7 @@ module _ {T : Type 0} where
     abbrev pub Follow : List T → List (Reading T) → List T → Type 0
     Follow published [] unread = unread ≡ published
     Follow published (x ∷ readings) unread =
-        (k : ℕ) × (k ≤ length published) × Skips x.skipped k × IsGiven x.given (drop k published) × Follow (behind x.given (drop k published)) readings unread
+        (x.skipped ≤ length published) × IsGiven x.given (drop x.skipped published) × Follow (behind x.given (drop x.skipped published)) readings unread
 
     -- the subscriber is here, and has read up to its position
     pub record HasRead (s : ℕ) (o : Topic T) (k : Told T) : Type 0 where
@@ -155,18 +159,19 @@ module _ {T : Type 0} where
       pub follow : Follow k.published k.readings unread
       pub rest : AreUnread (place_at s o) o.log unread
 
-    -- of a channel without requests at first, and this one at last: what the subscriber with the number s was given since it came, each
-    -- message itself or a clone, and what it passed over, are in order what was published since then, up to its position
-    abbrev pub ReadsInOrder : {W : Type 0} {K : ℕ} → ℕ → List (Command (PubSubAsk T) W (PubSubCall T)) → List (Reply (Answer (PubSubHeard T)) W K) → Topic T → Type 0
-    ReadsInOrder s commands replies o2 =
-        let k = account (λ k c a. after s k c a.answer) (record { asked = []; told = None }) commands replies in
-        IfSome k.told (λ t. HasRead s o2 t)
+    -- of a channel o without requests at first, of at most cap messages, and o2 at last: the answers tell o2, and what the subscriber with
+    -- the number s was given since it came, each message itself or a clone, and what was gone when it read, are in order what was
+    -- published since then, up to its position
+    abbrev pub ReadsInOrder : {W : Type 0} {K : ℕ} → ℕ → ℕ → Topic T → List (Command (PubSubAsk T) W (PubSubCall T)) → List (Reply (Answer (PubSubHeard T)) W K) → Topic T → Type 0
+    ReadsInOrder cap s o commands replies o2 =
+        let k = account (λ k c a. after cap s k c a.answer) (known_at_first o) commands replies in
+        (k.topic ≡ o2) × IfSome k.told (λ t. HasRead s o2 t)
 
     -- so many messages are unread
     abbrev pub HasUnread : ℕ → Told T → Type 0
     HasUnread n k = (unread : List T) × Follow k.published k.readings unread × (length unread ≡ n)
 
-    -- of a channel without requests at first: each answer that tells the subscriber how many messages are unread, or that there is none, is so
-    abbrev pub CountsUnread : {W : Type 0} {K : ℕ} → ℕ → List (Command (PubSubAsk T) W (PubSubCall T)) → List (Reply (Answer (PubSubHeard T)) W K) → Type 0
-    CountsUnread s commands replies =
-        AtEach (λ k c a. after s k c a.answer) (λ k c a. IfSome (unread_told s k c a.answer) (λ n. IfSome k.told (HasUnread n))) (record { asked = []; told = None }) commands replies
+    -- of a channel o without requests at first: each answer that tells the subscriber how many messages are unread, or that there is none, is so
+    abbrev pub CountsUnread : {W : Type 0} {K : ℕ} → ℕ → ℕ → Topic T → List (Command (PubSubAsk T) W (PubSubCall T)) → List (Reply (Answer (PubSubHeard T)) W K) → Type 0
+    CountsUnread cap s o commands replies =
+        AtEach (λ k c a. after cap s k c a.answer) (λ k c a. IfSome (unread_told s k c a.answer) (λ n. IfSome k.told (HasUnread n))) (known_at_first o) commands replies

@@ -22,13 +22,13 @@ returns g c =
       order = (
           IfOk-weaker c.run.result
           (λ replies. GoodRun (requests_meaning (pubsub_rules clone.is_clone clone.is_infallible g.row.CAP g.row.PUBS) wakings g.W.PartialEq.eq g.row.K) (record { core = topic_of old.state.state old.state.tables; requests = old.requests }) old.state.state.lists c.args.commands.items replies.items (record { core = topic_of new.state.state new.state.tables; requests = new.requests }) new.state.state.lists)
-          (λ replies. old.requests ≡ replicate g.row.REQS None → (s : ℕ) → ReadsInOrder clone.is_clone s c.args.commands.items replies.items (topic_of new.state.state new.state.tables))
+          (λ replies. old.requests ≡ replicate g.row.REQS None → (s : ℕ) → ReadsInOrder clone.is_clone g.row.CAP s (topic_of old.state.state old.state.tables) c.args.commands.items replies.items (topic_of new.state.state new.state.tables))
           (λ replies run free s. in_order clone.is_clone g.row.NAMES s clone.is_infallible g.row.CAP g.row.PUBS _ wakings g.W.PartialEq.eq g.row.K g.row.REQS _ _ _ _ c.args.commands.items replies.items run free whole)
           c.run.ensures.run);
       counts = (
           IfOk-weaker c.run.result
           (λ replies. GoodRun (requests_meaning (pubsub_rules clone.is_clone clone.is_infallible g.row.CAP g.row.PUBS) wakings g.W.PartialEq.eq g.row.K) (record { core = topic_of old.state.state old.state.tables; requests = old.requests }) old.state.state.lists c.args.commands.items replies.items (record { core = topic_of new.state.state new.state.tables; requests = new.requests }) new.state.state.lists)
-          (λ replies. old.requests ≡ replicate g.row.REQS None → (s : ℕ) → CountsUnread clone.is_clone s c.args.commands.items replies.items)
+          (λ replies. old.requests ≡ replicate g.row.REQS None → (s : ℕ) → CountsUnread clone.is_clone g.row.CAP s (topic_of old.state.state old.state.tables) c.args.commands.items replies.items)
           (λ replies run free s. counts_unread clone.is_clone g.row.NAMES s clone.is_infallible g.row.CAP g.row.PUBS _ wakings g.W.PartialEq.eq g.row.K g.row.REQS _ _ _ _ c.args.commands.items replies.items run free whole)
           c.run.ensures.run);
       sizes = (
