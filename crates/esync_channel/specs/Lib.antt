@@ -4,5 +4,6 @@ pub mod Polls
 pub mod ChannelRules
 pub mod ChannelLaws
 pub mod Order
+pub mod OrderLaws
 pub mod Sizes
 pub mod SizesLaws
