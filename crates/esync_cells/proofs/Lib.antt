@@ -1,3 +1,4 @@
+mod Asked
 pub mod OnceSet
 mod Handed
 mod Parts

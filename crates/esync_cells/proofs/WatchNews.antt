@@ -1,28 +1,29 @@
 -- A change is told once.
 use Rattle.std.proofs.Common.{◌≡◌, ℕ, ◌==◌, ◌&&◌, Bool, true, false, List, Option, Some, None, nat_lt, ◌⊎◌, inl, inr, refl, sym, ap, ◌∙◌, subst}
-use Rattle.std.specs.Prelude.{[], Result, Ok, Err, IfSome, is_none, length, slice_get, if◌then◌else◌}
+use Rattle.std.specs.Prelude.{Result, Ok, Err, is_none, is_some, nat_eq, length, slice_get, slice_set, if◌then◌else◌}
 use Rattle.std.specs.declared.alloc.AllocError.{AllocError}
 use Rattle.esync_base.specs.ListedLaws.{same_number, equal_number, unequal_number, same_or_not}
-use Rattle.esync_machine.specs.AccountLaws.{of_any_kind, ask_of-started, ask_of-other, KeepsEach, keeps_each, IsTold, law_run}
-use Rattle.esync_machine.specs.Account.{ask_of}
-use Rattle.esync_machine.specs.Numbers.{at_number}
-use Rattle.esync_machine.specs.NumbersLaws.{there_of, at_of, at_set_here, at_set_other}
+use Rattle.esync_machine.specs.AccountLaws.{of_any_kind, KeepsTold, law_run}
+use Rattle.esync_machine.specs.Numbers.{at_number, swept}
+use Rattle.esync_machine.specs.NumbersLaws.{there_of, at_set_here, at_set_other, swept_nothing}
 use Rattle.esync_machine.specs.Runs.{GoodRun}
 use Rattle.esync_machine.specs.Object.{Object, Allows, AllowsAt, requests_meaning}
-use Rattle.esync_machine.specs.ObjectLaws.{each_step}
+use Rattle.esync_machine.specs.ObjectLaws.{EachStep, each_step}
 use Rattle.esync_machine.specs.Wakings.{Wakings}
 use Rattle.esync_machine.specs.declared.run.Reply.{Reply}
 use Rattle.esync_machine.specs.declared.primitive.Answer.{Answer}
 use Rattle.esync_machine.specs.declared.primitive.Answer.TheVariants.{Pending, NoSuch, Gives}
-use Rattle.esync_machine.specs.declared.primitive.Reach.TheVariants.{Number}
+use Rattle.esync_machine.specs.declared.primitive.Reach.TheVariants.{Nobody, Number, Leavers}
 use Rattle.esync_machine.specs.declared.primitive.Command.{Command}
 use Rattle.esync_machine.specs.declared.primitive.Command.TheVariants.{Start, Poll, End, Call}
 use Rattle.esync_cells.specs.Watch.{Answers, seen_after}
 use Rattle.esync_cells.specs.Receivers.{is_free, seen_at, version_of, with_seen, with_seen_if}
 use Rattle.esync_cells.specs.ReceiversLaws.{and_first, and_second, nobody, at_marked}
-use Rattle.esync_cells.specs.WatchRules.{Watch, sought, marks, with_read, with_receiver, Begins, PollsAs, Polls, Calls, Joins, JoinsAnon, Leaves, Tried, Reads, reach, watch_rules}
+use Rattle.esync_cells.specs.WatchRules.{Watch, sought, marks, with_read, with_receiver, Begins, PollsAs, Polls, Calls, Joins, JoinsAnon, Leaves, Tried, Reads, reach, leaves, watch_rules}
 use Rattle.esync_cells.specs.WatchLaws.{only_waits}
-use Rattle.esync_cells.specs.WatchNews.{Account, is_told, told_by, after, WaitsOn, WaitsOnFor, TellsNoMore, TellsOnce}
+use Rattle.esync_cells.specs.Asked.{with_asked, known_after}
+use Rattle.esync_cells.specs.WatchNews.{Account, is_told, told_by, asked_by, after, WaitsOn, WaitsOnFor, TellsNoMore, TellsOnce}
+use Rattle.esync_cells.proofs.Asked.{AreThere, started_at, over_at, goes_on_at, left_at}
 use Rattle.esync_cells.specs.declared.watch.machine.Seen.{Seen}
 use Rattle.esync_cells.specs.declared.watch.machine.Reading.{Reading}
 use Rattle.esync_cells.specs.declared.watch.machine.Reading.TheVariants.{Get, Changed, GetAnd, ChangedAnd}
@@ -61,6 +62,10 @@ told_seen (ChangedAnd judge) version seen None e = absurd cc
 seen_here : (q : List (Option Seen)) (r version : ℕ) (s : Seen) → at_number q r ≡ Some s → at_number (with_seen r version q) r ≡ Some (record s { version = version })
 seen_here q r version s there =
     ap (λ p. at_number (with_seen_if r version p q) r) there ∙ at_set_here q r (Some s) (Some (record s { version = version })) (there_of q r s there)
+
+none_ends : (b : Bool) → (b && false) ≡ false
+none_ends true = refl
+none_ends false = refl
 
 -- a request that is started is what was asked
 begun_as : {J : Type 0} (b : Bool) (ask x : Await J) → Begins b ask (Some x) → ask ≡ x
@@ -104,11 +109,11 @@ module _ {T : Type 0} (h : ℕ) where
     polled_as o o2 k held a p (Ok None) t there = still o o2 k t.1 there
     polled_as o o2 k held a p (Err e) t there = still o o2 k t.1 there
 
-    -- a request that goes on is still the one that was polled
-    goes_on : (P : Await J → Type 0) (o o2 : Watch T) (held : Await J) (a : Answer (WatchHeard T)) (p : Option (Await J)) (got : Result (Option T) AllocError) → PollsAs IsClone IsInfallible passes got o held a o2 p → P held → IfSome p P
-    goes_on P o o2 held a p (Ok (Some v)) t here = rw t.2 tt
-    goes_on P o o2 held a p (Ok None) t here = rw t.2 here
-    goes_on P o o2 held a p (Err e) t here = rw t.2 here
+    -- a request is over where its poll shows a value, and else goes on
+    polled_asked : {W : Type 0} (o o2 : Watch T) (asked : ℕ → Option (Await J)) (q : List (Option (Await J))) (r : ℕ) (w : W) (held : Await J) (a : Answer (WatchHeard T)) (p : Option (Await J)) (got : Result (Option T) AllocError) → slice_get q r ≡ Some (Some held) → PollsAs IsClone IsInfallible passes got o held a o2 p → AreThere asked q → AreThere (known_after {C = Unit {0}} asked (Poll r w) a) (slice_set q r p)
+    polled_asked o o2 asked q r w held a p (Ok (Some v)) at t are = rw t.0 (over_at asked q r (Some held) p at are)
+    polled_asked o o2 asked q r w held a p (Ok None) at t are = rw (t.0, t.2) (goes_on_at asked q r (Some held) at are)
+    polled_asked o o2 asked q r w held a p (Err e) at t are = rw (t.0, t.2) (goes_on_at asked q r (Some held) at are)
 
     -- a read of the receiver at r that found this
     module _ (o : Watch T) (k : Bool) (r : ℕ) (read : Reading J) (s : Seen) (at : at_number o.receivers r ≡ Some s) where
@@ -198,56 +203,66 @@ module _ {T : Type 0} (h : ℕ) where
         refused k (Call (Leave r)) = refl
         refused k (Call call) = refl
 
-        -- what was told to have been started is what stands at its number
-        abbrev IsAsked : Account J → ℕ → Await J → Type 0
-        IsAsked k r x = IfSome (ask_of k.asked r) (λ ask. ask ≡ x)
+        abbrev Told : Object (Watch T) (Await J) → Account J → Type 0
+        Told o k = IsThere o.core k.told × AreThere k.asked o.requests
 
-        keeps : KeepsEach (watch_rules n IsClone IsInfallible changed tells passes) (λ c. Unit {0}) (after {W = W} h) (λ o k. IsThere o k.told) IsAsked
+        asked_alone : (asked : ℕ → Option (Await J)) (call : WatchCall T C J) (a : Answer (WatchHeard T)) → reach call ≡ Nobody → asked_by asked call a ≡ asked
+        asked_alone asked (Leave r) a e = cc
+        asked_alone asked call a e = refl
+
+        -- a receiver leaves, if one is there, and its requests end
+        left_asked : (o o2 : Watch T) (asked : ℕ → Option (Await J)) (q : List (Option (Await J))) (r : ℕ) (a : Answer (WatchHeard T)) (p : Option Seen) (ends : Await J → Bool) → ((x : Await J) → ends x ≡ (nat_eq x.receiver r && is_some p)) → Leaves p r o a o2 → AreThere asked q → AreThere (asked_by {C = C} asked (Leave r) a) (swept ends q)
+        left_asked o o2 asked q r a None ends is t are =
+            rw t.0 (subst (λ l. AreThere asked l) (sym (swept_nothing ends q (λ x. is x ∙ none_ends (nat_eq x.receiver r)))) are)
+        left_asked o o2 asked q r a (Some s) ends is t are =
+            rw t.0 (left_at asked q (λ x. nat_eq x.receiver r) ends (λ x e. is x ∙ ap (λ b. b && true) e) are)
+
+        asked_leaving : (o o2 : Watch T) (asked : ℕ → Option (Await J)) (q : List (Option (Await J))) (call : WatchCall T C J) (a : Answer (WatchHeard T)) → reach call ≡ Leavers → Calls n IsClone IsInfallible changed tells passes o call a o2 → AreThere asked q → AreThere (asked_by asked call a) (swept (leaves o call) q)
+        asked_leaving o o2 asked q (Leave r) a e t are = left_asked o o2 asked q r a (at_number o.receivers r) (leaves {C = C} o (Leave r)) (λ x. refl) t are
+        asked_leaving o o2 asked q call a e t are = cc
+
+        keeps : EachStep (watch_rules n IsClone IsInfallible changed tells passes) (KeepsTold (watch_rules n IsClone IsInfallible changed tells passes) (λ c. Unit {0}) (after {W = W} h) Told)
         keeps = record {
-          refused = refused;
-          starts = λ o k r ask x begins there. (there, subst (λ y. IfSome y (λ z. z ≡ x)) (sym (ask_of-started k.asked r ask)) (begun_as _ ask x begins));
-          polls = λ o o2 k r w x a p t there here. (polled_as o o2 k.told x a p t.0 t.2 there, goes_on (IsAsked k r) o o2 x a p t.0 t.2 here);
-          ends = λ o o2 k r x e there here. still o o2 k.told e there;
-          calls = λ o o2 k call r p p2 a at t there here. absurd (not_at_a_number call r at);
-          alone = λ o o2 k call p a none t there. called o o2 k.told call a t.0 there;
-          others = λ k c a r x ne here.
-              subst (λ y. IfSome y (λ z. z ≡ x)) (sym (ask_of-other (watch_rules n IsClone IsInfallible changed tells passes) k.asked c a r ne)) here;
+          refused = λ o c k kind told. subst (λ x. Told o x) (sym (refused k c)) told;
+          starts = λ o r ask x at begins k kind told.
+              (told.0, subst (λ y. AreThere (with_asked r (Some ask) k.asked) (slice_set o.requests r (Some y))) (begun_as _ ask x begins) (started_at k.asked o.requests r ask None at told.1));
+          polls = λ o r w x a core p at t k kind told. (polled_as o.core core k.told x a p t.0 t.2 told.0, polled_asked o.core core k.asked o.requests r w x a p t.0 at t.2 told.1);
+          ends = λ o r x core at e k kind told. (still o.core core k.told e told.0, over_at k.asked o.requests r (Some x) None at told.1);
+          calls = λ o call r p a core p2 at there t k kind told. absurd (not_at_a_number call r at);
+          alone = λ o call a core p at t k kind told.
+              (called o.core core k.told call a t.0 told.0, subst (λ x. AreThere x o.requests) (sym (asked_alone k.asked call a at)) told.1);
+          leaves = λ o call a core p at t k kind told. (called o.core core k.told call a t.0 told.0, asked_leaving o.core core k.asked o.requests call a at t.0 told.1);
         }
 
-        abbrev Told : Object (Watch T) (Await J) → Account J → Type 0
-        Told = IsTold (watch_rules n IsClone IsInfallible changed tells passes) (λ c. Unit {0}) (after {W = W} h) (λ o k. IsThere o k.told) IsAsked
+        -- a request that is known finds no news
+        polled_tells : (o o2 : Object (Watch T) (Await J)) (r : ℕ) (w : W) (a : Answer (WatchHeard T)) (ask : Await J) → slice_get o.requests r ≡ Some (Some ask) → Allows (watch_rules n IsClone IsInfallible changed tells passes) o (Poll r w) a o2 → sought passes o.core.value o.core.version (seen_at o.core.receivers ask.receiver) ask.read ≡ None → a ≡ Pending
+        polled_tells o o2 r w a ask at allowed none =
+            let t = (subst (λ p. AllowsAt (watch_rules n IsClone IsInfallible changed tells passes) o (Poll r w) r p a o2) at allowed) in
+            let polls : Polls IsClone IsInfallible passes o.core ask a t.0 t.1 = t.2 in
+            (only_waits n IsClone IsInfallible changed tells passes o.core ask a t.0 t.1 polls.0 (subst (λ y. Answers IsClone IsInfallible y polls.0) none polls.1) polls.2).0
 
-        -- what stands at the number of a poll finds no news, and nothing stands at another one
-        polled_tells : (o o2 : Object (Watch T) (Await J)) (r : ℕ) (w : W) (a : Answer (WatchHeard T)) (p : Option (Option (Await J))) (ask : Await J) → ((x : Await J) → p ≡ Some (Some x) → ask ≡ x) → AllowsAt (watch_rules n IsClone IsInfallible changed tells passes) o (Poll r w) r p a o2 → sought passes o.core.value o.core.version (seen_at o.core.receivers ask.receiver) ask.read ≡ None → (a ≡ NoSuch) ⊎ (a ≡ Pending)
-        polled_tells o o2 r w a None ask is allowed none = inl allowed.0
-        polled_tells o o2 r w a (Some None) ask is allowed none = inl allowed.2.0
-        polled_tells o o2 r w a (Some (Some x)) ask is allowed none =
-            let t : Polls IsClone IsInfallible passes o.core ask a allowed.0 allowed.1 =
-            subst (λ y. Polls IsClone IsInfallible passes o.core y a allowed.0 allowed.1) (sym (is x refl)) allowed.2 in
-            inr (only_waits n IsClone IsInfallible changed tells passes o.core ask a allowed.0 allowed.1 t.0 (subst (λ y. Answers IsClone IsInfallible y t.0) none t.1) t.2).0
+        waits_on : (o o2 : Object (Watch T) (Await J)) (r : ℕ) (w : W) (a : Answer (WatchHeard T)) (receiver : ℕ) (read : Reading J) → slice_get o.requests r ≡ Some (Some (record { receiver = receiver; read = read })) → Allows (watch_rules n IsClone IsInfallible changed tells passes) o (Poll r w) a o2 → IsThere o.core true → WaitsOn h receiver read a
+        waits_on o o2 r w a receiver Get at allowed there = tt
+        waits_on o o2 r w a receiver Changed at allowed there = λ same.
+            polled_tells o o2 r w a (record { receiver = receiver; read = Changed }) at allowed (no_news_at o.core receiver Changed (λ s seen. rw seen refl) there same)
+        waits_on o o2 r w a receiver (GetAnd judge) at allowed there = tt
+        waits_on o o2 r w a receiver (ChangedAnd judge) at allowed there = λ same.
+            polled_tells o o2 r w a (record { receiver = receiver; read = ChangedAnd judge }) at allowed (no_news_at o.core receiver (ChangedAnd judge) (λ s seen. rw seen refl) there same)
 
-        waits_on : (o o2 : Object (Watch T) (Await J)) (r : ℕ) (w : W) (a : Answer (WatchHeard T)) (receiver : ℕ) (read : Reading J) → ((x : Await J) → slice_get o.requests r ≡ Some (Some x) → record { receiver = receiver; read = read } ≡ x) → Allows (watch_rules n IsClone IsInfallible changed tells passes) o (Poll r w) a o2 → IsThere o.core true → WaitsOn h receiver read a
-        waits_on o o2 r w a receiver Get is allowed there = tt
-        waits_on o o2 r w a receiver Changed is allowed there = λ same.
-            polled_tells o o2 r w a (slice_get o.requests r) (record { receiver = receiver; read = Changed }) is allowed (no_news_at o.core receiver Changed (λ s seen. rw seen refl) there same)
-        waits_on o o2 r w a receiver (GetAnd judge) is allowed there = tt
-        waits_on o o2 r w a receiver (ChangedAnd judge) is allowed there = λ same.
-            polled_tells o o2 r w a (slice_get o.requests r) (record { receiver = receiver; read = ChangedAnd judge }) is allowed (no_news_at o.core receiver (ChangedAnd judge) (λ s seen. rw seen refl) there same)
+        waits_on_for : (o o2 : Object (Watch T) (Await J)) (r : ℕ) (w : W) (a : Answer (WatchHeard T)) (ask : Option (Await J)) → ((x : Await J) → ask ≡ Some x → slice_get o.requests r ≡ Some (Some x)) → Allows (watch_rules n IsClone IsInfallible changed tells passes) o (Poll r w) a o2 → IsThere o.core true → WaitsOnFor h ask a
+        waits_on_for o o2 r w a None at allowed there = tt
+        waits_on_for o o2 r w a (Some ask) at allowed there = waits_on o o2 r w a ask.receiver ask.read (at ask refl) allowed there
 
-        waits_on_for : (o o2 : Object (Watch T) (Await J)) (r : ℕ) (w : W) (a : Answer (WatchHeard T)) (ask : Option (Await J)) → ((x : Await J) → slice_get o.requests r ≡ Some (Some x) → IfSome ask (λ y. y ≡ x)) → Allows (watch_rules n IsClone IsInfallible changed tells passes) o (Poll r w) a o2 → IsThere o.core true → WaitsOnFor h ask a
-        waits_on_for o o2 r w a None is allowed there = tt
-        waits_on_for o o2 r w a (Some ask) is allowed there = waits_on o o2 r w a ask.receiver ask.read is allowed there
-
-        tells_no_more : (o o2 : Object (Watch T) (Await J)) (told : Bool) (asked : List (ℕ × Await J)) (c : Command (Await J) W (WatchCall T C J)) (a : Answer (WatchHeard T)) → Allows (watch_rules n IsClone IsInfallible changed tells passes) o c a o2 → Told o (record { told = told; asked = asked }) → TellsNoMore h told asked c a
+        tells_no_more : (o o2 : Object (Watch T) (Await J)) (told : Bool) (asked : ℕ → Option (Await J)) (c : Command (Await J) W (WatchCall T C J)) (a : Answer (WatchHeard T)) → Allows (watch_rules n IsClone IsInfallible changed tells passes) o c a o2 → Told o (record { told = told; asked = asked }) → TellsNoMore h told asked c a
         tells_no_more o o2 false asked c a allowed told = tt
         tells_no_more o o2 true asked (Start r ask) a allowed told = tt
         tells_no_more o o2 true asked (Poll r w) a allowed told =
-            waits_on_for o o2 r w a (ask_of asked r) (λ x at. told.here r x (at_of o.requests r (Some x) at)) allowed told.core
+            waits_on_for o o2 r w a (asked r) (λ x e. there_of o.requests r x (told.1 r x e)) allowed told.0
         tells_no_more o o2 true asked (End r) a allowed told = tt
         tells_no_more o o2 true asked (Call (Read r Changed)) a allowed told =
-            no_news o.core allowed.0 r Changed a (λ s seen. rw seen refl) allowed.2.0 told.core
+            no_news o.core allowed.0 r Changed a (λ s seen. rw seen refl) allowed.2.0 told.0
         tells_no_more o o2 true asked (Call (Read r (ChangedAnd judge))) a allowed told =
-            no_news o.core allowed.0 r (ChangedAnd judge) a (λ s seen. rw seen refl) allowed.2.0 told.core
+            no_news o.core allowed.0 r (ChangedAnd judge) a (λ s seen. rw seen refl) allowed.2.0 told.0
         tells_no_more o o2 true asked (Call call) a allowed told = tt
 
 -- whatever wakers the watch hands out
@@ -255,6 +270,6 @@ pub tells_once : {T C J W : Type 0} (n : ℕ) (IsClone : T → T → Type 0) (Is
 tells_once {T} {C} {J} {W} n IsClone IsInfallible changed tells passes H eq K h o o2 g g2 cs as' run =
     let rules = watch_rules n IsClone IsInfallible changed tells passes in
     law_run (requests_meaning rules H eq K) (λ c. Unit {0}) (λ k c a. after h k c a.answer) (Told h IsClone IsInfallible passes n changed tells W)
-    (λ o o2 k c a kind allowed. each_step rules (keeps_each rules (λ c. Unit {0}) (after h) (keeps h IsClone IsInfallible passes n changed tells W)) o o2 c a.answer allowed k kind)
+    (λ o o2 k c a kind allowed. each_step rules (keeps h IsClone IsInfallible passes n changed tells W) o o2 c a.answer allowed k kind)
     (λ k c a. TellsNoMore h k.told k.asked c a.answer) (λ o o2 k c a kind allowed told. tells_no_more h IsClone IsInfallible passes n changed tells W o o2 k.told k.asked c a.answer allowed told)
-    o o2 g g2 (record { told = false; asked = [] }) cs as' (of_any_kind cs) run (record { core = tt; here = λ r x e. tt })
+    o o2 g g2 (record { told = false; asked = λ r. None }) cs as' (of_any_kind cs) run (tt, λ r x e. absurd cc)

@@ -4,6 +4,7 @@ pub mod SignalLaws
 pub mod OnceLock
 pub mod OnceRules
 pub mod OnceLaws
+pub mod Asked
 pub mod OnceSet
 pub mod LazyLock
 pub mod LazyRules

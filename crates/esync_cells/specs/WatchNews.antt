@@ -1,11 +1,12 @@
 -- A change is told once: told of the commands and their answers alone.
-use Rattle.std.specs.Prelude.{◌≡◌, ◌⊎◌, ℕ, ◌==◌, ◌&&◌, Bool, true, false, List, [], Option, Some, None, Ok, is_some, if◌then◌else◌}
-use Rattle.esync_machine.specs.Account.{AtEach, ask_of, asked_after}
+use Rattle.std.specs.Prelude.{◌≡◌, ℕ, ◌==◌, ◌&&◌, Bool, true, false, List, Option, Some, None, Ok, is_some, nat_eq, if◌then◌else◌}
+use Rattle.esync_machine.specs.Account.{AtEach}
 use Rattle.esync_machine.specs.declared.run.Reply.{Reply}
 use Rattle.esync_machine.specs.declared.primitive.Answer.{Answer}
-use Rattle.esync_machine.specs.declared.primitive.Answer.TheVariants.{Done, Pending, NoSuch, Gives}
+use Rattle.esync_machine.specs.declared.primitive.Answer.TheVariants.{Done, Pending, Gives}
 use Rattle.esync_machine.specs.declared.primitive.Command.{Command}
 use Rattle.esync_machine.specs.declared.primitive.Command.TheVariants.{Start, Poll, End, Call}
+use Rattle.esync_cells.specs.Asked.{without_asked, known_after}
 use Rattle.esync_cells.specs.declared.watch.machine.Reading.{Reading}
 use Rattle.esync_cells.specs.declared.watch.machine.Reading.TheVariants.{Get, Changed, GetAnd, ChangedAnd}
 use Rattle.esync_cells.specs.declared.watch.machine.Await.{Await}
@@ -25,16 +26,17 @@ is_told (ChangedAnd judge) p = is_some p
 pub record Account (J : Type 0) : Type 0 where
   -- whether that receiver was told of the latest change
   pub told : Bool
-  -- what each request was started for
-  pub asked : List (ℕ × Await J)
+  -- which requests are there
+  pub asked : ℕ → Option (Await J)
 
--- what the poll of a request that the receiver at r started for this is answered, while the one at h is told of the latest change:
--- one for a newer version waits on, unless it is over
+-- what the poll of a request of the receiver at r is answered while the one at h is told of the latest change: a request for a newer
+-- version waits on
 abbrev pub WaitsOn : {T J : Type 0} → ℕ → ℕ → Reading J → Answer (WatchHeard T) → Type 0
-WaitsOn h r Changed a = r ≡ h → (a ≡ NoSuch) ⊎ (a ≡ Pending)
-WaitsOn h r (ChangedAnd judge) a = r ≡ h → (a ≡ NoSuch) ⊎ (a ≡ Pending)
+WaitsOn h r Changed a = r ≡ h → a ≡ Pending
+WaitsOn h r (ChangedAnd judge) a = r ≡ h → a ≡ Pending
 WaitsOn h r read a = Unit {0}
 
+-- and what a poll is answered then, by the request that is known at its number
 abbrev pub WaitsOnFor : {T J : Type 0} → ℕ → Option (Await J) → Answer (WatchHeard T) → Type 0
 WaitsOnFor h None a = Unit {0}
 WaitsOnFor h (Some ask) a = WaitsOn h ask.receiver ask.read a
@@ -55,6 +57,15 @@ module _ {T C J : Type 0} where
   told_after h k (End r) a = k
   told_after h k (Call call) a = told_by h k call a
 
+  -- a receiver that leaves ends its requests
+  abbrev pub asked_by : (ℕ → Option (Await J)) → WatchCall T C J → Answer (WatchHeard T) → ℕ → Option (Await J)
+  asked_by asked (Leave r) Done = without_asked (λ ask. nat_eq ask.receiver r) asked
+  asked_by asked _ _ = asked
+
+  abbrev pub asked_after : {W : Type 0} → (ℕ → Option (Await J)) → Command (Await J) W (WatchCall T C J) → Answer (WatchHeard T) → ℕ → Option (Await J)
+  asked_after asked (Call call) a = asked_by asked call a
+  asked_after asked c a = known_after asked c a
+
   abbrev pub after : {W : Type 0} → ℕ → Account J → Command (Await J) W (WatchCall T C J) → Answer (WatchHeard T) → Account J
   after h k c a = record { told = told_after h k.told c a; asked = asked_after k.asked c a }
 
@@ -65,14 +76,14 @@ module _ {T C J : Type 0} where
   HasNoNews h call a = Unit {0}
 
   -- and what any command is answered then
-  abbrev pub TellsNoMore : {W : Type 0} → ℕ → Bool → List (ℕ × Await J) → Command (Await J) W (WatchCall T C J) → Answer (WatchHeard T) → Type 0
+  abbrev pub TellsNoMore : {W : Type 0} → ℕ → Bool → (ℕ → Option (Await J)) → Command (Await J) W (WatchCall T C J) → Answer (WatchHeard T) → Type 0
   TellsNoMore h false asked c a = Unit {0}
   TellsNoMore h true asked (Start r ask) a = Unit {0}
-  TellsNoMore h true asked (Poll r w) a = WaitsOnFor h (ask_of asked r) a
+  TellsNoMore h true asked (Poll r w) a = WaitsOnFor h (asked r) a
   TellsNoMore h true asked (End r) a = Unit {0}
   TellsNoMore h true asked (Call call) a = HasNoNews h call a
 
   -- at each command of a run: from a read of the receiver at h on, until a send, its reads and its requests find no news
   abbrev pub TellsOnce : {W : Type 0} {K : ℕ} → ℕ → List (Command (Await J) W (WatchCall T C J)) → List (Reply (Answer (WatchHeard T)) W K) → Type 0
   TellsOnce h commands replies =
-      AtEach (λ k c a. after h k c a.answer) (λ k c a. TellsNoMore h k.told k.asked c a.answer) (record { told = false; asked = [] }) commands replies
+      AtEach (λ k c a. after h k c a.answer) (λ k c a. TellsNoMore h k.told k.asked c a.answer) (record { told = false; asked = λ r. None }) commands replies
