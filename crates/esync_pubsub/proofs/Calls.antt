@@ -1,4 +1,4 @@
--- What a call of a channel for many leaves to the requests, from what its log allows and what it hands out.
+-- What a call of a pub-sub channel leaves to the requests, from what its log allows and what it hands out.
 use Rattle.std.proofs.Common.{◌≡◌, ℕ, ◌≤◌, ◌==◌, ◌&&◌, Bool, true, false, List, [], Option, Some, None, refl, sym, ap, subst, ◌∙◌, ◌⊎◌, inl, inr}
 use Rattle.std.specs.Prelude.{is_some, slice_set, slice_index_or, Ok, Err}
 use Rattle.esync_base.specs.Registration.{IsAmong}

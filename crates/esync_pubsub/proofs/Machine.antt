@@ -1,4 +1,4 @@
--- What a poll and a call keep of a machine over a channel for many whose subscribers and publishers have numbers.
+-- What a poll and a call keep of a machine over a pub-sub channel whose subscribers and publishers have numbers.
 use Rattle.std.proofs.Common.{◌≡◌, ℕ, Bool, true, false, List, Option, Some, None, sym, ap, subst, ◌∙◌, ◌⊎◌, inl, inr}
 use Rattle.esync_base.specs.Registration.{IsAmong}
 use Rattle.esync_machine.specs.declared.primitive.Answer.{Answer}

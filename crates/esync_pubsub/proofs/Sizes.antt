@@ -1,4 +1,4 @@
--- The sizes of a channel for many add up.
+-- The sizes of a pub-sub channel add up.
 use Rattle.std.proofs.Common.{◌≡◌, ℕ, ◌-◌, Bool, true, false, List, length, Option, Some, None, inl, inr, refl, sym, ap, ◌∙◌, subst, arith}
 use Rattle.std.specs.Prelude.{slice_set, IfSome, Ok, Err}
 use Rattle.esync_machine.specs.AccountLaws.{of_any_kind, KeepsEach, keeps_each, law_requests, IsTold, HasLaw}

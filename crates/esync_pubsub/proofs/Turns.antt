@@ -1,4 +1,4 @@
--- What a poll of a request and a call of a channel for many leave, from what its log allows and what they hand out.
+-- What a poll of a request and a call of a pub-sub channel leave, from what its log allows and what they hand out.
 use Rattle.std.proofs.Common.{◌≡◌, ℕ, ◌+◌, ◌-◌, Bool, true, false, List, [], Option, Some, None, refl, sym, ap, subst, arith, ◌∙◌, ◌⊎◌, inl, inr}
 use Rattle.std.specs.Prelude.{is_some, IfSome}
 use Rattle.std.proofs.lemmas.List.{get_or-set_same}

@@ -1,4 +1,4 @@
--- A channel for many in which subscribers and publishers have numbers.
+-- A pub-sub channel in which subscribers and publishers have numbers.
 use Rattle.std.specs.Prelude.{◌≡◌, ℕ, ◌≤◌, true, List, length, Option, Some, is_some, refl}
 use Rattle.std.specs.List.{count_by}
 use Rattle.std.specs.Coded.{Coded, code_by, coded×, coded_ℕ, coded_list, coded_option}

@@ -1,4 +1,4 @@
--- A channel for many: its log, how many publishers are counted, and who waits.
+-- A pub-sub channel: its log, how many publishers are counted, and who waits.
 use Rattle.std.specs.Prelude.{◌≡◌, ℕ, ◌+◌, ◌<◌, Bool, true, false, List, [], ◌∷◌, length, Option, Some, None, Result, Ok, Err, nat_lt, replicate, refl}
 use Rattle.std.specs.Coded.{Coded, code_by, coded×, coded_ℕ, coded_list}
 use Rattle.esync_base.specs.Registration.{registered, displaced, registered_if, displaced_if}

@@ -1,4 +1,4 @@
--- What a channel for many allows, and which wakers it hands out: for each request and each call.
+-- What a pub-sub channel allows, and which wakers it hands out: for each request and each call.
 use Rattle.std.specs.Prelude.{◌≡◌, ℕ, ◌+◌, ◌-◌, ◌<◌, ◌==◌, ◌&&◌, Bool, true, false, List, length, Option, Some, None, is_some, Result, Ok, Err, slice_get, slice_set}
 use Rattle.esync_base.specs.Registration.{IsAmong}
 use Rattle.esync_base.specs.declared.waitqueue.Poll.{Poll}

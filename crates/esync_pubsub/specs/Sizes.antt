@@ -1,4 +1,4 @@
--- The sizes of a channel for many add up: told of the commands and their answers alone.
+-- The sizes of a pub-sub channel add up: told of the commands and their answers alone.
 use Rattle.std.specs.Prelude.{◌≡◌, ℕ, ◌-◌, Bool, true, false, List, Option, Some, None, IfSome, Ok, if◌then◌else◌}
 use Rattle.esync_machine.specs.Sizes.{Sizes, SizesAddUp as AddUpInRun}
 use Rattle.esync_machine.specs.declared.run.Reply.{Reply}

@@ -1,4 +1,4 @@
--- The steps of a shared channel for many: what each answers, the channel after it, and the wakers that it hands out. A step of who isn't
+-- The steps of a shared pub-sub channel: what each answers, the channel after it, and the wakers that it hands out. A step of who isn't
 -- there changes nothing.
 use Rattle.std.specs.Prelude.{◌≡◌, ℕ, ◌-◌, Bool, true, false, List, [], Option, Some, None, Result, Ok, Err, if◌then◌else◌, nat_eq, not}
 use Rattle.esync_base.specs.declared.waitqueue.Poll.{Poll}

@@ -1,4 +1,4 @@
--- The room that the machine of a channel for many takes.
+-- The room that the machine of a pub-sub channel takes.
 use Rattle.std.proofs.Common.{◌≡◌, ℕ, ◌+◌, ◌*◌, ◌<◌, ◌≤◌, ◌^◌, ◌⊎◌, inl, inr, arith}
 use prog.Memory.{up}
 
@@ -18,7 +18,7 @@ pub up_to_eight : (P : ℕ → Type 0) → P 0 → P 1 → P 2 → P 3 → P 4 �
 up_to_eight P p0 p1 p2 p3 p4 p5 p6 p7 p8 =
     and_next P 7 (and_next P 6 (and_next P 5 (and_next P 4 (and_next P 3 (and_next P 2 (and_next P 1 (and_next P 0 (none P p0) p1) p2) p3) p4) p5) p6) p7) p8
 
--- the bytes of a channel for many of n places, for four subscribers and four publishers, with its names and requests
+-- the bytes of a pub-sub channel of n places, for four subscribers and four publishers, with its names and requests
 abbrev room : ℕ → ℕ
 room n = up 8 (up 8 (0 + up 8 (up 8 (0 + up 8 (up 8 (up 8 (up 8 (0 + up 8 (up 8 (up 8 (up 8 (0 + up 8 (up 8 (0 + up 8 (up 1 (up 8 (up 8 (0 + up 4 (0 + n * 8)) + 8) + 8) + 1)) + up 8 (0 + n * 8))) + 8) + 64) + 8)) + 8) + 72) + 72)) + 272)) + 512)
 

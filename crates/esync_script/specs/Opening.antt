@@ -108,7 +108,7 @@ an_empty_pipe = record { items = []; front = 0 }
 abbrev pub no_slot : PipeSlots ℕ
 no_slot = record { readers = []; writers = [] }
 
--- a channel for many in which nobody is, with four places for subscribers; its first message has this number
+-- a pub-sub channel in which nobody is, with four places for subscribers; its first message has this number
 abbrev pub a_new_topic : ℕ → Topic ℕ
 a_new_topic first = record {
   log = record { held = []; next = first; positions = replicate 4 None };
