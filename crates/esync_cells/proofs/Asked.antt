@@ -27,7 +27,7 @@ module _ {Ask : Type 0} where
   goes_on_at asked q r p at are = subst (λ l. AreThere asked l) (sym (set_there q r p at)) are
 
   -- some end, of which all are known to
-  kept_place : (test : Ask → Bool) (p : Option Ask) (x : Ask) → swept_place test p ≡ Some x → (p ≡ Some x) × (test x ≡ false)
+  pub kept_place : (test : Ask → Bool) (p : Option Ask) (x : Ask) → swept_place test p ≡ Some x → (p ≡ Some x) × (test x ≡ false)
   kept_place test None x e = absurd cc
   kept_place test (Some y) x e = elim (true_or_false (test y)) [
     | inl b ↦ (let f = rw (b, swept_place) at e in absurd cc)
@@ -36,3 +36,10 @@ module _ {Ask : Type 0} where
 
   pub left_at : (asked : ℕ → Option Ask) (q : List (Option Ask)) (test ends : Ask → Bool) → ((x : Ask) → test x ≡ false → ends x ≡ false) → AreThere asked q → AreThere (without_asked test asked) (swept ends q)
   left_at asked q test ends stays are r x e = (let k = kept_place test (asked r) x e in at_swept ends q r x (are r x k.0) (stays x k.1))
+
+  -- what is told of each that is known, once one more is
+  pub with_all : (P : Ask → Type 0) (asked : ℕ → Option Ask) (r : ℕ) (known : Option Ask) → ((x : Ask) → known ≡ Some x → P x) → ((s : ℕ) (x : Ask) → asked s ≡ Some x → P x) → (s : ℕ) (x : Ask) → with_asked r known asked s ≡ Some x → P x
+  with_all P asked r known new all s x e = elim (same_or_not r s) [
+    | inl same ↦ (let f = rw (equal_number r s same) at e in new x f)
+    | inr other ↦ (let f = rw (unequal_number r s other) at e in all s x f)
+  ]

@@ -1,15 +1,16 @@
 -- A change is told once.
 use Rattle.std.proofs.Common.{◌≡◌, ℕ, ◌==◌, ◌&&◌, Bool, true, false, List, Option, Some, None, nat_lt, ◌⊎◌, inl, inr, refl, sym, ap, ◌∙◌, subst}
-use Rattle.std.specs.Prelude.{Result, Ok, Err, is_none, is_some, nat_eq, length, slice_get, slice_set, if◌then◌else◌}
+use Rattle.std.specs.Prelude.{[], Result, Ok, Err, is_none, is_some, nat_eq, length, slice_get, slice_set, if◌then◌else◌}
 use Rattle.std.specs.declared.alloc.AllocError.{AllocError}
 use Rattle.esync_base.specs.ListedLaws.{same_number, equal_number, unequal_number, same_or_not}
 use Rattle.esync_machine.specs.AccountLaws.{of_any_kind, KeepsTold, law_run}
 use Rattle.esync_machine.specs.Numbers.{at_number, swept}
-use Rattle.esync_machine.specs.NumbersLaws.{there_of, at_set_here, at_set_other, swept_nothing}
+use Rattle.esync_machine.specs.NumbersLaws.{there_of, at_of, at_set_here, at_set_other, swept_nothing}
 use Rattle.esync_machine.specs.Runs.{GoodRun}
 use Rattle.esync_machine.specs.Object.{Object, Allows, AllowsAt, requests_meaning}
 use Rattle.esync_machine.specs.ObjectLaws.{EachStep, each_step}
-use Rattle.esync_machine.specs.Wakings.{Wakings}
+use Rattle.esync_machine.specs.Wakings.{Wakings, called as handed_by_call, polled as handed_by_poll}
+use Rattle.esync_machine.specs.Rules.{ended}
 use Rattle.esync_machine.specs.declared.run.Reply.{Reply}
 use Rattle.esync_machine.specs.declared.primitive.Answer.{Answer}
 use Rattle.esync_machine.specs.declared.primitive.Answer.TheVariants.{Pending, NoSuch, Gives}
@@ -17,13 +18,13 @@ use Rattle.esync_machine.specs.declared.primitive.Reach.TheVariants.{Nobody, Num
 use Rattle.esync_machine.specs.declared.primitive.Command.{Command}
 use Rattle.esync_machine.specs.declared.primitive.Command.TheVariants.{Start, Poll, End, Call}
 use Rattle.esync_cells.specs.Watch.{Answers, seen_after}
-use Rattle.esync_cells.specs.Receivers.{is_free, seen_at, version_of, with_seen, with_seen_if}
+use Rattle.esync_cells.specs.Receivers.{is_counted, is_free, seen_at, version_of, with_seen, with_seen_if}
 use Rattle.esync_cells.specs.ReceiversLaws.{and_first, and_second, nobody, at_marked}
-use Rattle.esync_cells.specs.WatchRules.{Watch, sought, marks, with_read, with_receiver, Begins, PollsAs, Polls, Calls, Joins, JoinsAnon, Leaves, Tried, Reads, reach, leaves, watch_rules}
+use Rattle.esync_cells.specs.WatchRules.{Watch, sought, marks, with_read, with_receiver, Begins, PollsAs, Polls, Calls, Joins, JoinsAnon, Leaves, Tried, Reads, reach, leaves, watch_rules, watch_wakings, IsReceiving}
 use Rattle.esync_cells.specs.WatchLaws.{only_waits}
 use Rattle.esync_cells.specs.Asked.{with_asked, known_after}
-use Rattle.esync_cells.specs.WatchNews.{Account, is_told, told_by, asked_by, after, WaitsOn, WaitsOnFor, TellsNoMore, TellsOnce}
-use Rattle.esync_cells.proofs.Asked.{AreThere, started_at, over_at, goes_on_at, left_at}
+use Rattle.esync_cells.specs.WatchNews.{Account, is_told, told_by, told_by_poll, asked_by, after, WaitsOn, WaitsOnFor, TellsNoMore, TellsOnce}
+use Rattle.esync_cells.proofs.Asked.{AreThere, started_at, over_at, goes_on_at, left_at, kept_place, with_all}
 use Rattle.esync_cells.specs.declared.watch.machine.Seen.{Seen}
 use Rattle.esync_cells.specs.declared.watch.machine.Reading.{Reading}
 use Rattle.esync_cells.specs.declared.watch.machine.Reading.TheVariants.{Get, Changed, GetAnd, ChangedAnd}
@@ -32,7 +33,7 @@ use Rattle.esync_cells.specs.declared.watch.machine.WatchCall.{WatchCall}
 use Rattle.esync_cells.specs.declared.watch.machine.WatchCall.TheVariants.{Receiver, Anon, Leave, Clear, Send, Modify, ModifyIf, TryGet, Read, Id, Contains}
 use Rattle.esync_cells.specs.declared.watch.machine.WatchHeard.{WatchHeard}
 use Rattle.esync_cells.specs.declared.watch.machine.WatchHeard.TheVariants.{Found}
-use Rattle.esync_cells.proofs.WatchKept.{not_newer, seen_or_not, seen_same}
+use Rattle.esync_cells.proofs.WatchKept.{not_newer, seen_or_not, seen_same, called_kept, polled_kept}
 
 -- a free number is another one than that of somebody
 free_elsewhere : (r h : ℕ) (q : List (Option Seen)) (s : Seen) → is_free r q ≡ true → at_number q h ≡ Some s → r ≡ h → ⊥
@@ -63,6 +64,10 @@ seen_here : (q : List (Option Seen)) (r version : ℕ) (s : Seen) → at_number 
 seen_here q r version s there =
     ap (λ p. at_number (with_seen_if r version p q) r) there ∙ at_set_here q r (Some s) (Some (record s { version = version })) (there_of q r s there)
 
+someone : (p : Option Seen) → is_counted p ≡ true → (s : Seen) × (p ≡ Some s)
+someone None e = absurd cc
+someone (Some s) e = (s, refl)
+
 none_ends : (b : Bool) → (b && false) ≡ false
 none_ends true = refl
 none_ends false = refl
@@ -71,6 +76,10 @@ none_ends false = refl
 begun_as : {J : Type 0} (b : Bool) (ask x : Await J) → Begins b ask (Some x) → ask ≡ x
 begun_as true ask x e = (let f : x ≡ ask = cc in sym f)
 begun_as false ask x e = absurd cc
+
+begun_counted : {J : Type 0} (b : Bool) (ask x : Await J) → Begins b ask (Some x) → b ≡ true
+begun_counted true ask x e = refl
+begun_counted false ask x e = absurd cc
 
 module _ {T : Type 0} (h : ℕ) where
   -- the receiver at h, if it is told, has seen the latest version
@@ -109,6 +118,25 @@ module _ {T : Type 0} (h : ℕ) where
     polled_as o o2 k held a p (Ok None) t there = still o o2 k t.1 there
     polled_as o o2 k held a p (Err e) t there = still o o2 k t.1 there
 
+    -- a poll that shows a value to the receiver at h tells it
+    seen_now : (o o2 : Watch T) (r : ℕ) (s : Seen) → at_number o.receivers r ≡ Some s → r ≡ h → o2 ≡ with_read r o.version o → IsThere o2 true
+    seen_now o o2 r s at same e =
+        let now : Seen = record s { version = o.version } in
+        subst (λ y. IsThere y true) (sym e) (now, subst (λ t. at_number (with_seen r o.version o.receivers) t ≡ Some now) same (seen_here o.receivers r o.version s at), not_newer o.version)
+
+    told_polled : (o o2 : Watch T) (k : Bool) (known : Option (Await J)) (held : Await J) (a : Answer (WatchHeard T)) (p : Option (Await J)) (got : Result (Option T) AllocError) → PollsAs IsClone IsInfallible passes got o held a o2 p → ((x : Await J) → known ≡ Some x → (held ≡ x) × IsReceiving o x) → IsThere o k → IsThere o2 (told_by_poll h k known a)
+    told_polled o o2 k None held a p got t is there = polled_as o o2 k held a p got t there
+    told_polled o o2 k (Some ask) held a p (Ok (Some v)) t is there = elim (same_or_not ask.receiver h) [
+      | inl same ↦ rw (t.0, equal_number ask.receiver h same) (
+          let known = is ask refl in
+          let there = someone (at_number o.receivers ask.receiver) known.1 in
+          seen_now o o2 ask.receiver there.0 there.1 same (subst (λ x. o2 ≡ with_read x.receiver o.version o) known.0 t.1)
+          )
+      | inr other ↦ rw (t.0, unequal_number ask.receiver h other) (polled_as o o2 k held a p (Ok (Some v)) t there)
+    ]
+    told_polled o o2 k (Some ask) held a p (Ok None) t is there = rw t.0 (polled_as o o2 k held a p (Ok None) t there)
+    told_polled o o2 k (Some ask) held a p (Err e) t is there = rw t.0 (polled_as o o2 k held a p (Err e) t there)
+
     -- a request is over where its poll shows a value, and else goes on
     polled_asked : {W : Type 0} (o o2 : Watch T) (asked : ℕ → Option (Await J)) (q : List (Option (Await J))) (r : ℕ) (w : W) (held : Await J) (a : Answer (WatchHeard T)) (p : Option (Await J)) (got : Result (Option T) AllocError) → slice_get q r ≡ Some (Some held) → PollsAs IsClone IsInfallible passes got o held a o2 p → AreThere asked q → AreThere (known_after {C = Unit {0}} asked (Poll r w) a) (slice_set q r p)
     polled_asked o o2 asked q r w held a p (Ok (Some v)) at t are = rw t.0 (over_at asked q r (Some held) p at are)
@@ -132,10 +160,10 @@ module _ {T : Type 0} (h : ℕ) where
           read_at o r _ s k at (seen_or_not {E = AllocError} (marks o.version s.version read) o.version s.version (Ok p)) there
 
     -- what is read for a newer version finds nothing
-    finds_none : (o o2 after : Watch T) (a : Answer (WatchHeard T)) (got : Result (Option T) AllocError) → Answers IsClone IsInfallible None got → Tried got o after a o2 → a ≡ Gives (Found None)
-    finds_none o o2 after a (Ok (Some v)) is t = absurd is
-    finds_none o o2 after a (Ok None) is t = t.0
-    finds_none o o2 after a (Err e) is t = absurd is
+    finds_none : (o o2 later : Watch T) (a : Answer (WatchHeard T)) (got : Result (Option T) AllocError) → Answers IsClone IsInfallible None got → Tried got o later a o2 → a ≡ Gives (Found None)
+    finds_none o o2 later a (Ok (Some v)) is t = absurd is
+    finds_none o o2 later a (Ok None) is t = t.0
+    finds_none o o2 later a (Err e) is t = absurd is
 
     no_news : (o o2 : Watch T) (r : ℕ) (read : Reading J) (a : Answer (WatchHeard T)) → ((s : Seen) → nat_lt s.version o.version ≡ false → sought passes o.value o.version s.version read ≡ None) → Reads IsClone IsInfallible passes (at_number o.receivers r) r read o a o2 → IsThere o true → r ≡ h → a ≡ Gives (Found None)
     no_news o o2 r read a hides t there same =
@@ -196,15 +224,20 @@ module _ {T : Type 0} (h : ℕ) where
       not_at_a_number call r e = cc
 
       module _ (W : Type 0) where
+        told_nothing : (told : Bool) (ask : Option (Await J)) → told_by_poll {T = T} h told ask NoSuch ≡ told
+        told_nothing told None = refl
+        told_nothing told (Some ask) = refl
+
         refused : (k : Account J) (c : Command (Await J) W (WatchCall T C J)) → after h k c NoSuch ≡ k
         refused k (Start r ask) = refl
-        refused k (Poll r w) = refl
+        refused k (Poll r w) = ap (λ b. record { told = b; asked = k.asked }) (told_nothing k.told (k.asked r))
         refused k (End r) = refl
         refused k (Call (Leave r)) = refl
         refused k (Call call) = refl
 
+        -- the receiver is told, the requests are there, and their receivers are
         abbrev Told : Object (Watch T) (Await J) → Account J → Type 0
-        Told o k = IsThere o.core k.told × AreThere k.asked o.requests
+        Told o k = IsThere o.core k.told × AreThere k.asked o.requests × ((r : ℕ) (x : Await J) → k.asked r ≡ Some x → IsReceiving o.core x)
 
         asked_alone : (asked : ℕ → Option (Await J)) (call : WatchCall T C J) (a : Answer (WatchHeard T)) → reach call ≡ Nobody → asked_by asked call a ≡ asked
         asked_alone asked (Leave r) a e = cc
@@ -221,17 +254,65 @@ module _ {T : Type 0} (h : ℕ) where
         asked_leaving o o2 asked q (Leave r) a e t are = left_asked o o2 asked q r a (at_number o.receivers r) (leaves {C = C} o (Leave r)) (λ x. refl) t are
         asked_leaving o o2 asked q call a e t are = cc
 
+        -- what is known still after a call isn't ended by it
+        left_stays : (asked : ℕ → Option (Await J)) (o o2 : Watch T) (r s : ℕ) (x : Await J) (a : Answer (WatchHeard T)) (p : Option Seen) → Leaves p s o a o2 → asked_by {C = C} asked (Leave s) a r ≡ Some x → (asked r ≡ Some x) × ((nat_eq x.receiver s && is_some p) ≡ false)
+        left_stays asked o o2 r s x a None t e = (rw t.0 at e, none_ends (nat_eq x.receiver s))
+        left_stays asked o o2 r s x a (Some t2) t e =
+            let f = rw t.0 at e in
+            let k = kept_place (λ y. nat_eq y.receiver s) (asked r) x f in
+            (k.0, ap (λ b. b && true) k.1)
+
+        known_stays : (asked : ℕ → Option (Await J)) (o o2 : Watch T) (call : WatchCall T C J) (a : Answer (WatchHeard T)) (r : ℕ) (x : Await J) → Calls n IsClone IsInfallible changed tells passes o call a o2 → asked_by asked call a r ≡ Some x → (asked r ≡ Some x) × (ended (watch_rules n IsClone IsInfallible changed tells passes) o (reach call) call x ≡ false)
+        known_stays asked o o2 (Leave s) a r x t e = left_stays asked o o2 r s x a (at_number o.receivers s) t e
+        known_stays asked o o2 call a r x t e = (e, refl)
+
+        any : W → W → Bool
+        any v w = true
+
+        receives_called : (o o2 : Watch T) (call : WatchCall T C J) (a : Answer (WatchHeard T)) (x : Await J) → Calls n IsClone IsInfallible changed tells passes o call a o2 → ended (watch_rules n IsClone IsInfallible changed tells passes) o (reach call) call x ≡ false → IsReceiving o x → IsReceiving o2 x
+        receives_called o o2 call a x t stays receiving =
+            let handed = handed_by_call (watch_wakings {J = J} any n tells) o [] call None a in
+            (called_kept n IsClone IsInfallible changed tells passes any o o2 [] handed.after handed.wakes x receiving a call t (refl, refl) stays).fits receiving
+
+        receives_polled : (o o2 : Watch T) (held : Await J) (w : W) (a : Answer (WatchHeard T)) (p : Option (Await J)) (x : Await J) → Polls IsClone IsInfallible passes o held a o2 p → IsReceiving o x → IsReceiving o2 x
+        receives_polled o o2 held w a p x t receiving =
+            let handed = handed_by_poll (watch_wakings {C = C} any n tells) o [] held w a p in
+            (polled_kept n IsClone IsInfallible changed tells passes any o o2 [] handed.after handed.wakes held a p w (refl, refl) t x).fits receiving
+
+        -- fewer are known after a poll
+        known_before : (asked : ℕ → Option (Await J)) (r : ℕ) (w : W) (a : Answer (WatchHeard T)) (s : ℕ) (x : Await J) → known_after {C = WatchCall T C J} asked (Poll r w) a s ≡ Some x → asked s ≡ Some x
+        known_before asked r w (Gives heard) s x e = with_all (λ y. asked s ≡ Some y) (λ t. asked s) r None (λ y f. absurd cc) (λ t y f. f) s x e
+        known_before asked r w a s x e = e
+
         keeps : EachStep (watch_rules n IsClone IsInfallible changed tells passes) (KeepsTold (watch_rules n IsClone IsInfallible changed tells passes) (λ c. Unit {0}) (after {W = W} h) Told)
         keeps = record {
           refused = λ o c k kind told. subst (λ x. Told o x) (sym (refused k c)) told;
-          starts = λ o r ask x at begins k kind told.
-              (told.0, subst (λ y. AreThere (with_asked r (Some ask) k.asked) (slice_set o.requests r (Some y))) (begun_as _ ask x begins) (started_at k.asked o.requests r ask None at told.1));
-          polls = λ o r w x a core p at t k kind told. (polled_as o.core core k.told x a p t.0 t.2 told.0, polled_asked o.core core k.asked o.requests r w x a p t.0 at t.2 told.1);
-          ends = λ o r x core at e k kind told. (still o.core core k.told e told.0, over_at k.asked o.requests r (Some x) None at told.1);
+          starts = λ o r ask x at begins k kind told. (
+            told.0,
+            subst (λ y. AreThere (with_asked r (Some ask) k.asked) (slice_set o.requests r (Some y))) (begun_as _ ask x begins) (started_at k.asked o.requests r ask None at told.1),
+            with_all (IsReceiving o.core) k.asked r (Some ask) (λ y e. let same : ask ≡ y = cc in subst (IsReceiving o.core) same (begun_counted _ ask x begins)) told.2,
+          );
+          polls = λ o r w x a core p at t k kind told. (
+            told_polled o.core core k.told (k.asked r) x a p t.0 t.2 (λ y e. let f : at_number o.requests r ≡ Some x = at_of o.requests r (Some x) at in let same : Some x ≡ Some y = sym f ∙ told.1 r y e in (cc, told.2 r y e)) told.0,
+            polled_asked o.core core k.asked o.requests r w x a p t.0 at t.2 told.1,
+            λ s y e. receives_polled o.core core x w a p y t (told.2 s y (known_before k.asked r w a s y e)),
+          );
+          ends = λ o r x core at e k kind told. (
+            still o.core core k.told e told.0,
+            over_at k.asked o.requests r (Some x) None at told.1,
+            λ s y f. subst (λ z. IsReceiving z y) (sym e) (with_all (IsReceiving o.core) k.asked r None (λ z g. absurd cc) told.2 s y f),
+          );
           calls = λ o call r p a core p2 at there t k kind told. absurd (not_at_a_number call r at);
-          alone = λ o call a core p at t k kind told.
-              (called o.core core k.told call a t.0 told.0, subst (λ x. AreThere x o.requests) (sym (asked_alone k.asked call a at)) told.1);
-          leaves = λ o call a core p at t k kind told. (called o.core core k.told call a t.0 told.0, asked_leaving o.core core k.asked o.requests call a at t.0 told.1);
+          alone = λ o call a core p at t k kind told. (
+            called o.core core k.told call a t.0 told.0,
+            subst (λ x. AreThere x o.requests) (sym (asked_alone k.asked call a at)) told.1,
+            λ s y e. let f = known_stays k.asked o.core core call a s y t.0 e in receives_called o.core core call a y t.0 f.1 (told.2 s y f.0),
+          );
+          leaves = λ o call a core p at t k kind told. (
+            called o.core core k.told call a t.0 told.0,
+            asked_leaving o.core core k.asked o.requests call a at t.0 told.1,
+            λ s y e. let f = known_stays k.asked o.core core call a s y t.0 e in receives_called o.core core call a y t.0 f.1 (told.2 s y f.0),
+          );
         }
 
         -- a request that is known finds no news
@@ -272,4 +353,4 @@ tells_once {T} {C} {J} {W} n IsClone IsInfallible changed tells passes H eq K h 
     law_run (requests_meaning rules H eq K) (λ c. Unit {0}) (λ k c a. after h k c a.answer) (Told h IsClone IsInfallible passes n changed tells W)
     (λ o o2 k c a kind allowed. each_step rules (keeps h IsClone IsInfallible passes n changed tells W) o o2 c a.answer allowed k kind)
     (λ k c a. TellsNoMore h k.told k.asked c a.answer) (λ o o2 k c a kind allowed told. tells_no_more h IsClone IsInfallible passes n changed tells W o o2 k.told k.asked c a.answer allowed told)
-    o o2 g g2 (record { told = false; asked = λ r. None }) cs as' (of_any_kind cs) run (tt, λ r x e. absurd cc)
+    o o2 g g2 (record { told = false; asked = λ r. None }) cs as' (of_any_kind cs) run (tt, (λ r x e. absurd cc), (λ r x e. absurd cc))

@@ -41,8 +41,13 @@ abbrev pub WaitsOnFor : {T J : Type 0} → ℕ → Option (Await J) → Answer (
 WaitsOnFor h None a = Unit {0}
 WaitsOnFor h (Some ask) a = WaitsOn h ask.receiver ask.read a
 
+-- whether the receiver at h was told of the latest change, after a poll of this request, if one is known: one that shows a value tells
+abbrev pub told_by_poll : {T J : Type 0} → ℕ → Bool → Option (Await J) → Answer (WatchHeard T) → Bool
+told_by_poll h k (Some ask) (Gives heard) = if ask.receiver == h then true else k
+told_by_poll h k _ _ = k
+
 module _ {T C J : Type 0} where
-  -- whether the receiver at h was told of the latest change, after a call and its answer
+  -- and after a call and its answer
   abbrev pub told_by : ℕ → Bool → WatchCall T C J → Answer (WatchHeard T) → Bool
   told_by h k (Read r read) (Gives (Found p)) = if r == h && is_told read p then true else k
   told_by h k (Leave r) Done = if r == h then false else k
@@ -51,11 +56,11 @@ module _ {T C J : Type 0} where
   told_by h k (ModifyIf change) (Gives (Modified (Ok done))) = false
   told_by h k _ _ = k
 
-  abbrev pub told_after : {W : Type 0} → ℕ → Bool → Command (Await J) W (WatchCall T C J) → Answer (WatchHeard T) → Bool
-  told_after h k (Start r ask) a = k
-  told_after h k (Poll r w) a = k
-  told_after h k (End r) a = k
-  told_after h k (Call call) a = told_by h k call a
+  abbrev pub told_after : {W : Type 0} → ℕ → Account J → Command (Await J) W (WatchCall T C J) → Answer (WatchHeard T) → Bool
+  told_after h k (Start r ask) a = k.told
+  told_after h k (Poll r w) a = told_by_poll h k.told (k.asked r) a
+  told_after h k (End r) a = k.told
+  told_after h k (Call call) a = told_by h k.told call a
 
   -- a receiver that leaves ends its requests
   abbrev pub asked_by : (ℕ → Option (Await J)) → WatchCall T C J → Answer (WatchHeard T) → ℕ → Option (Await J)
@@ -67,7 +72,7 @@ module _ {T C J : Type 0} where
   asked_after asked c a = known_after asked c a
 
   abbrev pub after : {W : Type 0} → ℕ → Account J → Command (Await J) W (WatchCall T C J) → Answer (WatchHeard T) → Account J
-  after h k c a = record { told = told_after h k.told c a; asked = asked_after k.asked c a }
+  after h k c a = record { told = told_after h k c a; asked = asked_after k.asked c a }
 
   -- what a call is answered while that receiver is told: its reads for a newer version find nothing
   abbrev pub HasNoNews : ℕ → WatchCall T C J → Answer (WatchHeard T) → Type 0
@@ -83,7 +88,7 @@ module _ {T C J : Type 0} where
   TellsNoMore h true asked (End r) a = Unit {0}
   TellsNoMore h true asked (Call call) a = HasNoNews h call a
 
-  -- at each command of a run: from a read of the receiver at h on, until a send, its reads and its requests find no news
+  -- at each command of a run: from a read of the receiver at h on, or a poll that showed it a value, until a send, its reads and its requests find no news
   abbrev pub TellsOnce : {W : Type 0} {K : ℕ} → ℕ → List (Command (Await J) W (WatchCall T C J)) → List (Reply (Answer (WatchHeard T)) W K) → Type 0
   TellsOnce h commands replies =
       AtEach (λ k c a. after h k c a.answer) (λ k c a. TellsNoMore h k.told k.asked c a.answer) (record { told = false; asked = λ r. None }) commands replies

@@ -582,8 +582,8 @@ pub type WatchReply<T, W, const K: usize> = Reply<Answer<WatchHeard<T>>, W, K>;
 ///
 /// Each answer is one that the latest value with its version, and what each receiver has seen, allow. No live request that last
 /// heard Pending would now be answered Ready, unless its waker was handed out in that poll or since. And no Pending poll that
-/// changes nothing hands out its own waker. A change is told once: from a receiver's read on, until a send, its reads of what changed
-/// find nothing, and its requests for what changed wait on.
+/// changes nothing hands out its own waker. A change is told once: from a receiver's read on, or a poll that showed it a value, until a
+/// send, its reads of what changed find nothing, and its requests for what changed wait on.
 pub fn run_watch<
     T: Clone + Drop,
     W: Copy + Eq,
