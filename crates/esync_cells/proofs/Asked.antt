@@ -10,11 +10,16 @@ module _ {Ask : Type 0} where
   abbrev pub AreThere : (ℕ → Option Ask) → List (Option Ask) → Type 0
   AreThere asked q = (r : ℕ) (x : Ask) → asked r ≡ Some x → at_number q r ≡ Some x
 
-  put_at : (asked : ℕ → Option Ask) (q : List (Option Ask)) (r : ℕ) (known p p2 : Option Ask) → slice_get q r ≡ Some p → ((x : Ask) → known ≡ Some x → p2 ≡ Some x) → AreThere asked q → AreThere (with_asked r known asked) (slice_set q r p2)
-  put_at asked q r known p p2 at new are s x e = elim (same_or_not r s) [
-    | inl same ↦ (let f = rw (equal_number r s same) at e in subst (λ n. at_number (slice_set q r p2) n ≡ Some x) same (at_set_here q r p p2 at ∙ new x f))
-    | inr other ↦ (let f = rw (unequal_number r s other) at e in at_set_other q r s p2 other ∙ are s x f)
+  -- what is told of each that is known, once this one is known at the number, or none
+  pub with_each : (P : ℕ → Ask → Type 0) (asked : ℕ → Option Ask) (r : ℕ) (known : Option Ask) → ((x : Ask) → known ≡ Some x → P r x) → ((s : ℕ) (x : Ask) → (r ≡ s → ⊥) → asked s ≡ Some x → P s x) → (s : ℕ) (x : Ask) → with_asked r known asked s ≡ Some x → P s x
+  with_each P asked r known here others s x e = elim (same_or_not r s) [
+    | inl same ↦ (let f = rw (equal_number r s same) at e in subst (λ n. P n x) same (here x f))
+    | inr other ↦ (let f = rw (unequal_number r s other) at e in others s x other f)
   ]
+
+  put_at : (asked : ℕ → Option Ask) (q : List (Option Ask)) (r : ℕ) (known p p2 : Option Ask) → slice_get q r ≡ Some p → ((x : Ask) → known ≡ Some x → p2 ≡ Some x) → AreThere asked q → AreThere (with_asked r known asked) (slice_set q r p2)
+  put_at asked q r known p p2 at here are =
+      with_each (λ s x. at_number (slice_set q r p2) s ≡ Some x) asked r known (λ x e. at_set_here q r p p2 at ∙ here x e) (λ s x other e. at_set_other q r s p2 other ∙ are s x e)
 
   -- a request is started, is over, or goes on
   pub started_at : (asked : ℕ → Option Ask) (q : List (Option Ask)) (r : ℕ) (ask : Ask) (p : Option Ask) → slice_get q r ≡ Some p → AreThere asked q → AreThere (with_asked r (Some ask) asked) (slice_set q r (Some ask))
@@ -36,10 +41,3 @@ module _ {Ask : Type 0} where
 
   pub left_at : (asked : ℕ → Option Ask) (q : List (Option Ask)) (test ends : Ask → Bool) → ((x : Ask) → test x ≡ false → ends x ≡ false) → AreThere asked q → AreThere (without_asked test asked) (swept ends q)
   left_at asked q test ends stays are r x e = (let k = kept_place test (asked r) x e in at_swept ends q r x (are r x k.0) (stays x k.1))
-
-  -- what is told of each that is known, once one more is
-  pub with_all : (P : Ask → Type 0) (asked : ℕ → Option Ask) (r : ℕ) (known : Option Ask) → ((x : Ask) → known ≡ Some x → P x) → ((s : ℕ) (x : Ask) → asked s ≡ Some x → P x) → (s : ℕ) (x : Ask) → with_asked r known asked s ≡ Some x → P x
-  with_all P asked r known new all s x e = elim (same_or_not r s) [
-    | inl same ↦ (let f = rw (equal_number r s same) at e in new x f)
-    | inr other ↦ (let f = rw (unequal_number r s other) at e in all s x f)
-  ]

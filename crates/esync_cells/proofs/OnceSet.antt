@@ -22,10 +22,6 @@ use Rattle.esync_cells.specs.declared.once_lock.machine.OnceCall.TheVariants.{Tr
 use Rattle.esync_cells.specs.declared.once_lock.machine.OnceHeard.{OnceHeard}
 use Rattle.esync_cells.specs.declared.once_lock.machine.OnceHeard.TheVariants.{Got, Found, HasSet, Shown}
 
-pub nothing_here : {A : Type 0} (p : Option A) → IfSome p (λ x. Unit {0})
-nothing_here None = tt
-nothing_here (Some x) = tt
-
 module _ {T : Type 0} where
   -- the value that is known to be there is there, and so are the requests
   abbrev IsThere : Option T → Option T → Type 0

@@ -24,7 +24,7 @@ use Rattle.esync_cells.specs.WatchRules.{Watch, sought, marks, with_read, with_r
 use Rattle.esync_cells.specs.WatchLaws.{only_waits}
 use Rattle.esync_cells.specs.Asked.{with_asked, known_after}
 use Rattle.esync_cells.specs.WatchNews.{Account, is_told, told_by, told_by_poll, asked_by, after, WaitsOn, WaitsOnFor, TellsNoMore, TellsOnce}
-use Rattle.esync_cells.proofs.Asked.{AreThere, started_at, over_at, goes_on_at, left_at, kept_place, with_all}
+use Rattle.esync_cells.proofs.Asked.{AreThere, started_at, over_at, goes_on_at, left_at, kept_place, with_each}
 use Rattle.esync_cells.specs.declared.watch.machine.Seen.{Seen}
 use Rattle.esync_cells.specs.declared.watch.machine.Reading.{Reading}
 use Rattle.esync_cells.specs.declared.watch.machine.Reading.TheVariants.{Get, Changed, GetAnd, ChangedAnd}
@@ -281,7 +281,7 @@ module _ {T : Type 0} (h : ℕ) where
 
         -- fewer are known after a poll
         known_before : (asked : ℕ → Option (Await J)) (r : ℕ) (w : W) (a : Answer (WatchHeard T)) (s : ℕ) (x : Await J) → known_after {C = WatchCall T C J} asked (Poll r w) a s ≡ Some x → asked s ≡ Some x
-        known_before asked r w (Gives heard) s x e = with_all (λ y. asked s ≡ Some y) (λ t. asked s) r None (λ y f. absurd cc) (λ t y f. f) s x e
+        known_before asked r w (Gives heard) s x e = with_each (λ t y. asked t ≡ Some y) asked r None (λ y f. absurd cc) (λ t y other f. f) s x e
         known_before asked r w a s x e = e
 
         keeps : EachStep (watch_rules n IsClone IsInfallible changed tells passes) (KeepsTold (watch_rules n IsClone IsInfallible changed tells passes) (λ c. Unit {0}) (after {W = W} h) Told)
@@ -290,7 +290,7 @@ module _ {T : Type 0} (h : ℕ) where
           starts = λ o r ask x at begins k kind told. (
             told.0,
             subst (λ y. AreThere (with_asked r (Some ask) k.asked) (slice_set o.requests r (Some y))) (begun_as _ ask x begins) (started_at k.asked o.requests r ask None at told.1),
-            with_all (IsReceiving o.core) k.asked r (Some ask) (λ y e. let same : ask ≡ y = cc in subst (IsReceiving o.core) same (begun_counted _ ask x begins)) told.2,
+            with_each (λ s y. IsReceiving o.core y) k.asked r (Some ask) (λ y e. let same : ask ≡ y = cc in subst (IsReceiving o.core) same (begun_counted _ ask x begins)) (λ s y other e. told.2 s y e),
           );
           polls = λ o r w x a core p at t k kind told. (
             told_polled o.core core k.told (k.asked r) x a p t.0 t.2 (λ y e. let f : at_number o.requests r ≡ Some x = at_of o.requests r (Some x) at in let same : Some x ≡ Some y = sym f ∙ told.1 r y e in (cc, told.2 r y e)) told.0,
@@ -300,7 +300,7 @@ module _ {T : Type 0} (h : ℕ) where
           ends = λ o r x core at e k kind told. (
             still o.core core k.told e told.0,
             over_at k.asked o.requests r (Some x) None at told.1,
-            λ s y f. subst (λ z. IsReceiving z y) (sym e) (with_all (IsReceiving o.core) k.asked r None (λ z g. absurd cc) told.2 s y f),
+            λ s y f. subst (λ z. IsReceiving z y) (sym e) (with_each (λ t z. IsReceiving o.core z) k.asked r None (λ z g. absurd cc) (λ t z other g. told.2 t z g) s y f),
           );
           calls = λ o call r p a core p2 at there t k kind told. absurd (not_at_a_number call r at);
           alone = λ o call a core p at t k kind told. (
