@@ -17,5 +17,6 @@ pub mod Tabled
 pub mod Account
 pub mod AccountLaws
 pub mod Sizes
+pub mod SizesLaws
 pub mod Keeps
 pub mod KeepsLaws

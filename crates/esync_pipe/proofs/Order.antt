@@ -5,11 +5,10 @@ use Rattle.std.proofs.lemmas.List.{take-append-drop, drop_at}
 use Rattle.esync_base.specs.Ring.{Ringed}
 use Rattle.esync_base.specs.ListedLaws.{unequal_number}
 use Rattle.esync_machine.specs.Account.{ask_of}
-use Rattle.esync_machine.specs.AccountLaws.{of_any_kind, asked_at_first, ask_of-started, ask_of-other, KeepsEach, keeps_each, told_requests, law_requests, IsTold, HasLaw}
-use Rattle.esync_machine.specs.Sizes.{AddUp}
+use Rattle.esync_machine.specs.AccountLaws.{of_any_kind, asked_at_first, ask_of-started, ask_of-other, KeepsEach, keeps_each, told_requests, IsTold}
+use Rattle.esync_machine.specs.SizesLaws.{TellsSizes, sizes_requests}
 use Rattle.esync_machine.specs.Runs.{GoodRun}
 use Rattle.esync_machine.specs.Object.{Object, requests_meaning}
-use Rattle.esync_machine.specs.ObjectLaws.{EachStep}
 use Rattle.esync_machine.specs.Rules.{reach_of}
 use Rattle.esync_machine.specs.Wakings.{Wakings}
 use Rattle.esync_machine.specs.declared.run.Reply.{Reply}
@@ -20,7 +19,7 @@ use Rattle.esync_machine.specs.declared.primitive.Command.{Command}
 use Rattle.esync_machine.specs.declared.primitive.Command.TheVariants.{Start, Poll, End, Call}
 use Rattle.esync_pipe.specs.Pipe.{behind, without, puts, shown, is_empty, is_full, Writes}
 use Rattle.esync_pipe.specs.PipeRules.{pipe_rules, taken, Polls, PollsWrite, PollsWriteAll, PollsRead, PollsFill, TakesOut, Fills, Consumes, Calls}
-use Rattle.esync_pipe.specs.PipeOrder.{Account, after, room_for, asked_then, asked_meanwhile, at_first, sizes_told, IsHeld, InOrder, SizesAddUp}
+use Rattle.esync_pipe.specs.PipeOrder.{Account, after, room_for, asked_then, asked_meanwhile, at_first, IsHeld, InOrder, SizesAddUp}
 use Rattle.esync_pipe.specs.declared.pipe.TryReadError.{TryReadError}
 use Rattle.esync_pipe.specs.declared.pipe.TryWriteError.{TryWriteError}
 use Rattle.esync_pipe.specs.declared.pipe.machine.PipeAsk.{PipeAsk}
@@ -28,7 +27,7 @@ use Rattle.esync_pipe.specs.declared.pipe.machine.PipeAsk.TheVariants.{Write, Wr
 use Rattle.esync_pipe.specs.declared.pipe.machine.PipeCall.{PipeCall}
 use Rattle.esync_pipe.specs.declared.pipe.machine.PipeCall.TheVariants.{TryWrite, TryRead, TryFill, Consume, Clear, Len, FreeCapacity}
 use Rattle.esync_pipe.specs.declared.pipe.machine.PipeHeard.{PipeHeard}
-use Rattle.esync_pipe.specs.declared.pipe.machine.PipeHeard.TheVariants.{TryWrote, HasTriedRead}
+use Rattle.esync_pipe.specs.declared.pipe.machine.PipeHeard.TheVariants.{TryWrote, HasTriedRead, Number}
 
 -- the bytes that are held are those that were written and not taken
 abbrev IsInOrder : Ringed ℕ → Account → Type 0
@@ -159,37 +158,10 @@ module _ (W : Type 0) (n : ℕ) where
     others = λ k c a r ask ne known. then-other k c a r ne ∙ known;
   }
 
-  -- no answer that says that nothing changed tells a size
-  no_size : (k : Account) (c : Command PipeAsk W PipeCall) → AddUp sizes_told n IsHeld k c NoSuch
-  no_size k (Start r ask) = (tt, tt)
-  no_size k (Poll r w) = (tt, tt)
-  no_size k (End r) = (tt, tt)
-  no_size k (Call (TryWrite bytes)) = (tt, tt)
-  no_size k (Call (TryRead count)) = (tt, tt)
-  no_size k (Call TryFill) = (tt, tt)
-  no_size k (Call (Consume count)) = (tt, tt)
-  no_size k (Call Clear) = (tt, tt)
-  no_size k (Call Len) = (tt, tt)
-  no_size k (Call FreeCapacity) = (tt, tt)
-
-  size : (o o2 : Ringed ℕ) (k : Account) (call : PipeCall) (a : Answer PipeHeard) → IsHeld k (length o.items) → Calls n o call a o2 → AddUp {Command = Command PipeAsk W PipeCall} sizes_told n IsHeld k (Call call) a
-  size o o2 k (TryWrite bytes) a held t = (tt, tt)
-  size o o2 k (TryRead count) a held t = (tt, tt)
-  size o o2 k TryFill a held t = (tt, tt)
-  size o o2 k (Consume count) a held t = (tt, tt)
-  size o o2 k Clear a held t = (tt, tt)
-  size o o2 k Len a held t = rw t.0 (held, tt)
-  size o o2 k FreeCapacity a held t = rw t.1 (tt, (length o.items, held, t.2))
-
-  sizes : EachStep (pipe_rules n) (HasLaw (pipe_rules n) (λ c. Unit {0}) (after n {W = W}) (IsTold (pipe_rules n) (λ c. Unit {0}) (after n {W = W}) IsInOrder IsKnown) (AddUp sizes_told n IsHeld))
-  sizes = record {
-    refused = λ o c k kind told. no_size k c;
-    starts = λ o r ask h there begins k kind told. (tt, tt);
-    polls = λ o r w h a core p there polls k kind told. (tt, tt);
-    ends = λ o r h core there ends k kind told. (tt, tt);
-    calls = λ o call r p a core p2 reach there calls k kind told. absurd cc;
-    alone = λ o call a core p reach calls k kind told. size o.core core k call a (let l = length-told o.core k told.core in omega arith) calls.0;
-    leaves = λ o call a core p reach calls k kind told. absurd cc;
+  tells : TellsSizes (pipe_rules n) (after n {W = W}) Len FreeCapacity Number n IsHeld IsInOrder IsKnown
+  tells = record {
+    held = λ o o2 k p p2 len calls order. (let t = calls.0.0 in let l = length-told o k order in let e : len ≡ length o.items = cc in subst (λ x. IsHeld k x) (sym e) (omega arith));
+    free = λ o o2 k p p2 free calls order. (let t = calls.0.1 in let f = calls.0.2 in let l = length-told o k order in let e : free ≡ calls.0.0 = cc in (length o.items, omega arith, subst (λ x. x + length o.items ≡ n) (sym e) f));
   }
 
   module _ (H : Wakings (Ringed ℕ) PipeAsk PipeCall PipeHeard W) (eq : W → W → Bool) (K : ℕ) (o o2 : Object (Ringed ℕ) PipeAsk) (g g2 : H.Registered) (cs : List (Command PipeAsk W PipeCall)) (as' : List (Reply (Answer PipeHeard) W K)) (run : GoodRun (requests_meaning (pipe_rules n) H eq K) o g cs as' o2 g2) where
@@ -203,4 +175,4 @@ module _ (W : Type 0) (n : ℕ) where
     in_order = (told_requests (pipe_rules n) (λ c. Unit {0}) (after n) H eq K (keeps_each (pipe_rules n) (λ c. Unit {0}) (after n) keeps) o o2 g g2 (at_first n o.requests o.core.items) cs as' (of_any_kind cs) run told_first).core
 
     pub sizes_add_up : SizesAddUp n o.requests o.core.items cs as'
-    sizes_add_up = law_requests (pipe_rules n) (λ c. Unit {0}) (after n) H eq K (keeps_each (pipe_rules n) (λ c. Unit {0}) (after n) keeps) sizes o o2 g g2 (at_first n o.requests o.core.items) cs as' (of_any_kind cs) run told_first
+    sizes_add_up = sizes_requests (pipe_rules n) (after n) Len FreeCapacity Number n IsHeld IsInOrder IsKnown tells H eq K keeps o o2 g g2 (at_first n o.requests o.core.items) cs as' run told_first

@@ -1,7 +1,7 @@
 -- What was written comes out, in order, and sizes add up: told of the commands and their answers alone.
 use Rattle.std.specs.Prelude.{◌≡◌, ℕ, ◌+◌, ◌-◌, min, List, [], ◌∷◌, ◌++◌, length, take, drop, Option, Some, None, Ok}
 use Rattle.esync_machine.specs.Account.{account, ask_of, asked_from, asked_after}
-use Rattle.esync_machine.specs.Sizes.{Sizes, SizesAddUp as AddUpInRun}
+use Rattle.esync_machine.specs.Sizes.{SizesAddUp as AddUpInRun}
 use Rattle.esync_machine.specs.declared.run.Reply.{Reply}
 use Rattle.esync_machine.specs.declared.primitive.Answer.{Answer}
 use Rattle.esync_machine.specs.declared.primitive.Answer.TheVariants.{Done, Pending, Gives}
@@ -30,18 +30,6 @@ bytes_of (Some (WriteAll bytes)) = bytes
 bytes_of (Some (Read count)) = []
 bytes_of (Some Fill) = []
 bytes_of None = []
-
-abbrev pub held_told : {W : Type 0} → Command PipeAsk W PipeCall → Answer PipeHeard → Option ℕ
-held_told (Call Len) (Gives (Number held)) = Some held
-held_told _ _ = None
-
-abbrev pub free_told : {W : Type 0} → Command PipeAsk W PipeCall → Answer PipeHeard → Option ℕ
-free_told (Call FreeCapacity) (Gives (Number free)) = Some free
-free_told _ _ = None
-
--- which answers tell the sizes
-abbrev pub sizes_told : {W : Type 0} → Sizes (Command PipeAsk W PipeCall) (Answer PipeHeard)
-sizes_told = record { held = held_told; free = free_told }
 
 -- so many bytes are held: those that were written and not taken
 abbrev pub IsHeld : Account → ℕ → Type 0
@@ -106,4 +94,4 @@ module _ (n : ℕ) where
 
   -- of a pipe with these requests that holds these bytes at first
   abbrev pub SizesAddUp : {W : Type 0} {K : ℕ} → List (Option PipeAsk) → List ℕ → List (Command PipeAsk W PipeCall) → List (Reply (Answer PipeHeard) W K) → Type 0
-  SizesAddUp requests held commands replies = AddUpInRun sizes_told n IsHeld after (at_first requests held) commands replies
+  SizesAddUp requests held commands replies = AddUpInRun Len FreeCapacity Number n IsHeld after (at_first requests held) commands replies

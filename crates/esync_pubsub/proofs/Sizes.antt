@@ -1,11 +1,10 @@
 -- The sizes of a pub-sub channel add up.
-use Rattle.std.proofs.Common.{◌≡◌, ℕ, ◌-◌, Bool, true, false, List, length, Option, Some, None, inl, inr, refl, sym, ap, ◌∙◌, subst, arith}
+use Rattle.std.proofs.Common.{◌≡◌, ℕ, ◌+◌, ◌-◌, Bool, true, false, List, length, Option, Some, None, inl, inr, refl, sym, ap, ◌∙◌, subst, arith}
 use Rattle.std.specs.Prelude.{slice_set, IfSome, Ok, Err}
-use Rattle.esync_machine.specs.AccountLaws.{of_any_kind, KeepsEach, keeps_each, law_requests, IsTold, HasLaw}
-use Rattle.esync_machine.specs.Sizes.{AddUp}
+use Rattle.esync_machine.specs.AccountLaws.{KeepsEach}
+use Rattle.esync_machine.specs.SizesLaws.{TellsSizes, sizes_requests}
 use Rattle.esync_machine.specs.Runs.{GoodRun}
 use Rattle.esync_machine.specs.Object.{Object, requests_meaning}
-use Rattle.esync_machine.specs.ObjectLaws.{EachStep}
 use Rattle.esync_machine.specs.Rules.{Rules}
 use Rattle.esync_machine.specs.Wakings.{Wakings}
 use Rattle.esync_machine.specs.declared.run.Reply.{Reply}
@@ -18,7 +17,7 @@ use Rattle.esync_log.specs.Log.{Log, oldest, position, lags, caught_if, gap, Rea
 use Rattle.esync_log.specs.declared.log.TryPublishError.TheVariants.{Full, Exhausted}
 use Rattle.esync_log.specs.declared.log.WaitResult.TheVariants.{Lagged, Message as Given}
 use Rattle.esync_pubsub.specs.PubSubRules.{Topic, place_at, is_subscriber, is_free, is_publisher, names_it, reach, departed, WithLog, PollsLog, Polls, Comes, Counts, TriesPublish, AtOnce, Tries, TriesPure, Calls, pubsub_rules}
-use Rattle.esync_pubsub.specs.Sizes.{sizes_told, held_after, IsHeld, SizesAddUp}
+use Rattle.esync_pubsub.specs.Sizes.{held_after, IsHeld, SizesAddUp}
 use Rattle.esync_pubsub.specs.declared.pubsub.Error.TheVariants.{MaximumSubscribersReached, MaximumPublishersReached}
 use Rattle.esync_pubsub.specs.declared.pubsub.machine.PubSubAsk.{PubSubAsk}
 use Rattle.esync_pubsub.specs.declared.pubsub.machine.PubSubAsk.TheVariants.{Publish, Message, MessagePure, Stream}
@@ -190,30 +189,6 @@ module _ {T : Type 0} (C : T → T → Type 0) (I : T → Type 0) (cap pubs : �
       called Len h = by_answer Len (Gives (Number (length o.log.held))) h.0 (ap (λ x. length x.log.held) h.1)
       called FreeCapacity h = by_answer FreeCapacity (Gives (Number h.0)) h.1 (ap (λ x. length x.log.held) h.3 ∙ (let f = h.2 in let e : length o.log.held ≡ cap - h.0 = omega (arith, f) in e))
 
-    -- the sizes that a call tells
-    size : (call : PubSubCall T) (a : Answer (PubSubHeard T)) → Calls C I cap pubs o call a o2 → AddUp {Command = Command (PubSubAsk T) W (PubSubCall T)} (sizes_told {T = T}) cap IsHeld k (Call call) a
-    size Len a h = rw h.0 (counted, tt)
-    size FreeCapacity a h = rw h.1 (tt, (length o.log.held, counted, h.2))
-    size (Join s) a h = (tt, tt)
-    size (Leave s) a h = (tt, tt)
-    size (Publisher p) a h = (tt, tt)
-    size (Retire p) a h = (tt, tt)
-    size (TryPublish p message) a h = (tt, tt)
-    size (Immediate message) a h = (tt, tt)
-    size (Next s) a h = (tt, tt)
-    size (NextPure s) a h = (tt, tt)
-    size (Available s) a h = (tt, tt)
-    size Clear a h = (tt, tt)
-
-  -- an answer that says that nothing changed tells no size
-  no_size : (k : Option ℕ) (c : Command (PubSubAsk T) W (PubSubCall T)) → AddUp (sizes_told {T = T}) cap IsHeld k c NoSuch
-  no_size k (Start r ask) = (tt, tt)
-  no_size k (Poll r w) = (tt, tt)
-  no_size k (End r) = (tt, tt)
-  no_size k (Call Len) = (tt, tt)
-  no_size k (Call FreeCapacity) = (tt, tt)
-  no_size k (Call call) = (tt, tt)
-
   abbrev rules : Rules (PubSubAsk T) (PubSubAsk T) (PubSubCall T) (PubSubHeard T)
   rules = pubsub_rules C I cap pubs
 
@@ -237,20 +212,15 @@ module _ {T : Type 0} (C : T → T → Type 0) (I : T → Type 0) (cap pubs : �
     others = λ k c a r ask ne known. tt;
   }
 
-  sizes : EachStep rules (HasLaw rules (λ c. Unit {0}) after (IsTold rules (λ c. Unit {0}) after IsCounted Anything) (AddUp (sizes_told {T = T}) cap IsHeld))
-  sizes = record {
-    refused = λ o c k kind told. no_size k c;
-    starts = λ o r ask h there begins k kind told. (tt, tt);
-    polls = λ o r w h a core p there polls k kind told. (tt, tt);
-    ends = λ o r h core there ends k kind told. (tt, tt);
-    calls = λ o call r p a core p2 reach there calls k kind told. absurd (no_number call r reach);
-    alone = λ o call a core p reach calls k kind told. size o.core core k told.core call a calls.0;
-    leaves = λ o call a core p reach calls k kind told. size o.core core k told.core call a calls.0;
+  tells : TellsSizes rules after Len FreeCapacity Number cap IsHeld IsCounted Anything
+  tells = record {
+    held = λ o o2 k p p2 n calls counted. (let t = calls.0.0 in let e : n ≡ length o.log.held = cc in subst (λ x. IsHeld k x) (sym e) counted);
+    free = λ o o2 k p p2 n calls counted. (let t = calls.0.1 in let f = calls.0.2 in let e : n ≡ calls.0.0 = cc in (length o.log.held, counted, subst (λ x. x + length o.log.held ≡ cap) (sym e) f));
   }
 
   pub sizes_add_up : (H : Wakings (Topic T) (PubSubAsk T) (PubSubCall T) (PubSubHeard T) W) (eq : W → W → Bool) (K : ℕ) (o o2 : Object (Topic T) (PubSubAsk T)) (g g2 : H.Registered) (cs : List (Command (PubSubAsk T) W (PubSubCall T))) (as' : List (Reply (Answer (PubSubHeard T)) W K)) → GoodRun (requests_meaning rules H eq K) o g cs as' o2 g2 → SizesAddUp cap (length o.core.log.held) cs as'
   sizes_add_up H eq K o o2 g g2 cs as' run =
-      law_requests rules (λ c. Unit {0}) after H eq K (keeps_each rules (λ c. Unit {0}) after keeps) sizes o o2 g g2 (Some (length o.core.log.held)) cs as' (of_any_kind cs) run (record {
+      sizes_requests rules after Len FreeCapacity Number cap IsHeld IsCounted Anything tells H eq K keeps o o2 g g2 (Some (length o.core.log.held)) cs as' run (record {
         core = refl;
         here = λ r ask e. tt;
       })

@@ -1,6 +1,6 @@
 -- The sizes of a pub-sub channel add up: told of the commands and their answers alone.
 use Rattle.std.specs.Prelude.{◌≡◌, ℕ, ◌-◌, Bool, true, false, List, Option, Some, None, IfSome, Ok, if◌then◌else◌}
-use Rattle.esync_machine.specs.Sizes.{Sizes, SizesAddUp as AddUpInRun}
+use Rattle.esync_machine.specs.Sizes.{SizesAddUp as AddUpInRun}
 use Rattle.esync_machine.specs.declared.run.Reply.{Reply}
 use Rattle.esync_machine.specs.declared.primitive.Answer.{Answer}
 use Rattle.esync_machine.specs.declared.primitive.Answer.TheVariants.{Done, Gives}
@@ -18,18 +18,6 @@ abbrev pub IsHeld : Option ℕ → ℕ → Type 0
 IsHeld k held = IfSome k (λ n. held ≡ n)
 
 module _ {T : Type 0} where
-  abbrev pub held_told : {W : Type 0} → Command (PubSubAsk T) W (PubSubCall T) → Answer (PubSubHeard T) → Option ℕ
-  held_told (Call Len) (Gives (Number held)) = Some held
-  held_told _ _ = None
-
-  abbrev pub free_told : {W : Type 0} → Command (PubSubAsk T) W (PubSubCall T) → Answer (PubSubHeard T) → Option ℕ
-  free_told (Call FreeCapacity) (Gives (Number free)) = Some free
-  free_told _ _ = None
-
-  -- which answers tell the sizes
-  abbrev pub sizes_told : {W : Type 0} → Sizes (Command (PubSubAsk T) W (PubSubCall T)) (Answer (PubSubHeard T))
-  sizes_told = record { held = held_told; free = free_told }
-
   -- a message was published, or given to a subscriber, after which nobody may need it any more
   abbrev pub may_change : PubSubHeard T → Bool
   may_change (Published (Ok done)) = true
@@ -54,4 +42,4 @@ module _ {T : Type 0} where
 
   -- of a channel of this capacity that holds so many messages at first
   abbrev pub SizesAddUp : {W : Type 0} {K : ℕ} → ℕ → ℕ → List (Command (PubSubAsk T) W (PubSubCall T)) → List (Reply (Answer (PubSubHeard T)) W K) → Type 0
-  SizesAddUp capacity held commands replies = AddUpInRun sizes_told capacity IsHeld (held_after capacity) (Some held) commands replies
+  SizesAddUp capacity held commands replies = AddUpInRun Len FreeCapacity Number capacity IsHeld (held_after capacity) (Some held) commands replies
