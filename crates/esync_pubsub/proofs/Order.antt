@@ -23,7 +23,7 @@ use Rattle.esync_pubsub.specs.Events.{Eventing, AreNamed}
 use Rattle.esync_log.specs.Log.{Log, oldest, number_of, has_subscribers, is_live, position, published, with_room, moved, without, left, cleared, lags, caught, gap, Accepts, Joins, Publishes, PublishesAtOnce, Reads, ReadsOn}
 use Rattle.esync_pubsub.specs.PubSub.{PubSub}
 use Rattle.esync_pubsub.specs.PubSubRules.{Topic, topic_of, place_at, is_subscriber, is_free, is_publisher, names_it, reach, rest_of, departed, WithLog, Begins, IsBelow, PollsLog, Polls, Comes, Counts, TriesPublish, AtOnce, Tries, TriesPure, Calls, pubsub_rules}
-use Rattle.esync_pubsub.specs.Advance.{gone, topic_after, topic_after_poll, topic_after_call}
+use Rattle.esync_pubsub.specs.Advance.{gone, topic_after, topic_after_poll}
 use Rattle.esync_pubsub.specs.Order.{Reading, Told, Account, and, published_by_poll, published_by_call, reading_of, pure_reading_of, read_by_poll, read_by_call, more, told_by_call, told_after, after, known_at_first, AreUnread, Follow, HasRead, ReadsInOrder, unread_by_poll, unread_by_call, unread_told, HasUnread, CountsUnread}
 use Rattle.esync_log.specs.declared.log.TryPublishError.TheVariants.{Full, Exhausted}
 use Rattle.esync_pubsub.specs.declared.pubsub.Error.TheVariants.{MaximumSubscribersReached, MaximumPublishersReached}

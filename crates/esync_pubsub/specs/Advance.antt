@@ -1,5 +1,5 @@
 -- A pub-sub channel as the answers of its commands tell it: what is asked for is known, and an answer tells what came of it.
-use Rattle.std.specs.Prelude.{ℕ, suc, ◌-◌, ◌+◌, List, [], ◌∷◌, Option, Some, None, Ok, slice_set, if◌then◌else◌}
+use Rattle.std.specs.Prelude.{ℕ, suc, ◌-◌, List, [], ◌∷◌, Option, Some, None, Ok, slice_set, if◌then◌else◌}
 use Rattle.esync_machine.specs.Account.{ask_of}
 use Rattle.esync_machine.specs.declared.primitive.Answer.{Answer}
 use Rattle.esync_machine.specs.declared.primitive.Answer.TheVariants.{Done, Pending, Gives}
