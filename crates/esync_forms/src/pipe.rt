@@ -15,6 +15,9 @@ use esync_pipe::pipe::{
 // A row for the bytes of an answer.
 type Row = [u8; 16];
 
+// The bytes of a command or of an answer.
+type Few = Bytes<16>;
+
 /// A pipe that is split anew wherever one of its ends is called, and whose futures are made anew for each poll.
 #[derive(Drop)]
 pub struct Split<S, H> {
@@ -23,19 +26,23 @@ pub struct Split<S, H> {
 }
 
 impl<S: ByteState<Waker = u64>, H: Hand<u64> + Drop> Form for Split<S, H> {
-    type Ask = PipeAsk;
+    type Ask = PipeAsk<Few>;
 
-    type Call = PipeCall;
+    type Call = PipeCall<Few>;
 
-    type Heard = PipeHeard;
+    type Heard = PipeHeard<Few>;
 
-    type Held = PipeAsk;
+    type Held = PipeAsk<Few>;
 
-    fn begin(&mut self, ask: PipeAsk) -> Option<PipeAsk> {
+    fn begin(&mut self, ask: PipeAsk<Few>) -> Option<PipeAsk<Few>> {
         Some(ask)
     }
 
-    fn poll(&mut self, held: PipeAsk, cx: &Context<u64>) -> Turn<PipeHeard, PipeAsk> {
+    fn poll(
+        &mut self,
+        held: PipeAsk<Few>,
+        cx: &Context<u64>,
+    ) -> Turn<PipeHeard<Few>, PipeAsk<Few>> {
         match held {
             PipeAsk::Write(bytes) => is_written(self.write(bytes.as_slice(), cx), held),
             PipeAsk::WriteAll(bytes) => self.write_all(bytes, cx),
@@ -47,7 +54,11 @@ impl<S: ByteState<Waker = u64>, H: Hand<u64> + Drop> Form for Split<S, H> {
         }
     }
 
-    fn call(&mut self, call: PipeCall, _place: &mut Option<PipeAsk>) -> Answer<PipeHeard> {
+    fn call(
+        &mut self,
+        call: PipeCall<Few>,
+        _place: &mut Option<PipeAsk<Few>>,
+    ) -> Answer<PipeHeard<Few>> {
         match call {
             PipeCall::TryWrite(bytes) => {
                 Answer::Gives(PipeHeard::TryWrote(self.try_write(bytes.as_slice())))
@@ -95,9 +106,9 @@ impl<S: ByteState<Waker = u64>, H: Hand<u64> + Drop> Split<S, H> {
     }
 
     // Writes some bytes after others, until all are written or one has to wait.
-    fn write_all(&mut self, bytes: Bytes, cx: &Context<u64>) -> Turn<PipeHeard, PipeAsk> {
+    fn write_all(&mut self, bytes: Few, cx: &Context<u64>) -> Turn<PipeHeard<Few>, PipeAsk<Few>> {
         let mut bytes = bytes;
-        for _ in 0..Bytes::CAPACITY {
+        for _ in 0..Few::CAPACITY {
             if bytes.as_slice().is_empty() {
                 return Turn::over(PipeHeard::WroteAll);
             }
@@ -127,7 +138,7 @@ impl<S: ByteState<Waker = u64>, H: Hand<u64> + Drop> Split<S, H> {
         }
     }
 
-    fn fill(&mut self, cx: &Context<u64>) -> Poll<Bytes> {
+    fn fill(&mut self, cx: &Context<u64>) -> Poll<Few> {
         let door = self.doors.next();
         let (mut reader, _writer) = self.pipe.split();
         let polled = match door {
@@ -160,7 +171,7 @@ impl<S: ByteState<Waker = u64>, H: Hand<u64> + Drop> Split<S, H> {
         }
     }
 
-    fn try_fill(&mut self) -> Result<Bytes, TryReadError> {
+    fn try_fill(&mut self) -> Result<Few, TryReadError> {
         let (mut reader, _writer) = self.pipe.split();
         match reader.try_fill_buf() {
             Ok(()) => Ok(Bytes::from_slice(reader.filled())),
@@ -168,7 +179,7 @@ impl<S: ByteState<Waker = u64>, H: Hand<u64> + Drop> Split<S, H> {
         }
     }
 
-    fn consume(&mut self, count: usize) -> Answer<PipeHeard> {
+    fn consume(&mut self, count: usize) -> Answer<PipeHeard<Few>> {
         let (mut reader, _writer) = self.pipe.split();
         let _ = reader.try_fill_buf();
         if count > reader.filled().len() {
@@ -243,15 +254,15 @@ pub enum Held<'c, S, H> {
 }
 
 impl<'c, S: ByteState<Waker = TaskId>, H: Hand<TaskId>> Form for Lasting<'c, S, H> {
-    type Ask = PipeAsk;
+    type Ask = PipeAsk<Few>;
 
-    type Call = PipeCall;
+    type Call = PipeCall<Few>;
 
-    type Heard = PipeHeard;
+    type Heard = PipeHeard<Few>;
 
     type Held = Held<'c, S, H>;
 
-    fn begin(&mut self, ask: PipeAsk) -> Option<Self::Held> {
+    fn begin(&mut self, ask: PipeAsk<Few>) -> Option<Self::Held> {
         match ask {
             PipeAsk::Write(bytes) => self.write(bytes),
             PipeAsk::WriteAll(bytes) => self.write_all(bytes),
@@ -260,7 +271,7 @@ impl<'c, S: ByteState<Waker = TaskId>, H: Hand<TaskId>> Form for Lasting<'c, S, 
         }
     }
 
-    fn poll(&mut self, held: Self::Held, cx: &Context<u64>) -> Turn<PipeHeard, Self::Held> {
+    fn poll(&mut self, held: Self::Held, cx: &Context<u64>) -> Turn<PipeHeard<Few>, Self::Held> {
         let cx = &Context::from_waker(TaskId(cx.waker()));
         match held {
             Held::Write(future) => write(future, cx),
@@ -278,7 +289,11 @@ impl<'c, S: ByteState<Waker = TaskId>, H: Hand<TaskId>> Form for Lasting<'c, S, 
         }
     }
 
-    fn call(&mut self, call: PipeCall, _place: &mut Option<Self::Held>) -> Answer<PipeHeard> {
+    fn call(
+        &mut self,
+        call: PipeCall<Few>,
+        _place: &mut Option<Self::Held>,
+    ) -> Answer<PipeHeard<Few>> {
         match call {
             PipeCall::TryWrite(bytes) => {
                 Answer::Gives(PipeHeard::TryWrote(self.try_write(bytes.as_slice())))
@@ -319,7 +334,7 @@ impl<'c, S: ByteState<Waker = TaskId>, H: Hand<TaskId>> Lasting<'c, S, H> {
         }
     }
 
-    fn write(&mut self, bytes: Bytes) -> Option<Held<'c, S, H>> {
+    fn write(&mut self, bytes: Few) -> Option<Held<'c, S, H>> {
         let from = kept(self.written, bytes)?;
         Some(match self.doors.next() {
             Door::Own => Held::Write(self.pipe.write(from)),
@@ -327,7 +342,7 @@ impl<'c, S: ByteState<Waker = TaskId>, H: Hand<TaskId>> Lasting<'c, S, H> {
         })
     }
 
-    fn write_all(&mut self, bytes: Bytes) -> Option<Held<'c, S, H>> {
+    fn write_all(&mut self, bytes: Few) -> Option<Held<'c, S, H>> {
         let from = kept(self.written, bytes)?;
         Some(Held::WriteAll(self.pipe.write_all(from)))
     }
@@ -345,7 +360,7 @@ impl<'c, S: ByteState<Waker = TaskId>, H: Hand<TaskId>> Lasting<'c, S, H> {
         }
     }
 
-    fn fill(&mut self, cx: &Context<TaskId>) -> Poll<Bytes> {
+    fn fill(&mut self, cx: &Context<TaskId>) -> Poll<Few> {
         let polled = self.reader.fill_buf().poll(cx);
         match polled {
             Poll::Ready(()) => Poll::Ready(Bytes::from_slice(self.reader.filled())),
@@ -367,7 +382,7 @@ impl<'c, S: ByteState<Waker = TaskId>, H: Hand<TaskId>> Lasting<'c, S, H> {
         }
     }
 
-    fn try_fill(&mut self) -> Result<Bytes, TryReadError> {
+    fn try_fill(&mut self) -> Result<Few, TryReadError> {
         match self.reader.try_fill_buf() {
             Ok(()) => Ok(Bytes::from_slice(self.reader.filled())),
             Err(error) => Err(error),
@@ -375,7 +390,7 @@ impl<'c, S: ByteState<Waker = TaskId>, H: Hand<TaskId>> Lasting<'c, S, H> {
     }
 
     // What was filled before may be gone since, by a call of the pipe's own, and a fill that finds nothing leaves it.
-    fn consume(&mut self, count: usize) -> Answer<PipeHeard> {
+    fn consume(&mut self, count: usize) -> Answer<PipeHeard<Few>> {
         let is_empty = self.reader.try_fill_buf().is_err();
         if is_empty && count > 0 {
             return Answer::NoSuch;
@@ -391,7 +406,7 @@ impl<'c, S: ByteState<Waker = TaskId>, H: Hand<TaskId>> Lasting<'c, S, H> {
 fn write<'c, S: ByteState<Waker = TaskId>, H: Hand<TaskId>>(
     mut future: WriteFuture<'c, S, TaskId, H>,
     cx: &Context<TaskId>,
-) -> Turn<PipeHeard, Held<'c, S, H>> {
+) -> Turn<PipeHeard<Few>, Held<'c, S, H>> {
     let polled = future.poll(cx);
     is_written(polled, Held::Write(future))
 }
@@ -399,7 +414,7 @@ fn write<'c, S: ByteState<Waker = TaskId>, H: Hand<TaskId>>(
 fn dyn_write<'c, S: ByteState<Waker = TaskId>, H: Hand<TaskId>>(
     mut future: DynamicWriteFuture<'c, Lent<'c, S, H>>,
     cx: &Context<TaskId>,
-) -> Turn<PipeHeard, Held<'c, S, H>> {
+) -> Turn<PipeHeard<Few>, Held<'c, S, H>> {
     let polled = future.poll(cx);
     is_written(polled, Held::DynWrite(future))
 }
@@ -407,7 +422,7 @@ fn dyn_write<'c, S: ByteState<Waker = TaskId>, H: Hand<TaskId>>(
 fn write_all<'c, S: ByteState<Waker = TaskId>, H: Hand<TaskId>>(
     mut future: WriteAllFuture<'c, S, TaskId, H>,
     cx: &Context<TaskId>,
-) -> Turn<PipeHeard, Held<'c, S, H>> {
+) -> Turn<PipeHeard<Few>, Held<'c, S, H>> {
     if future.is_finished() {
         return over();
     }
@@ -416,7 +431,7 @@ fn write_all<'c, S: ByteState<Waker = TaskId>, H: Hand<TaskId>>(
 }
 
 // What a poll leaves of a request that writes some bytes.
-fn is_written<H: Drop>(polled: Poll<usize>, held: H) -> Turn<PipeHeard, H> {
+fn is_written<H: Drop>(polled: Poll<usize>, held: H) -> Turn<PipeHeard<Few>, H> {
     match polled {
         Poll::Ready(count) => Turn::over(PipeHeard::Wrote(count)),
         Poll::Pending => Turn::waits(held),
@@ -424,7 +439,7 @@ fn is_written<H: Drop>(polled: Poll<usize>, held: H) -> Turn<PipeHeard, H> {
 }
 
 // What a poll leaves of a request that writes all of its bytes.
-fn are_all_written<H: Drop>(polled: Poll<()>, held: H) -> Turn<PipeHeard, H> {
+fn are_all_written<H: Drop>(polled: Poll<()>, held: H) -> Turn<PipeHeard<Few>, H> {
     match polled {
         Poll::Ready(()) => Turn::over(PipeHeard::WroteAll),
         Poll::Pending => Turn::waits(held),
@@ -432,7 +447,7 @@ fn are_all_written<H: Drop>(polled: Poll<()>, held: H) -> Turn<PipeHeard, H> {
 }
 
 // What a poll leaves of a request that reads bytes to the front of a row.
-fn is_read<H: Drop>(polled: Poll<usize>, row: &Row, held: H) -> Turn<PipeHeard, H> {
+fn is_read<H: Drop>(polled: Poll<usize>, row: &Row, held: H) -> Turn<PipeHeard<Few>, H> {
     match polled {
         Poll::Ready(count) => Turn::over(PipeHeard::HasRead(front(row, count))),
         Poll::Pending => Turn::waits(held),
@@ -440,7 +455,7 @@ fn is_read<H: Drop>(polled: Poll<usize>, row: &Row, held: H) -> Turn<PipeHeard, 
 }
 
 // What a poll leaves of a request for bytes that stay.
-fn is_filled<H: Drop>(polled: Poll<Bytes>, held: H) -> Turn<PipeHeard, H> {
+fn is_filled<H: Drop>(polled: Poll<Few>, held: H) -> Turn<PipeHeard<Few>, H> {
     match polled {
         Poll::Ready(bytes) => Turn::over(PipeHeard::Filled(bytes)),
         Poll::Pending => Turn::waits(held),
@@ -448,7 +463,7 @@ fn is_filled<H: Drop>(polled: Poll<Bytes>, held: H) -> Turn<PipeHeard, H> {
 }
 
 // What is answered of a read to the front of a row.
-fn is_tried(tried: Result<usize, TryReadError>, row: &Row) -> Answer<PipeHeard> {
+fn is_tried(tried: Result<usize, TryReadError>, row: &Row) -> Answer<PipeHeard<Few>> {
     Answer::Gives(PipeHeard::HasTriedRead(match tried {
         Ok(count) => Ok(front(row, count)),
         Err(error) => Err(error),
@@ -461,18 +476,18 @@ fn places(row: &mut Row, count: usize) -> &mut [u8] {
 }
 
 // The bytes in so many places of a row.
-fn front(row: &Row, count: usize) -> Bytes {
+fn front(row: &Row, count: usize) -> Few {
     Bytes::from_slice(&row[..count.min(16)])
 }
 
 // The bytes behind the first ones.
-fn behind(bytes: Bytes, count: usize) -> Bytes {
+fn behind(bytes: Few, count: usize) -> Few {
     let from = bytes.as_slice();
     Bytes::from_slice(&from[count.min(from.len())..])
 }
 
 // The bytes, where they outlive what is to write them.
-fn kept(written: &Bump, bytes: Bytes) -> Option<&[u8]> {
+fn kept(written: &Bump, bytes: Few) -> Option<&[u8]> {
     match written.try_alloc_slice_copy(bytes.as_slice()) {
         Ok(kept) => Some(kept),
         Err(_) => None,
@@ -482,7 +497,7 @@ fn kept(written: &Bump, bytes: Bytes) -> Option<&[u8]> {
 // How many bytes are held.
 fn len<S: ByteState<Waker = W>, W: Copy + Eq, H: Hand<W>>(
     pipe: &SharedPipe<S, W, H>,
-) -> Answer<PipeHeard> {
+) -> Answer<PipeHeard<Few>> {
     let sizes = sizes!(pipe);
     sizes.checked(PipeHeard::Number(sizes.len))
 }

@@ -1,9 +1,8 @@
 use crate::runs::{plays, told};
 use esync_base::waitqueue::TaskId;
 use esync_history::executor::{Act, NewError, Outcome};
-use esync_pipe::pipe::PipeState;
 use esync_run::bytes::Bytes;
-use esync_run::pipe::{PipeAsk, PipeCall, PipeHeard, PipeRun};
+use esync_run::pipe::{PipeAsk, PipeCall, PipeHeard, PipeRows, PipeRun};
 use esync_run::primitive::Answer;
 use esync_run::requests::Requests;
 use std::alloc::Global;
@@ -17,7 +16,7 @@ fn runs(
     outcome: Outcome,
     held: usize,
 ) -> Result<(), NewError> {
-    let pipe: PipeRun<TaskId, 4, 2, 2> = Requests::new(PipeState::new());
+    let pipe: PipeRun<TaskId, 4, 6, 2, 2> = Requests::new(PipeRows::new());
     let six = PipeAsk::WriteAll(Bytes::from_slice(&[1, 2, 3, 4, 5, 6]));
     let (writes, reads) = (Act::Await(0, six), Act::Await(1, PipeAsk::Read(count)));
     let turns = [(2, Outcome::Limit, None), (1, outcome, None)];

@@ -17,8 +17,7 @@ use esync_permits::semaphore::machine::greedy::GreedyRun;
 use esync_permits::semaphore::machine::{PermitCall, PermitHeard};
 use esync_permits::semaphore::{Amount, FairState, GreedyState};
 use esync_pipe::bytes::Bytes;
-use esync_pipe::pipe::PipeState;
-use esync_pipe::pipe::machine::{PipeCall, PipeCommand, PipeHeard, PipeRun};
+use esync_pipe::pipe::machine::{PipeCall, PipeCommand, PipeHeard, PipeRows, PipeRun};
 use esync_priority::priority_channel::machine::PriorityRun;
 use esync_priority::priority_channel::{ChannelState as PriorityState, Max};
 use std::alloc::{AllocError, Global};
@@ -205,7 +204,7 @@ fn sends(message: u32) -> [ChannelCommand<u32, TaskId>; 2] {
     [Command::Call(ChannelCall::TrySend(message)), receive]
 }
 
-fn writes(byte: u8) -> [PipeCommand<TaskId>; 2] {
+fn writes(byte: u8) -> [PipeCommand<TaskId, 4>; 2] {
     let write = PipeCall::TryWrite(Bytes::from_slice(&[byte]));
     [Command::Call(write), Command::Call(PipeCall::TryRead(4))]
 }
@@ -243,7 +242,7 @@ fn two_threads_call_a_recorded_priority_channel(rt: HostRuntime) -> Result<(), F
 // Two threads write and read.
 #[test]
 fn two_threads_call_a_recorded_pipe(rt: HostRuntime) -> Result<(), Fail> {
-    let pipe: PipeRun<TaskId, 4, 1, 2> = Requests::new(PipeState::new());
+    let pipe: PipeRun<TaskId, 4, 4, 1, 2> = Requests::new(PipeRows::new());
     let look = (PipeCall::Len, told(PipeHeard::Number(0)));
     let calls = [writes(1), writes(2)];
     call_by_two(&rt, rt.alloc(), pipe, calls, look, &[&[]; 5])?;

@@ -1,5 +1,5 @@
 -- What the steps of a pipe keep for its requests.
-use Rattle.std.proofs.Common.{◌≡◌, ℕ, zero, suc, ◌+◌, ◌<◌, ◌≤◌, ◌&&◌, Bool, true, false, not, List, take, drop, [], ◌∷◌, ◌++◌, length, Option, Some, None, nat_lt, ◌⊎◌, inl, inr, refl, ap, subst, sym, ◌∙◌, arith}
+use Rattle.std.proofs.Common.{◌≡◌, ℕ, zero, suc, ◌+◌, ◌-◌, ◌<◌, ◌≤◌, ◌&&◌, Bool, true, false, not, List, take, drop, [], ◌∷◌, ◌++◌, length, Option, Some, None, nat_lt, ◌⊎◌, inl, inr, refl, ap, subst, sym, ◌∙◌, arith}
 use Rattle.std.specs.Prelude.{Result, Ok, Err, is_ok}
 use Rattle.std.specs.List.{list_any}
 use Rattle.std.proofs.lemmas.Bool.Decides.{nat_tests}
@@ -38,13 +38,17 @@ not-empty o h = grind (arith, nat_tests)
 pub empty : (o : Ringed ℕ) → length o.items ≡ 0 → is_empty o ≡ true
 empty o h = grind (arith, nat_tests)
 
--- what a row of 16 bytes shows that were read into the front of another
-pub row-read : (items xs ys : List ℕ) (n : ℕ) → n ≤ 16 → n ≤ length items → take 16 (take n ((take n items ++ xs) ++ ys)) ≡ take n items
-row-read items xs ys n small there =
+-- what a row of m bytes shows that were read into the front of another
+pub row-read : (items xs ys : List ℕ) (m n : ℕ) → n ≤ m → n ≤ length items → take m (take n ((take n items ++ xs) ++ ys)) ≡ take n items
+row-read items xs ys m n small there =
     let l = length-take-le n items there in
-    ap (λ t. take 16 (take n t)) (append_assoc (take n items) xs ys)
-    ∙ ap (take 16) (take_at (take n items) (xs ++ ys) n l)
-    ∙ take_all 16 (take n items) (omega arith)
+    ap (λ t. take m (take n t)) (append_assoc (take n items) xs ys)
+    ∙ ap (take m) (take_at (take n items) (xs ++ ys) n l)
+    ∙ take_all m (take n items) (omega arith)
+
+-- a row of l bytes shows all that stand one behind the other
+pub row-shown : (n l : ℕ) (o : Ringed ℕ) → n ≤ l → take l (shown n o) ≡ shown n o
+row-shown n l o h = take_all l (shown n o) (let k = length-take (n - o.front) o.items in grind (arith, k, nat_tests))
 
 -- whether there was something to read is told by the answer
 pub taken_if : (n : ℕ) (o o2 : Ringed ℕ) (k : ℕ) (r : Result (List ℕ) TryReadError) → TakesOut n o k r o2 → is_ok r ≡ not (is_empty o)
@@ -72,7 +76,7 @@ module _ {W : Type 0} (eq : W → W → Bool) (n : ℕ) where
     room : (v : W) → OwesRoom eq n o s v → IsAmong eq v wakes ⊎ OwesRoom eq n o2 s2 v
     bytes : (v : W) → OwesBytes eq n o s v → IsAmong eq v wakes ⊎ OwesBytes eq n o2 s2 v
 
-  keeps_all : (o o2 : Ringed ℕ) (s s2 : Slots W) (wakes : List W) → Keeps o s wakes o2 s2 → (ask : PipeAsk) (v : W) → OwesFor eq n o s ask v → IsAmong eq v wakes ⊎ OwesFor eq n o2 s2 ask v
+  keeps_all : (o o2 : Ringed ℕ) (s s2 : Slots W) (wakes : List W) → Keeps o s wakes o2 s2 → (ask : PipeAsk (List ℕ)) (v : W) → OwesFor eq n o s ask v → IsAmong eq v wakes ⊎ OwesFor eq n o2 s2 ask v
   keeps_all o o2 s s2 wakes k (Write bytes) v h = k.room v h
   keeps_all o o2 s s2 wakes k (WriteAll bytes) v h = elim (k.room v h.1) [ inl x ↦ inl x | inr x ↦ inr (h.0, x) ]
   keeps_all o o2 s s2 wakes k (Read count) v h = k.bytes v h
@@ -152,11 +156,11 @@ module _ {W : Type 0} (eq : W → W → Bool) (n : ℕ) (o o2 : Ringed ℕ) (s :
   called_fill (Ok bytes) h = h.2
   called_fill (Err x) h = h.1
 
-  called_consume : (k : ℕ) (is : Bool) (a : Answer PipeHeard) → Consumes n o k is a o2 → Keeps eq n o s (called (pipe_wakings eq n) o s (Consume k) None a).wakes o2 (called (pipe_wakings eq n) o s (Consume k) None a).after
+  called_consume : (k : ℕ) (is : Bool) (a : Answer (PipeHeard (List ℕ))) → Consumes n o k is a o2 → Keeps eq n o s (called (pipe_wakings eq n) o s (Consume k) None a).wakes o2 (called (pipe_wakings eq n) o s (Consume k) None a).after
   called_consume k true a h = rw h.0 (kept_same eq n o o2 s h.1)
   called_consume k false a h = rw h.0 (kept_consumed k h.1)
 
-  called_kept : (call : PipeCall) (a : Answer PipeHeard) → Calls n o call a o2 → Keeps eq n o s (called (pipe_wakings eq n) o s call None a).wakes o2 (called (pipe_wakings eq n) o s call None a).after
+  called_kept : (call : PipeCall (List ℕ)) (a : Answer (PipeHeard (List ℕ))) → Calls n o call a o2 → Keeps eq n o s (called (pipe_wakings eq n) o s call None a).wakes o2 (called (pipe_wakings eq n) o s call None a).after
   called_kept (TryWrite bytes) a h = rw h.1 (called_write bytes h.0 h.2 (is_full n o) refl)
   called_kept (TryRead k) a h = rw h.1 (called_read k h.0 h.2 (is_empty o) refl)
   called_kept TryFill a h = rw h.1 (kept_same eq n o o2 s (called_fill h.0 h.2))
@@ -165,11 +169,11 @@ module _ {W : Type 0} (eq : W → W → Bool) (n : ℕ) (o o2 : Ringed ℕ) (s :
   called_kept Len a h = rw h.0 (kept_same eq n o o2 s h.1)
   called_kept FreeCapacity a h = rw h.1 (kept_same eq n o o2 s h.3)
 
-  pub called_keeps : (call : PipeCall) (a : Answer PipeHeard) → Calls n o call a o2 → (wakes : List W) (s2 : Slots W) → IsHanded (called (pipe_wakings eq n) o s call None a) wakes s2 → (ask : PipeAsk) (v : W) → OwesFor eq n o s ask v → IsAmong eq v wakes ⊎ OwesFor eq n o2 s2 ask v
+  pub called_keeps : (call : PipeCall (List ℕ)) (a : Answer (PipeHeard (List ℕ))) → Calls n o call a o2 → (wakes : List W) (s2 : Slots W) → IsHanded (called (pipe_wakings eq n) o s call None a) wakes s2 → (ask : PipeAsk (List ℕ)) (v : W) → OwesFor eq n o s ask v → IsAmong eq v wakes ⊎ OwesFor eq n o2 s2 ask v
   called_keeps call a h wakes s2 e ask v owed = rw (e.0, e.1) (keeps_all eq n o o2 s _ _ (called_kept call a h) ask v owed)
 
   -- by a poll
-  module _ (a : Answer PipeHeard) (p : Option PipeAsk) (w : W) where
+  module _ (a : Answer (PipeHeard (List ℕ))) (p : Option (PipeAsk (List ℕ))) (w : W) where
     polled_write : (bytes : List ℕ) (is : Bool) → is_full n o ≡ is → PollsWrite n o bytes is a o2 p → Keeps eq n o s (wakes_of_write eq o (Some w) (not is) s) o2 (slots_after_write eq o (Some w) (not is) s)
     polled_write bytes true e h = kept_writers eq n o o2 s (Some w) h.1
     polled_write bytes false e h = kept_written eq n o o2 s e
@@ -194,14 +198,14 @@ module _ {W : Type 0} (eq : W → W → Bool) (n : ℕ) (o o2 : Ringed ℕ) (s :
     polled_fill true h = kept_readers eq n o o2 s (Some w) h.1
     polled_fill false h = kept_same eq n o o2 s h.1
 
-    polled_kept : (ask : PipeAsk) → Polls n o ask a o2 p → Keeps eq n o s (poll_hands eq n o s ask w).wakes o2 (poll_hands eq n o s ask w).after
+    polled_kept : (ask : PipeAsk (List ℕ)) → Polls n o ask a o2 p → Keeps eq n o s (poll_hands eq n o s ask w).wakes o2 (poll_hands eq n o s ask w).after
     polled_kept (Write bytes) h = polled_write bytes (is_full n o) refl h
     polled_kept (WriteAll bytes) h = polled_write_all bytes (nat_lt (puts n o bytes) (length bytes)) refl h
     polled_kept (Read k) h = polled_read k (is_empty o) refl h
     polled_kept Fill h = polled_fill (is_empty o) h
 
     -- no Pending poll that leaves all as it was hands out its own waker
-    abbrev Quiet : PipeAsk → List W → Type 0
+    abbrev Quiet : PipeAsk (List ℕ) → List W → Type 0
     Quiet ask wakes = a ≡ Pending → o2 ≡ o → p ≡ Some ask → IsAmong eq w wakes → ⊥
 
     quiet_write : (bytes : List ℕ) (is : Bool) → PollsWrite n o bytes is a o2 p → Quiet (Write bytes) (wakes_of_write eq o (Some w) (not is) s)
@@ -227,7 +231,7 @@ module _ {W : Type 0} (eq : W → W → Bool) (n : ℕ) (o o2 : Ringed ℕ) (s :
     quiet_fill true h pending same stays among = not_displaced eq 1 s.readers w among
     quiet_fill false h pending same stays among = (let f = sym h.0 ∙ pending in cc)
 
-    quiet : (ask : PipeAsk) → Polls n o ask a o2 p → Quiet ask (poll_hands eq n o s ask w).wakes
+    quiet : (ask : PipeAsk (List ℕ)) → Polls n o ask a o2 p → Quiet ask (poll_hands eq n o s ask w).wakes
     quiet (Write bytes) h = quiet_write bytes (is_full n o) h
     quiet (WriteAll bytes) h = quiet_write_all bytes (nat_lt (puts n o bytes) (length bytes)) refl h
     quiet (Read k) h = quiet_read k (is_empty o) h
@@ -235,7 +239,7 @@ module _ {W : Type 0} (eq : W → W → Bool) (n : ℕ) (o o2 : Ringed ℕ) (s :
 
     -- who hears Pending is owed
     abbrev Owed : Slots W → Type 0
-    Owed s2 = (ask : PipeAsk) × (p ≡ Some ask) × OwesFor eq n o2 s2 ask w
+    Owed s2 = (ask : PipeAsk (List ℕ)) × (p ≡ Some ask) × OwesFor eq n o2 s2 ask w
 
     module _ (same : (x : W) → eq x x ≡ true) (pending : a ≡ Pending) where
       owed_write : (bytes : List ℕ) (is : Bool) → is_full n o ≡ is → PollsWrite n o bytes is a o2 p → Owed (slots_after_write eq o (Some w) (not is) s)
@@ -257,23 +261,23 @@ module _ {W : Type 0} (eq : W → W → Bool) (n : ℕ) (o o2 : Ringed ℕ) (s :
       owed_fill true e h = (Fill, h.2, (ap is_empty h.1 ∙ e, has_registered eq same 1 s.readers w))
       owed_fill false e h = absurd (let f = sym h.0 ∙ pending in cc)
 
-      owed : (ask : PipeAsk) → Polls n o ask a o2 p → Owed (poll_hands eq n o s ask w).after
+      owed : (ask : PipeAsk (List ℕ)) → Polls n o ask a o2 p → Owed (poll_hands eq n o s ask w).after
       owed (Write bytes) h = owed_write bytes (is_full n o) refl h
       owed (WriteAll bytes) h = owed_write_all bytes (nat_lt (puts n o bytes) (length bytes)) refl h
       owed (Read k) h = owed_read k (is_empty o) refl h
       owed Fill h = owed_fill (is_empty o) refl h
 
-    pub polled_keeps : (ask : PipeAsk) → Polls n o ask a o2 p → (wakes : List W) (s2 : Slots W) → IsHanded (poll_hands eq n o s ask w) wakes s2 → (other : PipeAsk) (v : W) → OwesFor eq n o s other v → IsAmong eq v wakes ⊎ OwesFor eq n o2 s2 other v
+    pub polled_keeps : (ask : PipeAsk (List ℕ)) → Polls n o ask a o2 p → (wakes : List W) (s2 : Slots W) → IsHanded (poll_hands eq n o s ask w) wakes s2 → (other : PipeAsk (List ℕ)) (v : W) → OwesFor eq n o s other v → IsAmong eq v wakes ⊎ OwesFor eq n o2 s2 other v
     polled_keeps ask h wakes s2 e other v owes = rw (e.0, e.1) (keeps_all eq n o o2 s _ _ (polled_kept ask h) other v owes)
 
-    pub polled_quiet : (ask : PipeAsk) → Polls n o ask a o2 p → (wakes : List W) (s2 : Slots W) → IsHanded (poll_hands eq n o s ask w) wakes s2 → a ≡ Pending → o2 ≡ o → p ≡ Some ask → IsAmong eq w wakes → ⊥
+    pub polled_quiet : (ask : PipeAsk (List ℕ)) → Polls n o ask a o2 p → (wakes : List W) (s2 : Slots W) → IsHanded (poll_hands eq n o s ask w) wakes s2 → a ≡ Pending → o2 ≡ o → p ≡ Some ask → IsAmong eq w wakes → ⊥
     polled_quiet ask h wakes s2 e pending same stays among = quiet ask h pending same stays (subst (λ l. IsAmong eq w l) e.0 among)
 
-    pub polled_owed : ((x : W) → eq x x ≡ true) → (ask : PipeAsk) → Polls n o ask a o2 p → (wakes : List W) (s2 : Slots W) → IsHanded (poll_hands eq n o s ask w) wakes s2 → a ≡ Pending → (rest : PipeAsk) × (p ≡ Some rest) × OwesFor eq n o2 s2 rest w
+    pub polled_owed : ((x : W) → eq x x ≡ true) → (ask : PipeAsk (List ℕ)) → Polls n o ask a o2 p → (wakes : List W) (s2 : Slots W) → IsHanded (poll_hands eq n o s ask w) wakes s2 → a ≡ Pending → (rest : PipeAsk (List ℕ)) × (p ≡ Some rest) × OwesFor eq n o2 s2 rest w
     polled_owed same ask h wakes s2 e pending = (let t = owed same pending ask h in (t.0, t.1, subst (λ x. OwesFor eq n o2 x t.0 w) (sym e.1) t.2))
 
 -- no poll is refused
-module _ {G W : Type 0} (n : ℕ) (o o2 : Ringed ℕ) (a : Answer PipeHeard) (p : Option PipeAsk) (g : G) (h : Handed G W) where
+module _ {G W : Type 0} (n : ℕ) (o o2 : Ringed ℕ) (a : Answer (PipeHeard (List ℕ))) (p : Option (PipeAsk (List ℕ))) (g : G) (h : Handed G W) where
   told_write : (bytes : List ℕ) (is : Bool) → PollsWrite n o bytes is a o2 p → unless_refused a g h ≡ h
   told_write bytes true t = rw t.0 refl
   told_write bytes false t = rw t.0 refl
@@ -290,7 +294,7 @@ module _ {G W : Type 0} (n : ℕ) (o o2 : Ringed ℕ) (a : Answer PipeHeard) (p 
   told_fill true t = rw t.0 refl
   told_fill false t = rw t.0 refl
 
-  pub not_refused : (ask : PipeAsk) → Polls n o ask a o2 p → unless_refused a g h ≡ h
+  pub not_refused : (ask : PipeAsk (List ℕ)) → Polls n o ask a o2 p → unless_refused a g h ≡ h
   not_refused (Write bytes) t = told_write bytes (is_full n o) t
   not_refused (WriteAll bytes) t = told_write_all bytes (nat_lt (puts n o bytes) (length bytes)) t
   not_refused (Read k) t = told_read k (is_empty o) t

@@ -34,7 +34,7 @@ abbrev IsInOrder : Ringed ℕ → Account → Type 0
 IsInOrder o k = k.taken ++ o.items ≡ k.written
 
 -- the account has what the request asks for
-abbrev IsKnown : Account → ℕ → PipeAsk → Type 0
+abbrev IsKnown : Account → ℕ → PipeAsk (List ℕ) → Type 0
 IsKnown k r ask = ask_of k.asked r ≡ Some ask
 
 more_written : (o o2 : Ringed ℕ) (k : Account) (bytes : List ℕ) → o2 ≡ behind o bytes → IsInOrder o k → k.taken ++ o2.items ≡ k.written ++ bytes
@@ -61,7 +61,7 @@ room-told n o k bytes order =
     ap (λ m. min (length bytes) (n - m)) (let e : length k.written - length k.taken ≡ length o.items = omega arith in e)
 
 module _ (W : Type 0) (n : ℕ) where
-  refused : (k : Account) (c : Command PipeAsk W PipeCall) → after n k c NoSuch ≡ k
+  refused : (k : Account) (c : Command (PipeAsk (List ℕ)) W (PipeCall (List ℕ))) → after n k c NoSuch ≡ k
   refused k (Start r ask) = refl
   refused k (Poll r w) = refl
   refused k (End r) = refl
@@ -74,13 +74,13 @@ module _ (W : Type 0) (n : ℕ) where
   refused k (Call FreeCapacity) = refl
 
   -- what a poll keeps
-  abbrev Polled : Account → ℕ → W → Answer PipeHeard → Ringed ℕ → Option PipeAsk → Type 0
+  abbrev Polled : Account → ℕ → W → Answer (PipeHeard (List ℕ)) → Ringed ℕ → Option (PipeAsk (List ℕ)) → Type 0
   Polled k r w a o2 p =
       let k2 = after n {W = W} k (Poll r w) a in
       IsInOrder o2 k2 × IfSome p (λ x. IsKnown k2 r x)
 
   module _ (o o2 : Ringed ℕ) (k : Account) (order : IsInOrder o k) where
-    module _ (r : ℕ) (w : W) (a : Answer PipeHeard) (p : Option PipeAsk) where
+    module _ (r : ℕ) (w : W) (a : Answer (PipeHeard (List ℕ))) (p : Option (PipeAsk (List ℕ))) where
       polled_write : (bytes : List ℕ) (is : Bool) → IsKnown k r (Write bytes) → PollsWrite n o bytes is a o2 p → Polled k r w a o2 p
       polled_write bytes true known t = rw (t.0, t.2) (rw known (same_held o o2 (record k { written = k.written ++ [] }) t.1 (order ∙ sym (append-nil k.written)), known))
       polled_write bytes false known t = rw (t.0, t.2) (rw known (more_written o o2 k (take (puts n o bytes) bytes) t.1 order, tt))
@@ -97,7 +97,7 @@ module _ (W : Type 0) (n : ℕ) where
       polled_fill true known t = rw (t.0, t.2) (rw known (same_held o o2 (record k { written = k.written ++ [] }) t.1 (order ∙ sym (append-nil k.written)), known))
       polled_fill false known t = rw (t.0, t.2) (same_held o o2 k t.1 order, tt)
 
-      polled : (ask : PipeAsk) → IsKnown k r ask → Polls n o ask a o2 p → Polled k r w a o2 p
+      polled : (ask : PipeAsk (List ℕ)) → IsKnown k r ask → Polls n o ask a o2 p → Polled k r w a o2 p
       polled (Write bytes) known t = polled_write bytes (is_full n o) known t
       polled (WriteAll bytes) known t = polled_write_all bytes (nat_lt (puts n o bytes) (length bytes)) known t
       polled (Read count) known t = polled_read count (is_empty o) known t
@@ -115,11 +115,11 @@ module _ (W : Type 0) (n : ℕ) where
     tried_fill (Ok bytes) t = same_held o o2 k t.2 order
     tried_fill (Err error) t = same_held o o2 k t.1 order
 
-    consumed : (count : ℕ) (is : Bool) (a : Answer PipeHeard) → Consumes n o count is a o2 → IsInOrder o2 (after n {W = W} k (Call (Consume count)) a)
+    consumed : (count : ℕ) (is : Bool) (a : Answer (PipeHeard (List ℕ))) → Consumes n o count is a o2 → IsInOrder o2 (after n {W = W} k (Call (Consume count)) a)
     consumed count true a t = rw t.0 (same_held o o2 k t.1 order)
     consumed count false a t = rw t.0 (ap (λ l. (k.taken ++ take count l) ++ o2.items) (sym (held-told o k order)) ∙ more_taken n o o2 k count t.1 order)
 
-    called : (call : PipeCall) (a : Answer PipeHeard) → Calls n o call a o2 → IsInOrder o2 (after n {W = W} k (Call call) a)
+    called : (call : PipeCall (List ℕ)) (a : Answer (PipeHeard (List ℕ))) → Calls n o call a o2 → IsInOrder o2 (after n {W = W} k (Call call) a)
     called (TryWrite bytes) a t = rw t.1 (tried_write bytes t.0 t.2)
     called (TryRead count) a t = rw t.1 (tried_read count t.0 t.2)
     called TryFill a t = rw t.1 (tried_fill t.0 t.2)
@@ -130,20 +130,20 @@ module _ (W : Type 0) (n : ℕ) where
     called Len a t = rw t.0 (same_held o o2 k t.1 order)
     called FreeCapacity a t = rw t.1 (same_held o o2 k t.3 order)
 
-  meanwhile-other : (k : Account) (s r : ℕ) (ask : Option PipeAsk) → (s ≡ r → ⊥) → ask_of (asked_meanwhile n k s ask) r ≡ ask_of k.asked r
+  meanwhile-other : (k : Account) (s r : ℕ) (ask : Option (PipeAsk (List ℕ))) → (s ≡ r → ⊥) → ask_of (asked_meanwhile n k s ask) r ≡ ask_of k.asked r
   meanwhile-other k s r (Some (WriteAll bytes)) ne = rw (unequal_number s r ne) refl
   meanwhile-other k s r (Some (Write bytes)) ne = refl
   meanwhile-other k s r (Some (Read count)) ne = refl
   meanwhile-other k s r (Some Fill) ne = refl
   meanwhile-other k s r None ne = refl
 
-  then-other : (k : Account) (c : Command PipeAsk W PipeCall) (a : Answer PipeHeard) (r : ℕ) → (reach_of (pipe_rules n) c ≡ AtNumber r → ⊥) → ask_of (asked_then n k c a) r ≡ ask_of k.asked r
+  then-other : (k : Account) (c : Command (PipeAsk (List ℕ)) W (PipeCall (List ℕ))) (a : Answer (PipeHeard (List ℕ))) (r : ℕ) → (reach_of (pipe_rules n) c ≡ AtNumber r → ⊥) → ask_of (asked_then n k c a) r ≡ ask_of k.asked r
   then-other k (Poll s w) Pending r ne = meanwhile-other k s r (ask_of k.asked s) (λ e. ne (ap AtNumber e))
   then-other k (Poll s w) Done r ne = refl
   then-other k (Poll s w) NoSuch r ne = refl
   then-other k (Poll s w) NoMemory r ne = refl
   then-other k (Poll s w) (Gives heard) r ne = refl
-  then-other k (Start s ask) a r ne = (let c : Command PipeAsk W PipeCall = Start s ask in ask_of-other (pipe_rules n) k.asked c a r ne)
+  then-other k (Start s ask) a r ne = (let c : Command (PipeAsk (List ℕ)) W (PipeCall (List ℕ)) = Start s ask in ask_of-other (pipe_rules n) k.asked c a r ne)
   then-other k (End s) a r ne = refl
   then-other k (Call call) a r ne = refl
 
@@ -164,7 +164,7 @@ module _ (W : Type 0) (n : ℕ) where
     free = λ o o2 k p p2 free calls order. (let t = calls.0.1 in let f = calls.0.2 in let l = length-told o k order in let e : free ≡ calls.0.0 = cc in (length o.items, omega arith, subst (λ x. x + length o.items ≡ n) (sym e) f));
   }
 
-  module _ (H : Wakings (Ringed ℕ) PipeAsk PipeCall PipeHeard W) (eq : W → W → Bool) (K : ℕ) (o o2 : Object (Ringed ℕ) PipeAsk) (g g2 : H.Registered) (cs : List (Command PipeAsk W PipeCall)) (as' : List (Reply (Answer PipeHeard) W K)) (run : GoodRun (requests_meaning (pipe_rules n) H eq K) o g cs as' o2 g2) where
+  module _ (H : Wakings (Ringed ℕ) (PipeAsk (List ℕ)) (PipeCall (List ℕ)) (PipeHeard (List ℕ)) W) (eq : W → W → Bool) (K : ℕ) (o o2 : Object (Ringed ℕ) (PipeAsk (List ℕ))) (g g2 : H.Registered) (cs : List (Command (PipeAsk (List ℕ)) W (PipeCall (List ℕ)))) (as' : List (Reply (Answer (PipeHeard (List ℕ))) W K)) (run : GoodRun (requests_meaning (pipe_rules n) H eq K) o g cs as' o2 g2) where
     told_first : IsTold (pipe_rules n) (λ c. Unit {0}) (after n {W = W}) IsInOrder IsKnown o (at_first n o.requests o.core.items)
     told_first = record {
       core = refl;

@@ -23,7 +23,7 @@ module _ {W : Type 0} (eq : W → W → Bool) (n : ℕ) where
   abbrev pub OwesBytes : Ringed ℕ → Slots W → W → Type 0
   OwesBytes o s w = (is_empty o ≡ true) × IsAmong eq w s.readers
 
-  abbrev pub OwesFor : Ringed ℕ → Slots W → PipeAsk → W → Type 0
+  abbrev pub OwesFor : Ringed ℕ → Slots W → PipeAsk (List ℕ) → W → Type 0
   OwesFor o s (Write bytes) w = OwesRoom o s w
   OwesFor o s (WriteAll bytes) w = (nat_lt 0 (length bytes) ≡ true) × OwesRoom o s w
   OwesFor o s (Read k) w = OwesBytes o s w
@@ -37,7 +37,7 @@ puts-full n o bytes h = let e = same_number (length o.items) n h in grind (arith
 same-behind : (o : Ringed ℕ) → o ≡ behind o []
 same-behind o = ap (λ l. record { items = l; front = o.front }) (sym (append-nil o.items))
 
-pub pipe_idle : {W : Type 0} (eq : W → W → Bool) (n : ℕ) (o : Ringed ℕ) (s : Slots W) (ask : PipeAsk) (w : W) → OwesFor eq n o s ask w → IsIdle (pipe_rules n) o ask
+pub pipe_idle : {W : Type 0} (eq : W → W → Bool) (n : ℕ) (o : Ringed ℕ) (s : Slots W) (ask : PipeAsk (List ℕ)) (w : W) → OwesFor eq n o s ask w → IsIdle (pipe_rules n) o ask
 pipe_idle eq n o s (Write bytes) w h = rw (h.0, PollsWrite) (refl, refl, refl)
 pipe_idle eq n o s (WriteAll bytes) w h =
     let none = puts-full n o bytes h.1.0 in
@@ -46,7 +46,7 @@ pipe_idle eq n o s (WriteAll bytes) w h =
 pipe_idle eq n o s (Read k) w h = rw (h.0, PollsRead) (refl, refl, refl)
 pipe_idle eq n o s Fill w h = rw (h.0, PollsFill) (refl, refl, refl)
 
-module _ (n : ℕ) (o : Ringed ℕ) (a : Answer PipeHeard) (o2 : Ringed ℕ) (p : Option PipeAsk) where
+module _ (n : ℕ) (o : Ringed ℕ) (a : Answer (PipeHeard (List ℕ))) (o2 : Ringed ℕ) (p : Option (PipeAsk (List ℕ))) where
   pending_write : (bytes : List ℕ) (full : Bool) → PollsWrite n o bytes full Pending o (Some (Write bytes)) → PollsWrite n o bytes full a o2 p → (a ≡ Pending) × (o2 ≡ o) × (p ≡ Some (Write bytes))
   pending_write bytes true h j = j
   pending_write bytes false h j = (let f = h.0 in absurd cc)

@@ -17,14 +17,14 @@ use Rattle.esync_pipe.specs.declared.pipe.machine.PipeHeard.TheVariants.{Wrote, 
 -- what is known of a pipe from its commands and answers
 pub record Account : Type 0 where
   -- what each request still asks for
-  pub asked : List (ℕ × PipeAsk)
+  pub asked : List (ℕ × PipeAsk (List ℕ))
   -- the bytes that were written, in order
   pub written : List ℕ
   -- the bytes that were read, consumed or cleared, in order
   pub taken : List ℕ
 
 -- the bytes that a request was started to write
-abbrev pub bytes_of : Option PipeAsk → List ℕ
+abbrev pub bytes_of : Option (PipeAsk (List ℕ)) → List ℕ
 bytes_of (Some (Write bytes)) = bytes
 bytes_of (Some (WriteAll bytes)) = bytes
 bytes_of (Some (Read count)) = []
@@ -42,7 +42,7 @@ module _ (n : ℕ) where
   room_for k bytes = min (length bytes) (n - (length k.written - length k.taken))
 
   -- a write of all that hears Pending has written as many of its bytes as there was room for
-  abbrev pub written_meanwhile : Account → Option PipeAsk → List ℕ
+  abbrev pub written_meanwhile : Account → Option (PipeAsk (List ℕ)) → List ℕ
   written_meanwhile k (Some (WriteAll bytes)) = take (room_for k bytes) bytes
   written_meanwhile k (Some (Write bytes)) = []
   written_meanwhile k (Some (Read count)) = []
@@ -50,7 +50,7 @@ module _ (n : ℕ) where
   written_meanwhile k None = []
 
   -- and asks for the others
-  abbrev pub asked_meanwhile : Account → ℕ → Option PipeAsk → List (ℕ × PipeAsk)
+  abbrev pub asked_meanwhile : Account → ℕ → Option (PipeAsk (List ℕ)) → List (ℕ × PipeAsk (List ℕ))
   asked_meanwhile k r (Some (WriteAll bytes)) = (r, WriteAll (drop (room_for k bytes) bytes)) ∷ k.asked
   asked_meanwhile k r (Some (Write bytes)) = k.asked
   asked_meanwhile k r (Some (Read count)) = k.asked
@@ -58,12 +58,12 @@ module _ (n : ℕ) where
   asked_meanwhile k r None = k.asked
 
   -- what the requests ask for after a command and its answer
-  abbrev pub asked_then : {W : Type 0} → Account → Command PipeAsk W PipeCall → Answer PipeHeard → List (ℕ × PipeAsk)
+  abbrev pub asked_then : {W : Type 0} → Account → Command (PipeAsk (List ℕ)) W (PipeCall (List ℕ)) → Answer (PipeHeard (List ℕ)) → List (ℕ × PipeAsk (List ℕ))
   asked_then k (Poll r w) Pending = asked_meanwhile k r (ask_of k.asked r)
   asked_then k c a = asked_after k.asked c a
 
   -- the bytes that were written, after a command and its answer
-  abbrev pub written_after : {W : Type 0} → Account → Command PipeAsk W PipeCall → Answer PipeHeard → List ℕ
+  abbrev pub written_after : {W : Type 0} → Account → Command (PipeAsk (List ℕ)) W (PipeCall (List ℕ)) → Answer (PipeHeard (List ℕ)) → List ℕ
   written_after k (Poll r w) (Gives (Wrote count)) = k.written ++ take count (bytes_of (ask_of k.asked r))
   written_after k (Poll r w) (Gives WroteAll) = k.written ++ bytes_of (ask_of k.asked r)
   written_after k (Poll r w) Pending = k.written ++ written_meanwhile k (ask_of k.asked r)
@@ -71,27 +71,27 @@ module _ (n : ℕ) where
   written_after k _ _ = k.written
 
   -- and those that were taken: a consume takes so many of those written and not taken, and a clear takes all of them
-  abbrev pub taken_after : {W : Type 0} → Account → Command PipeAsk W PipeCall → Answer PipeHeard → List ℕ
+  abbrev pub taken_after : {W : Type 0} → Account → Command (PipeAsk (List ℕ)) W (PipeCall (List ℕ)) → Answer (PipeHeard (List ℕ)) → List ℕ
   taken_after k (Poll r w) (Gives (HasRead bytes)) = k.taken ++ bytes
   taken_after k (Call (TryRead count)) (Gives (HasTriedRead (Ok bytes))) = k.taken ++ bytes
   taken_after k (Call (Consume count)) Done = k.taken ++ take count (drop (length k.taken) k.written)
   taken_after k (Call Clear) Done = k.taken ++ drop (length k.taken) k.written
   taken_after k _ _ = k.taken
 
-  abbrev pub after : {W : Type 0} → Account → Command PipeAsk W PipeCall → Answer PipeHeard → Account
+  abbrev pub after : {W : Type 0} → Account → Command (PipeAsk (List ℕ)) W (PipeCall (List ℕ)) → Answer (PipeHeard (List ℕ)) → Account
   after k c a = record { asked = asked_then k c a; written = written_after k c a; taken = taken_after k c a }
 
   -- what is known at first of a pipe with these requests that holds these bytes
-  abbrev pub at_first : List (Option PipeAsk) → List ℕ → Account
+  abbrev pub at_first : List (Option (PipeAsk (List ℕ))) → List ℕ → Account
   at_first requests held = record { asked = asked_from 0 requests; written = held; taken = [] }
 
   -- of a pipe with these requests that holds these bytes at first, and those at last: the bytes that were taken, and then those that
   -- are held, are those held at first and those that were written since, in order
-  abbrev pub InOrder : {W : Type 0} {K : ℕ} → List (Option PipeAsk) → List ℕ → List (Command PipeAsk W PipeCall) → List (Reply (Answer PipeHeard) W K) → List ℕ → Type 0
+  abbrev pub InOrder : {W : Type 0} {K : ℕ} → List (Option (PipeAsk (List ℕ))) → List ℕ → List (Command (PipeAsk (List ℕ)) W (PipeCall (List ℕ))) → List (Reply (Answer (PipeHeard (List ℕ))) W K) → List ℕ → Type 0
   InOrder requests held commands replies held2 =
       let k = account (λ k c a. after k c a.answer) (at_first requests held) commands replies in
       k.taken ++ held2 ≡ k.written
 
   -- of a pipe with these requests that holds these bytes at first
-  abbrev pub SizesAddUp : {W : Type 0} {K : ℕ} → List (Option PipeAsk) → List ℕ → List (Command PipeAsk W PipeCall) → List (Reply (Answer PipeHeard) W K) → Type 0
+  abbrev pub SizesAddUp : {W : Type 0} {K : ℕ} → List (Option (PipeAsk (List ℕ))) → List ℕ → List (Command (PipeAsk (List ℕ)) W (PipeCall (List ℕ))) → List (Reply (Answer (PipeHeard (List ℕ))) W K) → Type 0
   SizesAddUp requests held commands replies = AddUpInRun Len FreeCapacity Number n IsHeld after (at_first requests held) commands replies

@@ -1,16 +1,31 @@
 //! The bytes of a command or of an answer: few of them, and no memory.
 ghost use Rattle.std.specs.Prelude.{◌≡◌, ◌≤◌, length, take};
 
+use std::alloc::AllocError;
 use std::marker::Model;
 
-/// At most 16 bytes, in order.
-#[derive(Clone, Copy, Debug, PartialEq, Eq)]
-pub struct Bytes {
-    row: [u8; 16],
+/// At most `L` bytes, in order.
+#[derive(Debug, PartialEq, Eq)]
+pub struct Bytes<const L: usize> {
+    row: [u8; L],
     len: usize,
 }
 
-impl Model for Bytes {
+impl<const L: usize> Clone for Bytes<L> {
+    ghost use Rattle.std.specs.Prelude.{◌≡◌};
+
+    ghost is_clone = { λ s r. r ≡ s };
+
+    ghost is_infallible = { λ _. Unit {0} };
+
+    fn clone(&self) -> Result<Self, AllocError> {
+        Ok(*self)
+    }
+}
+
+impl<const L: usize> Copy for Bytes<L> {}
+
+impl<const L: usize> Model for Bytes<L> {
     ghost use Rattle.std.specs.Prelude.{ℕ, List, take, length};
     ghost use Rattle.std.specs.Coded.{coded_list, coded_ℕ};
     ghost use Rattle.esync_pipe.specs.Padded.{padded, IsPadded};
@@ -21,21 +36,21 @@ impl Model for Bytes {
 
     ghost view = { λ a. take a.len a.row };
 
-    ghost invariant = { λ a. IsPadded a.row a.len };
+    ghost invariant = { λ a. IsPadded L a.row a.len };
 
-    ghost inverse = { λ bytes. record { row = padded bytes; len = length bytes } };
+    ghost inverse = { λ bytes. record { row = padded L bytes; len = length bytes } };
 }
 
-impl Bytes {
+impl<const L: usize> Bytes<L> {
     /// How many bytes there can be.
-    pub const CAPACITY: usize = 16;
+    pub const CAPACITY: usize = L;
 
-    /// The bytes of a slice: the first 16 where it has more.
+    /// The bytes of a slice: the first `L` where it has more.
     pub fn from_slice(bytes: &[u8]) -> Self
-        ensures { result ≡ take 16 bytes.now }
+        ensures { result ≡ take L bytes.now }
     {
-        let len = if bytes.len() < 16 { bytes.len() } else { 16 };
-        let mut row = [0; 16];
+        let len = if bytes.len() < L { bytes.len() } else { L };
+        let mut row = [0; L];
         row[..len].copy_from_slice(&bytes[..len]);
         Bytes { row, len }
     }
@@ -43,7 +58,7 @@ impl Bytes {
     /// The bytes.
     pub fn as_slice(&self) -> &[u8]
         ensures value { result.now ≡ self.now }
-        ensures within { length self.now ≤ 16 }
+        ensures within { length self.now ≤ L }
     {
         &self.row[..self.len]
     }

@@ -17,7 +17,7 @@ use Rattle.esync_words.specs.Text.{bytes_text}
 abbrev pub a_count : List (List ℕ) → Option ℕ
 a_count words = and_then (one 64 words) (below 17)
 
-abbrev pub pipe_asks : List ℕ → List (List ℕ) → Option PipeAsk
+abbrev pub pipe_asks : List ℕ → List (List ℕ) → Option (PipeAsk (List ℕ))
 pipe_asks name words =
     if is_text name (codes "write") then option_map (λ b. Write b) (row 16 words)
     else if is_text name (codes "write-all") then option_map (λ b. WriteAll b) (row 16 words)
@@ -25,7 +25,7 @@ pipe_asks name words =
     else if is_text name (codes "fill") then option_map (λ x. Fill) (nothing words)
     else None
 
-abbrev pub pipe_calls : List ℕ → List (List ℕ) → Option PipeCall
+abbrev pub pipe_calls : List ℕ → List (List ℕ) → Option (PipeCall (List ℕ))
 pipe_calls name words =
     if is_text name (codes "try-write") then option_map (λ b. TryWrite b) (row 16 words)
     else if is_text name (codes "try-read") then option_map (λ n. TryRead n) (a_count words)
@@ -45,7 +45,7 @@ abbrev pub tried_text : Result (List ℕ) TryReadError → List ℕ
 tried_text (Ok bytes) = codes "Ok(" ++ bytes_text bytes ++ codes ")"
 tried_text (Err Empty) = codes "Err(Empty)"
 
-abbrev pub pipe_text : PipeHeard → List ℕ
+abbrev pub pipe_text : PipeHeard (List ℕ) → List ℕ
 pipe_text (Wrote count) = codes "Ready(" ++ decimal count ++ codes ")"
 pipe_text WroteAll = codes "Ready"
 pipe_text (HasRead bytes) = ready_text bytes

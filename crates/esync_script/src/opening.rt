@@ -38,8 +38,7 @@ use esync_machine::run::Machine;
 use esync_permits::semaphore::machine::fair::FairRun;
 use esync_permits::semaphore::machine::greedy::GreedyRun;
 use esync_permits::semaphore::{FairState, GreedyState};
-use esync_pipe::pipe::PipeState;
-use esync_pipe::pipe::machine::PipeRun;
+use esync_pipe::pipe::machine::{PipeRows, PipeRun};
 use esync_priority::prio::{Kind, Max, Min, PrioQueue};
 use esync_pubsub::pubsub::machine::Events;
 use esync_pubsub::pubsub::{LogState, PubSubState};
@@ -197,12 +196,13 @@ fn fair<const N: usize>(permits: usize) -> FairRun<u64, N, REQS, 1>
     Requests::new(FairState::new(permits))
 }
 
-// An empty pipe of `N` bytes, with no request.
-fn pipe<const N: usize>() -> PipeRun<u64, N, REQS, 2>
-    ensures object { ⟦<PipeRun<u64, N, REQS, 2> as Machine>⟧.semantics.object result ≡ new_object an_empty_pipe }
-    ensures registrations { ⟦<PipeRun<u64, N, REQS, 2> as Machine>⟧.semantics.registrations result ≡ no_slot }
+// An empty pipe of `N` bytes, with rows of at most 16 and no request.
+fn pipe<const N: usize>() -> PipeRun<u64, N, 16, REQS, 2>
+    requires { N ≤ 16 }
+    ensures object { ⟦<PipeRun<u64, N, 16, REQS, 2> as Machine>⟧.semantics.object result ≡ new_object an_empty_pipe }
+    ensures registrations { ⟦<PipeRun<u64, N, 16, REQS, 2> as Machine>⟧.semantics.registrations result ≡ no_slot }
 {
-    Requests::new(PipeState::new())
+    Requests::new(PipeRows::new())
 }
 
 // A pub-sub channel in which nobody is, with four places for subscribers, of which the first message has this number, with no request.

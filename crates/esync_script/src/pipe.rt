@@ -12,8 +12,13 @@ use esync_words::vocabulary::{Place, Vocabulary};
 use esync_words::words::Words;
 use std::io::{self, Write};
 
+// How many bytes a command or an answer has at most.
+const PLACES: usize = 16;
+
+type Row = Bytes<PLACES>;
+
 // The bytes that the last word writes.
-fn read_bytes(words: Words<'_>) -> Option<Bytes>
+fn read_bytes(words: Words<'_>) -> Option<Row>
     ensures { result ≡ row 16 words.entry }
 {
     Some(Bytes::from_slice(words.bytes()?.as_slice()))
@@ -24,11 +29,11 @@ fn read_count(words: Words<'_>) -> Option<usize>
     ensures { result ≡ a_count words.entry }
 {
     let count = words.number()? as usize;
-    (count <= Bytes::CAPACITY).then_some(count)
+    (count <= PLACES).then_some(count)
 }
 
 // Prints the bytes that a request hears.
-fn print_ready<W: Write>(bytes: &Bytes, output: &mut W) -> io::Result<()>
+fn print_ready<W: Write>(bytes: &Row, output: &mut W) -> io::Result<()>
     ensures { OnOk result (Appends (W.contents output.old) (W.contents output.new) (ready_text bytes.now)) }
 {
     write!(output, "Ready(")?;
@@ -37,7 +42,7 @@ fn print_ready<W: Write>(bytes: &Bytes, output: &mut W) -> io::Result<()>
 }
 
 // Prints the bytes that a call that doesn't wait answers, or that there are none.
-fn print_tried<W: Write>(tried: &Result<Bytes, TryReadError>, output: &mut W) -> io::Result<()>
+fn print_tried<W: Write>(tried: &Result<Row, TryReadError>, output: &mut W) -> io::Result<()>
     ensures { OnOk result (Appends (W.contents output.old) (W.contents output.new) (tried_text tried.now)) }
 {
     match tried {
@@ -54,11 +59,11 @@ fn print_tried<W: Write>(tried: &Result<Bytes, TryReadError>, output: &mut W) ->
 pub struct PipeWords {}
 
 impl Vocabulary for PipeWords {
-    type Ask = PipeAsk;
+    type Ask = PipeAsk<Row>;
 
-    type Call = PipeCall;
+    type Call = PipeCall<Row>;
 
-    type Heard = PipeHeard;
+    type Heard = PipeHeard<Row>;
 
     ghost use Rattle.esync_script.specs.Pipe.{pipe_asks, pipe_calls, pipe_text};
 
@@ -68,7 +73,7 @@ impl Vocabulary for PipeWords {
 
     ghost text = { pipe_text };
 
-    fn ask(name: &str, words: Words<'_>) -> Option<PipeAsk> {
+    fn ask(name: &str, words: Words<'_>) -> Option<PipeAsk<Row>> {
         match name {
             "write" => Some(PipeAsk::Write(read_bytes(words)?)),
             "write-all" => Some(PipeAsk::WriteAll(read_bytes(words)?)),
@@ -78,7 +83,7 @@ impl Vocabulary for PipeWords {
         }
     }
 
-    fn call(name: &str, words: Words<'_>) -> Option<PipeCall> {
+    fn call(name: &str, words: Words<'_>) -> Option<PipeCall<Row>> {
         match name {
             "try-write" => Some(PipeCall::TryWrite(read_bytes(words)?)),
             "try-read" => Some(PipeCall::TryRead(read_count(words)?)),
@@ -91,7 +96,7 @@ impl Vocabulary for PipeWords {
         }
     }
 
-    fn print<W: Write>(heard: &PipeHeard, output: &mut W) -> io::Result<()> {
+    fn print<W: Write>(heard: &PipeHeard<Row>, output: &mut W) -> io::Result<()> {
         match heard {
             PipeHeard::Wrote(count) => write!(output, "Ready({count})"),
             PipeHeard::WroteAll => write!(output, "Ready"),

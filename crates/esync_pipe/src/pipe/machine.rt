@@ -1,5 +1,5 @@
 //! The pipe as a machine that takes commands.
-ghost use Rattle.std.specs.Prelude.{◌≡◌, ◌<◌, ◌++◌, [], None, is_ok, length, IfOk, OnErr};
+ghost use Rattle.std.specs.Prelude.{◌≡◌, ◌<◌, ◌≤◌, ◌++◌, [], None, is_ok, length, IfOk, OnErr};
 ghost use Rattle.esync_machine.specs.Runs.{GoodRun};
 ghost use Rattle.esync_machine.specs.Object.{Object, requests_meaning};
 ghost use Rattle.esync_machine.specs.Wakings.{IsHanded, called};
@@ -9,19 +9,21 @@ ghost use Rattle.esync_pipe.specs.Pipe.{slots_after_read, wakes_of_read};
 
 use super::{PipeState, TryReadError, TryWriteError, WriteAllRequest};
 use crate::bytes::Bytes;
-use esync_base::waitqueue::{Context, Poll, Wakes};
+use esync_base::kept::Kept;
+use esync_base::waitqueue::{Context, Poll, Registered, Wakes};
 use esync_machine::primitive::{Answer, Command, Primitive, Reach, Turn};
 use esync_machine::requests::Requests;
 use esync_machine::run::{Reply, run};
 use std::alloc::{AllocError, Global};
+use std::marker::Model;
 
-/// What a request on a pipe waits for.
+/// What a request on a pipe waits for. `B` are the rows of bytes that commands and answers carry.
 #[derive(Clone, Copy, Debug, PartialEq, Eq)]
-pub enum PipeAsk {
+pub enum PipeAsk<B> {
     /// To put some of the bytes in.
-    Write(Bytes),
+    Write(B),
     /// To put all of the bytes in, in as many polls as it takes.
-    WriteAll(Bytes),
+    WriteAll(B),
     /// To take out so many bytes, or fewer.
     Read(usize),
     /// For bytes, without taking them out.
@@ -30,8 +32,8 @@ pub enum PipeAsk {
 
 /// The other calls of a pipe.
 #[derive(Clone, Copy, Debug, PartialEq, Eq)]
-pub enum PipeCall {
-    TryWrite(Bytes),
+pub enum PipeCall<B> {
+    TryWrite(B),
     TryRead(usize),
     TryFill,
     Consume(usize),
@@ -40,35 +42,35 @@ pub enum PipeCall {
     FreeCapacity,
 }
 
-/// What a pipe answers. An answer has at most 16 bytes: a read of more asks for 16, and a fill shows the first 16.
+/// What a pipe answers.
 #[derive(Clone, Copy, Debug, PartialEq, Eq)]
-pub enum PipeHeard {
+pub enum PipeHeard<B> {
     /// So many bytes of the request are written.
     Wrote(usize),
     /// All bytes of the request are written.
     WroteAll,
     /// The bytes that the request took out.
-    HasRead(Bytes),
+    HasRead(B),
     /// The bytes that are there.
-    Filled(Bytes),
+    Filled(B),
     TryWrote(Result<usize, TryWriteError>),
-    HasTriedRead(Result<Bytes, TryReadError>),
-    TryFilled(Result<Bytes, TryReadError>),
+    HasTriedRead(Result<B, TryReadError>),
+    TryFilled(Result<B, TryReadError>),
     Number(usize),
 }
 
 // What a poll does, of each request.
 impl<W: Copy + Eq, const N: usize> PipeState<W, N> {
-    fn turn_write<const K: usize>(
+    fn turn_write<const L: usize, const K: usize>(
         &mut self,
-        bytes: Bytes,
+        bytes: Bytes<L>,
         cx: &Context<W>,
         wakes: &mut Wakes<W, K>,
-    ) -> Turn<PipeHeard, PipeAsk>
+    ) -> Turn<PipeHeard<Bytes<L>>, PipeAsk<Bytes<L>>>
         requires empty { wakes.old ≡ [] }
         requires room { 1 < K }
-        ensures allowed { Polls N self.old.ring (PipeAsk.Write bytes) result.answer self.new.ring result.place }
-        ensures exact { IsHanded (poll_hands W.eq N self.old.ring self.old.slots (PipeAsk.Write bytes) cx.now) wakes.new self.new.slots }
+        ensures allowed { Polls N self.old.ring (PipeAsk.Write bytes.entry) result.answer self.new.ring result.place }
+        ensures exact { IsHanded (poll_hands W.eq N self.old.ring self.old.slots (PipeAsk.Write bytes.entry) cx.now) wakes.new self.new.slots }
     {
         match self.try_write_with_context(Some(cx), bytes.as_slice(), wakes) {
             Ok(n) => Turn::over(PipeHeard::Wrote(n)),
@@ -76,16 +78,16 @@ impl<W: Copy + Eq, const N: usize> PipeState<W, N> {
         }
     }
 
-    fn turn_write_all<const K: usize>(
+    fn turn_write_all<const L: usize, const K: usize>(
         &mut self,
-        bytes: Bytes,
+        bytes: Bytes<L>,
         cx: &Context<W>,
         wakes: &mut Wakes<W, K>,
-    ) -> Turn<PipeHeard, PipeAsk>
+    ) -> Turn<PipeHeard<Bytes<L>>, PipeAsk<Bytes<L>>>
         requires empty { wakes.old ≡ [] }
         requires room { 1 < K }
-        ensures allowed { Polls N self.old.ring (PipeAsk.WriteAll bytes) result.answer self.new.ring result.place }
-        ensures exact { IsHanded (poll_hands W.eq N self.old.ring self.old.slots (PipeAsk.WriteAll bytes) cx.now) wakes.new self.new.slots }
+        ensures allowed { Polls N self.old.ring (PipeAsk.WriteAll bytes.entry) result.answer self.new.ring result.place }
+        ensures exact { IsHanded (poll_hands W.eq N self.old.ring self.old.slots (PipeAsk.WriteAll bytes.entry) cx.now) wakes.new self.new.slots }
     {
         let mut request = WriteAllRequest::new(bytes.as_slice());
         match request.poll_state(self, cx, wakes) {
@@ -94,13 +96,14 @@ impl<W: Copy + Eq, const N: usize> PipeState<W, N> {
         }
     }
 
-    fn turn_read<const K: usize>(
+    fn turn_read<const L: usize, const K: usize>(
         &mut self,
         count: usize,
         cx: &Context<W>,
         wakes: &mut Wakes<W, K>,
-    ) -> Turn<PipeHeard, PipeAsk>
+    ) -> Turn<PipeHeard<Bytes<L>>, PipeAsk<Bytes<L>>>
         requires empty { wakes.old ≡ [] }
+        requires row { N ≤ L }
         requires room { 1 < K }
         ensures allowed { Polls N self.old.ring (PipeAsk.Read count) result.answer self.new.ring result.place }
         ensures exact { IsHanded (poll_hands W.eq N self.old.ring self.old.slots (PipeAsk.Read count) cx.now) wakes.new self.new.slots }
@@ -111,12 +114,13 @@ impl<W: Copy + Eq, const N: usize> PipeState<W, N> {
         }
     }
 
-    fn turn_fill<const K: usize>(
+    fn turn_fill<const L: usize, const K: usize>(
         &mut self,
         cx: &Context<W>,
         wakes: &mut Wakes<W, K>,
-    ) -> Turn<PipeHeard, PipeAsk>
+    ) -> Turn<PipeHeard<Bytes<L>>, PipeAsk<Bytes<L>>>
         requires empty { wakes.old ≡ [] }
+        requires row { N ≤ L }
         requires room { 1 < K }
         ensures allowed { Polls N self.old.ring PipeAsk.Fill result.answer self.new.ring result.place }
         ensures exact { IsHanded (poll_hands W.eq N self.old.ring self.old.slots PipeAsk.Fill cx.now) wakes.new self.new.slots }
@@ -127,20 +131,22 @@ impl<W: Copy + Eq, const N: usize> PipeState<W, N> {
         }
     }
 
-    // Takes so many bytes out, or 16 where more are asked for.
-    fn read_row<const K: usize>(
+    // Takes so many bytes out, or all where more are asked for.
+    fn read_row<const L: usize, const K: usize>(
         &mut self,
         count: usize,
         waker: Option<W>,
         wakes: &mut Wakes<W, K>,
-    ) -> Result<Bytes, TryReadError>
-        requires { length wakes.old < K }
+    ) -> Result<Bytes<L>, TryReadError>
+        requires row { N ≤ L }
+        requires room { length wakes.old < K }
         ensures bytes { TakesOut N self.old.ring count result self.new.ring }
         ensures slots { self.new.slots ≡ slots_after_read W.eq N self.old.ring waker (is_ok result) self.old.slots }
         ensures wakes { wakes.new ≡ wakes.old ++ wakes_of_read W.eq N self.old.ring waker (is_ok result) self.old.slots }
     {
-        let mut row = [0; 16];
-        let places = if count < 16 { count } else { 16 };
+        let mut row = [0; L];
+        let held = self.len();
+        let places = if count < held { count } else { held };
         match self.read(&mut row[..places], waker, wakes) {
             Ok(n) => Ok(Bytes::from_slice(&row[..n])),
             Err(error) => Err(error),
@@ -148,15 +154,16 @@ impl<W: Copy + Eq, const N: usize> PipeState<W, N> {
     }
 
     // What a call does.
-    fn perform<const K: usize>(
+    fn perform<const L: usize, const K: usize>(
         &mut self,
-        call: PipeCall,
+        call: PipeCall<Bytes<L>>,
         wakes: &mut Wakes<W, K>,
-    ) -> Answer<PipeHeard>
+    ) -> Answer<PipeHeard<Bytes<L>>>
         requires empty { wakes.old ≡ [] }
+        requires row { N ≤ L }
         requires room { 1 < K }
-        ensures allowed { Calls N self.old.ring call result self.new.ring }
-        ensures exact { IsHanded (called (pipe_wakings W.eq N) self.old.ring self.old.slots call None result) wakes.new self.new.slots }
+        ensures allowed { Calls N self.old.ring call.entry result self.new.ring }
+        ensures exact { IsHanded (called (pipe_wakings W.eq N) self.old.ring self.old.slots call.entry None result) wakes.new self.new.slots }
     {
         match call {
             PipeCall::TryWrite(bytes) => {
@@ -176,8 +183,9 @@ impl<W: Copy + Eq, const N: usize> PipeState<W, N> {
         }
     }
 
-    // Shows the bytes that `try_fill_buf` shows, or the first 16 of them.
-    fn shown_row(&self) -> Result<Bytes, TryReadError>
+    // Shows the bytes that `try_fill_buf` shows.
+    fn shown_row<const L: usize>(&self) -> Result<Bytes<L>, TryReadError>
+        requires { N ≤ L }
         ensures { Fills N self.now.ring result self.now.ring }
     {
         match self.try_fill_buf() {
@@ -187,11 +195,11 @@ impl<W: Copy + Eq, const N: usize> PipeState<W, N> {
     }
 
     // Drops so many of the bytes that `try_fill_buf` shows, where there are so many.
-    fn consume_row<const K: usize>(
+    fn consume_row<const L: usize, const K: usize>(
         &mut self,
         count: usize,
         wakes: &mut Wakes<W, K>,
-    ) -> Answer<PipeHeard>
+    ) -> Answer<PipeHeard<Bytes<L>>>
         requires empty { wakes.old ≡ [] }
         requires room { 1 < K }
         ensures allowed { Calls N self.old.ring (PipeCall.Consume count) result self.new.ring }
@@ -206,16 +214,17 @@ impl<W: Copy + Eq, const N: usize> PipeState<W, N> {
 }
 
 // What a poll does.
-fn turn<W: Copy + Eq, const N: usize, const K: usize>(
+fn turn<W: Copy + Eq, const N: usize, const L: usize, const K: usize>(
     state: &mut PipeState<W, N>,
-    held: PipeAsk,
+    held: PipeAsk<Bytes<L>>,
     cx: &Context<W>,
     wakes: &mut Wakes<W, K>,
-) -> Turn<PipeHeard, PipeAsk>
+) -> Turn<PipeHeard<Bytes<L>>, PipeAsk<Bytes<L>>>
     requires empty { wakes.old ≡ [] }
+    requires row { N ≤ L }
     requires room { 1 < K }
-    ensures allowed { Polls N state.old.ring held result.answer state.new.ring result.place }
-    ensures exact { IsHanded (poll_hands W.eq N state.old.ring state.old.slots held cx.now) wakes.new state.new.slots }
+    ensures allowed { Polls N state.old.ring held.entry result.answer state.new.ring result.place }
+    ensures exact { IsHanded (poll_hands W.eq N state.old.ring state.old.slots held.entry cx.now) wakes.new state.new.slots }
 {
     match held {
         PipeAsk::Write(bytes) => state.turn_write(bytes, cx, wakes),
@@ -225,14 +234,76 @@ fn turn<W: Copy + Eq, const N: usize, const K: usize>(
     }
 }
 
-impl<W: Copy + Eq, const N: usize, const K: usize> Primitive<K> for PipeState<W, N> {
-    type Ask = PipeAsk;
+/// The state of a pipe as its machine has it: commands and answers carry rows of at most `L` bytes. `L` is at least `N`, so that an
+/// answer has room for all bytes that the pipe holds.
+#[derive(Debug, Drop)]
+pub struct PipeRows<W, const N: usize, const L: usize> {
+    state: PipeState<W, N>,
+    ghost room: { N ≤ L },
+}
 
-    type Held = PipeAsk;
+impl<W, const N: usize, const L: usize> Model for PipeRows<W, N, L> {
+    ghost use Rattle.esync_pipe.specs.Piped.{Piped, piped_code};
 
-    type Call = PipeCall;
+    ghost Value = { Piped W };
 
-    type Heard = PipeHeard;
+    ghost coded = { piped_code W.code };
+
+    ghost view = { λ a. a.state };
+}
+
+impl<W: Copy, const N: usize, const L: usize> Kept for PipeRows<W, N, L> {
+    fn kept(&self) -> Result<Self, AllocError> {
+        Ok(PipeRows {
+            state: self.state.kept()?,
+        })
+    }
+}
+
+/// Who waits for bytes, and who waits for room.
+impl<W: Copy + Eq, const N: usize, const L: usize> Registered for PipeRows<W, N, L> {
+    type Waker = W;
+
+    ghost use Rattle.esync_base.specs.Standing.{at_two};
+
+    ghost at = { λ m. at_two m.slots.readers m.slots.writers };
+
+    fn registered(&self, place: usize, i: usize) -> Option<W> {
+        self.state.registered(place, i)
+    }
+}
+
+impl<W: Copy + Eq, const N: usize, const L: usize> PipeRows<W, N, L> {
+    /// No byte, and nobody who waits. `L` has to be at least `N`.
+    pub fn new() -> Self
+        requires { N ≤ L }
+        ensures items { result.ring.items ≡ [] }
+        ensures front { result.ring.front ≡ 0 }
+        ensures readers { result.slots.readers ≡ [] }
+        ensures writers { result.slots.writers ≡ [] }
+    {
+        PipeRows {
+            state: PipeState::new(),
+        }
+    }
+
+    /// The state.
+    pub fn state(&self) -> &PipeState<W, N>
+        ensures { result.now ≡ self.now }
+    {
+        &self.state
+    }
+}
+
+impl<W: Copy + Eq, const N: usize, const L: usize, const K: usize> Primitive<K>
+    for PipeRows<W, N, L> {
+    type Ask = PipeAsk<Bytes<L>>;
+
+    type Held = PipeAsk<Bytes<L>>;
+
+    type Call = PipeCall<Bytes<L>>;
+
+    type Heard = PipeHeard<Bytes<L>>;
 
     type Waker = W;
 
@@ -255,36 +326,36 @@ impl<W: Copy + Eq, const N: usize, const K: usize> Primitive<K> for PipeState<W,
 
     ghost Apart = { λ ask other. Unit };
 
-    fn begin(&self, ask: PipeAsk) -> Option<PipeAsk> {
+    fn begin(&self, ask: PipeAsk<Bytes<L>>) -> Option<PipeAsk<Bytes<L>>> {
         Some(ask)
     }
 
     fn poll(
         &mut self,
-        held: PipeAsk,
+        held: PipeAsk<Bytes<L>>,
         waker: W,
         wakes: &mut Wakes<W, K>,
-    ) -> Turn<PipeHeard, PipeAsk> {
-        turn(self, held, &Context::from_waker(waker), wakes)
+    ) -> Turn<PipeHeard<Bytes<L>>, PipeAsk<Bytes<L>>> {
+        turn(&mut self.state, held, &Context::from_waker(waker), wakes)
     }
 
-    fn end(&mut self, _held: PipeAsk, _wakes: &mut Wakes<W, K>) {}
+    fn end(&mut self, _held: PipeAsk<Bytes<L>>, _wakes: &mut Wakes<W, K>) {}
 
-    fn reach(_call: &PipeCall) -> Reach {
+    fn reach(_call: &PipeCall<Bytes<L>>) -> Reach {
         Reach::Nobody
     }
 
-    fn leaves(&self, _call: &PipeCall, _held: &PipeAsk) -> bool {
+    fn leaves(&self, _call: &PipeCall<Bytes<L>>, _held: &PipeAsk<Bytes<L>>) -> bool {
         false
     }
 
     fn call(
         &mut self,
-        call: PipeCall,
-        _place: &mut Option<PipeAsk>,
+        call: PipeCall<Bytes<L>>,
+        _place: &mut Option<PipeAsk<Bytes<L>>>,
         wakes: &mut Wakes<W, K>,
-    ) -> Answer<PipeHeard> {
-        self.perform(call, wakes)
+    ) -> Answer<PipeHeard<Bytes<L>>> {
+        self.state.perform(call, wakes)
     }
 
     ghost use Rattle.esync_pipe.specs.PipeLaws.{pipe_idle, pipe_pending};
@@ -302,18 +373,18 @@ impl<W: Copy + Eq, const N: usize, const K: usize> Primitive<K> for PipeState<W,
     ghost no_requests = { all_requests (pipe_rules N) (λ h. tt) (λ o o2 call p p2 a c. c.1) };
 }
 
-/// A pipe of at most `N` bytes as a machine, with requests at the numbers below `REQS`.
-pub type PipeRun<W, const N: usize, const REQS: usize, const K: usize> = Requests<
-    PipeState<W, N>,
+/// A pipe of at most `N` bytes as a machine, with rows of at most `L` bytes, at least `N`, and requests at the numbers below `REQS`.
+pub type PipeRun<W, const N: usize, const L: usize, const REQS: usize, const K: usize> = Requests<
+    PipeRows<W, N, L>,
     REQS,
     K,
 >;
 
 /// The commands of a pipe.
-pub type PipeCommand<W> = Command<PipeAsk, W, PipeCall>;
+pub type PipeCommand<W, const L: usize> = Command<PipeAsk<Bytes<L>>, W, PipeCall<Bytes<L>>>;
 
 /// What a pipe answers to a command, with the wakers that it hands out.
-pub type PipeReply<W, const K: usize> = Reply<Answer<PipeHeard>, W, K>;
+pub type PipeReply<W, const L: usize, const K: usize> = Reply<Answer<PipeHeard<Bytes<L>>>, W, K>;
 
 /// Gives the commands to the pipe, one after another, as `run` does.
 ///
@@ -322,11 +393,11 @@ pub type PipeReply<W, const K: usize> = Reply<Answer<PipeHeard>, W, K>;
 /// hands out its own waker. What is written comes out in order: the bytes that the run read, consumed or cleared, and then those that
 /// are held, are those held at first and those that it wrote, in order. And its sizes add up: the length is the number of bytes that
 /// were written and not taken, and the free capacity what it lacks to `N`.
-pub fn run_pipe<W: Copy + Eq, const N: usize, const REQS: usize, const K: usize>(
+pub fn run_pipe<W: Copy + Eq, const N: usize, const L: usize, const REQS: usize, const K: usize>(
     alloc: Global,
-    machine: &mut PipeRun<W, N, REQS, K>,
-    commands: Vec<PipeCommand<W>>,
-) -> Result<Vec<PipeReply<W, K>>, AllocError>
+    machine: &mut PipeRun<W, N, L, REQS, K>,
+    commands: Vec<PipeCommand<W, L>>,
+) -> Result<Vec<PipeReply<W, L, K>>, AllocError>
     ensures run { IfOk result (λ replies. GoodRun (requests_meaning (pipe_rules N) (pipe_wakings W.eq N) W.eq K) (record { core = machine.old.state.ring; requests = machine.old.requests }) machine.old.state.slots commands.items replies.items (record { core = machine.new.state.ring; requests = machine.new.requests }) machine.new.state.slots) }
     ensures order { IfOk result (λ replies. InOrder N machine.old.requests machine.old.state.ring.items commands.items replies.items machine.new.state.ring.items) }
     ensures sizes { IfOk result (λ replies. SizesAddUp N machine.old.requests machine.old.state.ring.items commands.items replies.items) }

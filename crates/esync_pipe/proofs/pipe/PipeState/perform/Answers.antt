@@ -3,13 +3,13 @@ use Rattle.esync_pipe.proofs.Kept.{from_none, taken_if, written_if}
 use Rattle.esync_pipe.proofs.pipe.PipeState.perform.Goals as goal
 
 pub try_write-requires : goal.try_write-requires
-try_write-requires g c = (c.requires-raw.1.1.1.0, (c.requires-raw.1.1.1.1.0, rw c.requires.empty (omega (arith, c.requires.room))))
+try_write-requires g c = (c.requires-raw.1.1.1.1.0, (c.requires-raw.1.1.1.1.1.1.0, rw c.requires.empty (omega (arith, c.requires.room))))
 
 pub read_row-requires : goal.read_row-requires
-read_row-requires g c = (c.requires-raw.1.1.1.0, (c.requires-raw.1.1.1.1.0, rw c.requires.empty (omega (arith, c.requires.room))))
+read_row-requires g c = (c.requires-raw.1.1.1.1.0, (c.requires-raw.1.1.1.1.1.1.0, (c.requires-raw.1.1.1.1.1.0, (c.requires.row, rw c.requires.empty (omega (arith, c.requires.room))))))
 
 pub clear-requires : goal.clear-requires
-clear-requires g c = (c.requires-raw.1.1.1.0, (c.requires-raw.1.1.1.1.0, rw c.requires.empty (omega (arith, c.requires.room))))
+clear-requires g c = (c.requires-raw.1.1.1.1.0, (c.requires-raw.1.1.1.1.1.1.0, rw c.requires.empty (omega (arith, c.requires.room))))
 
 pub returns-in-TryWrite-clause-exact : goal.returns-in-TryWrite-clause-exact
 returns-in-TryWrite-clause-exact g c =

@@ -14,5 +14,5 @@ returns-in-Pending-clause-allowed g c =
     let d = length-drop k bytes in
     let w = c.as_slice.ensures.within in
     let rest : c.rest.result.now ≡ drop k bytes = c.rest.ensures ∙ ap rest_of b.2 in
-    let row : c.from_slice.result ≡ drop k bytes = c.from_slice.ensures ∙ ap (take 16) rest ∙ take_all 16 (drop k bytes) (omega arith) in
+    let row : c.from_slice.result ≡ drop k bytes = c.from_slice.ensures ∙ ap (take g.row.L) rest ∙ take_all g.row.L (drop k bytes) (omega arith) in
     rw (b.0, PollsWriteAll) (c.waits.ensures.answer, b.1, c.waits.ensures.place ∙ ap (λ l. Some (WriteAll l)) row, full g.row.N c.poll_state.new.state.ring b.3)
