@@ -10,4 +10,3 @@ pub mod Unread
 pub mod Advance
 pub mod Order
 pub mod Parts
-pub mod Sizes

@@ -1,14 +1,15 @@
--- A subscriber reads what was published since it came, in order.
-use Rattle.std.proofs.Common.{◌≡◌, ℕ, zero, suc, ◌-◌, ◌==◌, Bool, true, false, List, [], ◌∷◌, ◌++◌, length, drop, replicate, Option, Some, None, inl, inr, refl, sym, ap, ◌∙◌, subst, arith}
+-- A subscriber reads what was published since it came, in order; it is told truly how much is unread, and the channel's sizes add up.
+use Rattle.std.proofs.Common.{◌≡◌, ℕ, zero, suc, ◌+◌, ◌-◌, ◌==◌, Bool, true, false, List, [], ◌∷◌, ◌++◌, length, drop, replicate, Option, Some, None, inl, inr, refl, sym, ap, ◌∙◌, subst, arith}
 use Rattle.std.specs.Prelude.{is_some, nat_lt, slice_get, slice_set, slice_index_or, if◌then◌else◌, IfSome, Ok, Err}
 use Rattle.std.specs.List.{list_any}
 use Rattle.std.proofs.lemmas.List.{length_push, length-replicate, drop_all, get_or-set_same, get_or-set_other}
 use Rattle.esync_base.specs.ListedLaws.{same_number, equal_number}
-use Rattle.esync_machine.specs.AccountLaws.{of_any_kind, ask_of-started, ask_of-other, KeepsEach, keeps_each, told_requests, law_requests, IsTold, HasLaw}
+use Rattle.esync_machine.specs.AccountLaws.{of_any_kind, asked_at_first, ask_of-started, ask_of-other, KeepsEach, keeps_each, told_requests, law_requests, IsTold, HasLaw}
 use Rattle.esync_machine.specs.Account.{ask_of, asked_after}
+use Rattle.esync_machine.specs.SizesLaws.{TellsSizes, sizes_requests}
 use Rattle.esync_machine.specs.Runs.{GoodRun}
 use Rattle.esync_machine.specs.Numbers.{at_number}
-use Rattle.esync_machine.specs.NumbersLaws.{nothing_there, at_of, at_set_here, at_set_other}
+use Rattle.esync_machine.specs.NumbersLaws.{at_of, at_set_here, at_set_other}
 use Rattle.esync_machine.specs.Object.{Object, requests_meaning}
 use Rattle.esync_machine.specs.ObjectLaws.{EachStep}
 use Rattle.esync_machine.specs.Rules.{Rules}
@@ -25,6 +26,7 @@ use Rattle.esync_pubsub.specs.PubSub.{PubSub}
 use Rattle.esync_pubsub.specs.PubSubRules.{Topic, topic_of, place_at, is_subscriber, is_free, is_publisher, names_it, reach, rest_of, departed, WithLog, Begins, IsBelow, PollsLog, Polls, Comes, Counts, TriesPublish, AtOnce, Tries, TriesPure, Calls, pubsub_rules}
 use Rattle.esync_pubsub.specs.Advance.{gone, topic_after, topic_after_poll}
 use Rattle.esync_pubsub.specs.Order.{Reading, Told, Account, and, published_by_poll, published_by_call, reading_of, pure_reading_of, read_by_poll, read_by_call, more, told_by_call, told_after, after, known_at_first, AreUnread, Follow, HasRead, ReadsInOrder, unread_by_poll, unread_by_call, unread_told, HasUnread, CountsUnread}
+use Rattle.esync_pubsub.specs.Sizes.{IsHeld, SizesAddUp}
 use Rattle.esync_log.specs.declared.log.TryPublishError.TheVariants.{Full, Exhausted}
 use Rattle.esync_pubsub.specs.declared.pubsub.Error.TheVariants.{MaximumSubscribersReached, MaximumPublishersReached}
 use Rattle.esync_log.specs.declared.log.WaitResult.{WaitResult}
@@ -34,7 +36,7 @@ use Rattle.esync_pubsub.specs.declared.pubsub.machine.PubSubAsk.TheVariants.{Pub
 use Rattle.esync_pubsub.specs.declared.pubsub.machine.PubSubCall.{PubSubCall}
 use Rattle.esync_pubsub.specs.declared.pubsub.machine.PubSubCall.TheVariants.{Join, Leave, Publisher, Retire, TryPublish, Immediate, Next, NextPure, Available, Clear, Len, FreeCapacity}
 use Rattle.esync_pubsub.specs.declared.pubsub.machine.PubSubHeard.{PubSubHeard}
-use Rattle.esync_pubsub.specs.declared.pubsub.machine.PubSubHeard.TheVariants.{Published, Read, ReadPure, Streamed, Came, TriedPublish, PublishedAtOnce, Tried, TriedPure, Unread}
+use Rattle.esync_pubsub.specs.declared.pubsub.machine.PubSubHeard.TheVariants.{Published, Read, ReadPure, Streamed, Came, TriedPublish, PublishedAtOnce, Tried, TriedPure, Unread, Number}
 use Rattle.esync_pubsub.proofs.Advance.{no_poll as no_topic_poll, no_call as no_topic_call, topic_polled, topic_called}
 use Rattle.esync_pubsub.proofs.Calls.{where_done}
 use Rattle.esync_pubsub.proofs.Kept.{GoesOn, read_goes, pure_goes}
@@ -555,17 +557,27 @@ module _ {T : Type 0} (C : T → T → Type 0) (names s : ℕ) where
       leaves = λ o call a core p reach calls k kind told. called_so o.core core k told.core.stands call a calls.0;
     }
 
-    module _ (H : Wakings (Topic T) (PubSubAsk T) (PubSubCall T) (PubSubHeard T) W) (eq : W → W → Bool) (K REQS : ℕ) (o o2 : Object (Topic T) (PubSubAsk T)) (g g2 : H.Registered) (cs : List (Command (PubSubAsk T) W (PubSubCall T))) (as' : List (Reply (Answer (PubSubHeard T)) W K)) (run : GoodRun (requests_meaning rules H eq K) o g cs as' o2 g2) (free : o.requests ≡ replicate REQS None) (whole : IsWhole names o.core) where
-      at_first : IsTold rules (λ c. Unit {0}) (after {W = W} cap s) On IsKnown o (known_at_first o.core)
+    -- a size that is told is that of the channel
+    tells : TellsSizes rules (after {W = W} cap s) Len FreeCapacity Number cap IsHeld On IsKnown
+    tells = record {
+      held = λ o o2 k p p2 n calls on. (let t = calls.0.0 in let e : n ≡ length o.log.held = cc in subst (λ x. n ≡ length x.log.held) (sym on.same) e);
+      free = λ o o2 k p p2 n calls on. (let t = calls.0.1 in let f = calls.0.2 in let e : n ≡ calls.0.0 = cc in (length o.log.held, ap (λ x. length x.log.held) (sym on.same), subst (λ x. x + length o.log.held ≡ cap) (sym e) f));
+    }
+
+    module _ (H : Wakings (Topic T) (PubSubAsk T) (PubSubCall T) (PubSubHeard T) W) (eq : W → W → Bool) (K : ℕ) (o o2 : Object (Topic T) (PubSubAsk T)) (g g2 : H.Registered) (cs : List (Command (PubSubAsk T) W (PubSubCall T))) (as' : List (Reply (Answer (PubSubHeard T)) W K)) (run : GoodRun (requests_meaning rules H eq K) o g cs as' o2 g2) (whole : IsWhole names o.core) where
+      at_first : IsTold rules (λ c. Unit {0}) (after {W = W} cap s) On IsKnown o (known_at_first o.requests o.core)
       at_first = record {
         core = record { stands = record { whole = whole; reads = tt }; same = refl };
-        here = λ r ask e. absurd (nothing_there REQS r ask (subst (λ q. at_number q r ≡ Some ask) free e));
+        here = asked_at_first o.requests;
       }
 
-      pub in_order : ReadsInOrder C cap s o.core cs as' o2.core
+      pub in_order : ReadsInOrder C cap s o.requests o.core cs as' o2.core
       in_order =
-          let told = told_requests rules (λ c. Unit {0}) (after cap s) H eq K (keeps_each rules (λ c. Unit {0}) (after cap s) keeps) o o2 g g2 (known_at_first o.core) cs as' (of_any_kind cs) run at_first in
+          let told = told_requests rules (λ c. Unit {0}) (after cap s) H eq K (keeps_each rules (λ c. Unit {0}) (after cap s) keeps) o o2 g g2 (known_at_first o.requests o.core) cs as' (of_any_kind cs) run at_first in
           (told.core.same, told.core.stands.reads)
 
-      pub counts_unread : CountsUnread C cap s o.core cs as'
-      counts_unread = law_requests rules (λ c. Unit {0}) (after cap s) H eq K (keeps_each rules (λ c. Unit {0}) (after cap s) keeps) so o o2 g g2 (known_at_first o.core) cs as' (of_any_kind cs) run at_first
+      pub counts_unread : CountsUnread C cap s o.requests o.core cs as'
+      counts_unread = law_requests rules (λ c. Unit {0}) (after cap s) H eq K (keeps_each rules (λ c. Unit {0}) (after cap s) keeps) so o o2 g g2 (known_at_first o.requests o.core) cs as' (of_any_kind cs) run at_first
+
+      pub sizes_add_up : SizesAddUp cap s o.requests o.core cs as'
+      sizes_add_up = sizes_requests rules (after cap s) Len FreeCapacity Number cap IsHeld On IsKnown tells H eq K keeps o o2 g g2 (known_at_first o.requests o.core) cs as' run at_first

@@ -1,7 +1,7 @@
--- A subscriber reads what was published since it came, in order, but for just the messages that were gone: told of the channel at first,
--- and of the commands and their answers.
+-- A subscriber reads what was published since it came, in order, but for just the messages that were gone: told of the channel and its
+-- requests at first, and of the commands and their answers.
 use Rattle.std.specs.Prelude.{◌≡◌, ℕ, ◌+◌, ◌-◌, ◌≤◌, ◌==◌, ◌⊎◌, true, List, [], ◌∷◌, ◌++◌, length, drop, Option, Some, None, IfSome, Ok, if◌then◌else◌}
-use Rattle.esync_machine.specs.Account.{account, AtEach, ask_of, asked_after}
+use Rattle.esync_machine.specs.Account.{account, AtEach, ask_of, asked_from, asked_after}
 use Rattle.esync_machine.specs.declared.run.Reply.{Reply}
 use Rattle.esync_machine.specs.declared.primitive.Answer.{Answer}
 use Rattle.esync_machine.specs.declared.primitive.Answer.TheVariants.{Done, Pending, Gives}
@@ -31,7 +31,7 @@ pub record Told (T : Type 0) : Type 0 where
   -- what it was told, in order
   pub readings : List (Reading T)
 
--- what is known from the channel at first and from the commands and answers, for one subscriber
+-- what is known from the channel and its requests at first and from the commands and answers, for one subscriber
 pub record Account (T : Type 0) : Type 0 where
   -- what each request was started for
   pub asked : List (ℕ × PubSubAsk T)
@@ -107,9 +107,9 @@ module _ {T : Type 0} where
   abbrev pub after : {W : Type 0} → ℕ → ℕ → Account T → Command (PubSubAsk T) W (PubSubCall T) → Answer (PubSubHeard T) → Account T
   after cap s k c a = record { asked = asked_after k.asked c a; topic = topic_after cap k.asked k.topic c a; told = told_after s (gone s k.topic) k c a }
 
-  -- what is known at first of a channel without requests, whoever came to it before
-  abbrev pub known_at_first : Topic T → Account T
-  known_at_first o = record { asked = []; topic = o; told = None }
+  -- what is known at first of a channel with these requests, whoever came to it before
+  abbrev pub known_at_first : List (Option (PubSubAsk T)) → Topic T → Account T
+  known_at_first requests o = record { asked = asked_from 0 requests; topic = o; told = None }
 
   -- those behind the one that is given
   abbrev pub behind : Option T → List T → List T
@@ -159,19 +159,19 @@ module _ {T : Type 0} where
       pub follow : Follow k.published k.readings unread
       pub rest : AreUnread (place_at s o) o.log unread
 
-    -- of a channel o without requests at first, of at most cap messages, and o2 at last: the answers tell o2, and what the subscriber with
-    -- the number s was given since it came, each message itself or a clone, and what was gone when it read, are in order what was
+    -- of a channel o with these requests at first, of at most cap messages, and o2 at last: the answers tell o2, and what the subscriber
+    -- with the number s was given since it came, each message itself or a clone, and what was gone when it read, are in order what was
     -- published since then, up to its position
-    abbrev pub ReadsInOrder : {W : Type 0} {K : ℕ} → ℕ → ℕ → Topic T → List (Command (PubSubAsk T) W (PubSubCall T)) → List (Reply (Answer (PubSubHeard T)) W K) → Topic T → Type 0
-    ReadsInOrder cap s o commands replies o2 =
-        let k = account (λ k c a. after cap s k c a.answer) (known_at_first o) commands replies in
+    abbrev pub ReadsInOrder : {W : Type 0} {K : ℕ} → ℕ → ℕ → List (Option (PubSubAsk T)) → Topic T → List (Command (PubSubAsk T) W (PubSubCall T)) → List (Reply (Answer (PubSubHeard T)) W K) → Topic T → Type 0
+    ReadsInOrder cap s requests o commands replies o2 =
+        let k = account (λ k c a. after cap s k c a.answer) (known_at_first requests o) commands replies in
         (k.topic ≡ o2) × IfSome k.told (λ t. HasRead s o2 t)
 
     -- so many messages are unread
     abbrev pub HasUnread : ℕ → Told T → Type 0
     HasUnread n k = (unread : List T) × Follow k.published k.readings unread × (length unread ≡ n)
 
-    -- of a channel o without requests at first: each answer that tells the subscriber how many messages are unread, or that there is none, is so
-    abbrev pub CountsUnread : {W : Type 0} {K : ℕ} → ℕ → ℕ → Topic T → List (Command (PubSubAsk T) W (PubSubCall T)) → List (Reply (Answer (PubSubHeard T)) W K) → Type 0
-    CountsUnread cap s o commands replies =
-        AtEach (λ k c a. after cap s k c a.answer) (λ k c a. IfSome (unread_told s k c a.answer) (λ n. IfSome k.told (HasUnread n))) (known_at_first o) commands replies
+    -- of a channel o with these requests at first: each answer that tells the subscriber how much is unread, or that there is nothing, is so
+    abbrev pub CountsUnread : {W : Type 0} {K : ℕ} → ℕ → ℕ → List (Option (PubSubAsk T)) → Topic T → List (Command (PubSubAsk T) W (PubSubCall T)) → List (Reply (Answer (PubSubHeard T)) W K) → Type 0
+    CountsUnread cap s requests o commands replies =
+        AtEach (λ k c a. after cap s k c a.answer) (λ k c a. IfSome (unread_told s k c a.answer) (λ n. IfSome k.told (HasUnread n))) (known_at_first requests o) commands replies

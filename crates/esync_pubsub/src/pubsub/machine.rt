@@ -844,11 +844,11 @@ pub type PubSubReply<T, W, const K: usize> = Reply<Answer<PubSubHeard<T>>, W, K>
 /// nothing hands out its own waker. Who leaves or retires ends its requests first.
 ///
 /// From its coming on, what a subscriber reads, and just what was gone when it read, is what was published since then, in order, up to its
-/// position. The number that was gone follows from the channel at entry, the commands and the answers. What the subscriber is told of how
-/// much is unread is so.
+/// position. The number that was gone follows from the channel and the requests at entry, the commands and the answers. What the subscriber
+/// is told of how much is unread is so.
 ///
-/// And the channel's sizes add up: a length and a free capacity make up `CAP`, as long as no message is published or given between them, no
-/// subscriber leaves, and nothing is cleared.
+/// And the channel's sizes add up: how many messages it holds at each answer follows from the channel and the requests at entry, the
+/// commands and the answers. A length is that number, and a free capacity makes up `CAP` with it.
 pub fn run_pubsub<
     T: Clone,
     W: Copy + Eq,
@@ -864,9 +864,9 @@ pub fn run_pubsub<
     commands: Vec<PubSubCommand<T, W>>,
 ) -> Result<Vec<PubSubReply<T, W, K>>, AllocError>
     ensures run { IfOk result (λ replies. GoodRun (requests_meaning (pubsub_rules T.is_clone T.is_infallible CAP PUBS) (pubsub_wakings W.eq SUBS PUBS) W.eq K) (record { core = topic_of machine.old.state.state machine.old.state.tables; requests = machine.old.requests }) machine.old.state.state.lists commands.items replies.items (record { core = topic_of machine.new.state.state machine.new.state.tables; requests = machine.new.requests }) machine.new.state.state.lists) }
-    ensures order { IfOk result (λ replies. machine.old.requests ≡ replicate REQS None → (s : ℕ) → ReadsInOrder T.is_clone CAP s (topic_of machine.old.state.state machine.old.state.tables) commands.items replies.items (topic_of machine.new.state.state machine.new.state.tables)) }
-    ensures counts { IfOk result (λ replies. machine.old.requests ≡ replicate REQS None → (s : ℕ) → CountsUnread T.is_clone CAP s (topic_of machine.old.state.state machine.old.state.tables) commands.items replies.items) }
-    ensures sizes { IfOk result (λ replies. SizesAddUp CAP (length machine.old.state.state.log.held) commands.items replies.items) }
+    ensures order { IfOk result (λ replies. (s : ℕ) → ReadsInOrder T.is_clone CAP s machine.old.requests (topic_of machine.old.state.state machine.old.state.tables) commands.items replies.items (topic_of machine.new.state.state machine.new.state.tables)) }
+    ensures counts { IfOk result (λ replies. (s : ℕ) → CountsUnread T.is_clone CAP s machine.old.requests (topic_of machine.old.state.state machine.old.state.tables) commands.items replies.items) }
+    ensures sizes { IfOk result (λ replies. (s : ℕ) → SizesAddUp CAP s machine.old.requests (topic_of machine.old.state.state machine.old.state.tables) commands.items replies.items) }
     ensures refused { OnErr result (machine.new ≡ machine.old) }
 {
     machine.state().named();
