@@ -13,6 +13,7 @@ use futures::spin::lock;
 use futures::task::{Context as TaskContext, Poll as TaskPoll, Source, Waker};
 use futures::{Sink, Stream};
 use std::alloc::{AllocError, Global};
+use std::marker::Model;
 use std::sync::{Mutex, Wait};
 
 /// Where a task of `futures` leaves its waker.
@@ -142,6 +143,16 @@ pub struct SinkAdapter<'h, 's, B: PubSubBehavior<Waker = TaskId>> {
     registration: &'h Registration,
 }
 
+impl<'h, 's, B: PubSubBehavior<Waker = TaskId>> Model for SinkAdapter<'h, 's, B> {
+    ghost use Rattle.esync_streams.specs.Told.{Adapter, adapter_code};
+
+    ghost Value = { Adapter B.Message };
+
+    ghost coded = { adapter_code B.Message.code };
+
+    ghost view = { λ a. record { stored = a.sink; source = a.registration.now.source.id } };
+}
+
 impl<'h, 's, B: PubSubBehavior<Waker = TaskId>> SinkAdapter<'h, 's, B> {
     /// The sink of a publisher, whose channel wakes by this hand. Whoever polls the adapter leaves its waker at the task's place.
     /// `None` where the hand has no such place.
@@ -174,11 +185,11 @@ fn told<A>(poll: Poll<A>) -> TaskPoll<A>
 impl<B: PubSubBehavior<Waker = TaskId>> Sink<B::Message> for SinkAdapter<'_, '_, B> {
     type Error = Exhausted<B::Message>;
 
-    ghost is_flushed = { λ adapter. adapter.sink ≡ None };
+    ghost is_flushed = { λ adapter. adapter.stored ≡ None };
 
-    ghost is_closed = { λ adapter. adapter.sink ≡ None };
+    ghost is_closed = { λ adapter. adapter.stored ≡ None };
 
-    ghost needs = { λ adapter s. s ≡ adapter.registration.now.source.id };
+    ghost needs = { λ adapter s. s ≡ adapter.source };
 
     /// Publishes the stored message. Ready once none is stored; Pending while the channel is full.
     ///
@@ -186,8 +197,8 @@ impl<B: PubSubBehavior<Waker = TaskId>> Sink<B::Message> for SinkAdapter<'_, '_,
     ///
     /// `Exhausted` with the stored message where the numbers of messages have run out. No message is stored then.
     fn poll_ready(&mut self, cx: &mut TaskContext<'_>) -> TaskPoll<Result<(), Self::Error>>
-        ensures flushes { Flushes self.old.sink (as_poll result) self.new.sink }
-        ensures registered { OnPending result (Covers cx.new (λ s. s ≡ self.new.registration.now.source.id)) }
+        ensures flushes { Flushes self.old.stored (as_poll result) self.new.stored }
+        ensures registered { OnPending result (Covers cx.new (λ s. s ≡ self.new.source)) }
         ensures kept { Keeps cx.old cx.new }
     {
         self.registration.register(cx);
@@ -197,7 +208,7 @@ impl<B: PubSubBehavior<Waker = TaskId>> Sink<B::Message> for SinkAdapter<'_, '_,
     /// Stores a message, which is never refused. One that is still stored is replaced, and lost.
     fn start_send(&mut self, item: B::Message) -> Result<(), Self::Error>
         ensures accepted { result ≡ Ok tt }
-        ensures stored { self.new.sink ≡ Some item }
+        ensures stored { self.new.stored ≡ Some item }
     {
         self.sink.start_send(item);
         Ok(())
@@ -209,8 +220,8 @@ impl<B: PubSubBehavior<Waker = TaskId>> Sink<B::Message> for SinkAdapter<'_, '_,
     ///
     /// `Exhausted` with the stored message where the numbers of messages have run out. No message is stored then.
     fn poll_flush(&mut self, cx: &mut TaskContext<'_>) -> TaskPoll<Result<(), Self::Error>>
-        ensures flushes { Flushes self.old.sink (as_poll result) self.new.sink }
-        ensures registered { OnPending result (Covers cx.new (λ s. s ≡ self.new.registration.now.source.id)) }
+        ensures flushes { Flushes self.old.stored (as_poll result) self.new.stored }
+        ensures registered { OnPending result (Covers cx.new (λ s. s ≡ self.new.source)) }
         ensures kept { Keeps cx.old cx.new }
     {
         self.registration.register(cx);
@@ -223,8 +234,8 @@ impl<B: PubSubBehavior<Waker = TaskId>> Sink<B::Message> for SinkAdapter<'_, '_,
     ///
     /// `Exhausted` with the stored message where the numbers of messages have run out. No message is stored then.
     fn poll_close(&mut self, cx: &mut TaskContext<'_>) -> TaskPoll<Result<(), Self::Error>>
-        ensures flushes { Flushes self.old.sink (as_poll result) self.new.sink }
-        ensures registered { OnPending result (Covers cx.new (λ s. s ≡ self.new.registration.now.source.id)) }
+        ensures flushes { Flushes self.old.stored (as_poll result) self.new.stored }
+        ensures registered { OnPending result (Covers cx.new (λ s. s ≡ self.new.source)) }
         ensures kept { Keeps cx.old cx.new }
     {
         self.registration.register(cx);

@@ -21,7 +21,7 @@ start_send-tells g x c = record {
 pub poll_flush-tells : goal.poll_flush-tells
 poll_flush-tells g x c = record {
   goes = on_ready _ tt c.result;
-  flushed = flushed c.args.self.now.sink c.result c.new.self.now.sink c.ensures.flushes;
+  flushed = flushed c.args.self.now.stored c.result c.new.self.now.stored c.ensures.flushes;
   again = on_pending _ tt c.result;
   same = λ y h. tt;
   history = unless_failed _ (λ xs h. tt) c.result;
@@ -31,7 +31,7 @@ poll_flush-tells g x c = record {
 
 pub poll_close-tells : goal.poll_close-tells
 poll_close-tells g x c = record {
-  closed = flushed c.args.self.now.sink c.result c.new.self.now.sink c.ensures.flushes;
+  closed = flushed c.args.self.now.stored c.result c.new.self.now.stored c.ensures.flushes;
   again = on_pending _ tt c.result;
   history = unless_failed _ (λ xs h. tt) c.result;
   registered = c.ensures.registered;
