@@ -41,7 +41,10 @@ fn pipe<R: Wait + Abort, const N: usize>(rt: R) -> Pipe<TaskId, Turns<R>, N> {
 // A fill that shows these bytes, or finds none.
 fn fills<P: DynamicPipe + Drop>(rt: &impl Abort, reader: &mut DynamicReader<P>, bytes: &[u8]) {
     match reader.try_fill_buf() {
-        Ok(()) => same!(rt; reader.filled(), bytes),
+        Ok(()) => {
+            holds!(*rt; !bytes.is_empty());
+            same!(rt; reader.filled(), bytes);
+        }
         Err(TryReadError::Empty) => same!(rt; bytes.len(), 0),
     }
 }
