@@ -203,7 +203,10 @@ impl<P> Model for DynamicReader<P> {
 }
 
 impl<P: DynamicPipe + Drop> DynamicReader<P> {
-    /// The end of this pipe, with places for as many bytes as the pipe can hold. No other call takes memory.
+    /// Returns an end of this pipe that reads, with places for as many bytes as the pipe can hold. No other call takes memory.
+    ///
+    /// One pipe should have one such end: `consume` takes as many bytes out of the pipe as it is told. So if another end reads, or the
+    /// pipe is cleared, between a fill and its `consume`, that takes bytes which nobody has read.
     pub fn new(alloc: Global, pipe: P) -> Result<Self, AllocError>
         ensures { IfOk result (λ reader. length reader ≡ 0) }
     {
