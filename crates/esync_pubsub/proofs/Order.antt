@@ -1,4 +1,4 @@
--- A subscriber reads what was published since it came, in order; it is told truly how much is unread, and the channel's sizes add up.
+-- A subscriber reads what was published since it came, in order; it is told truly how much is unread and gone, and the channel's sizes add up.
 use Rattle.std.proofs.Common.{◌≡◌, ℕ, zero, suc, ◌+◌, ◌-◌, ◌==◌, Bool, true, false, List, [], ◌∷◌, ◌++◌, length, drop, replicate, Option, Some, None, inl, inr, refl, sym, ap, ◌∙◌, subst, arith}
 use Rattle.std.specs.Prelude.{is_some, nat_lt, slice_get, slice_set, slice_index_or, if◌then◌else◌, IfSome, Ok, Err}
 use Rattle.std.specs.List.{list_any}
@@ -25,12 +25,12 @@ use Rattle.esync_log.specs.Log.{Log, oldest, number_of, has_subscribers, is_live
 use Rattle.esync_pubsub.specs.PubSub.{PubSub}
 use Rattle.esync_pubsub.specs.PubSubRules.{Topic, topic_of, place_at, is_subscriber, is_free, is_publisher, names_it, reach, rest_of, departed, WithLog, Begins, IsBelow, PollsLog, Polls, Comes, Counts, TriesPublish, AtOnce, Tries, TriesPure, Calls, pubsub_rules}
 use Rattle.esync_pubsub.specs.Advance.{gone, topic_after, topic_after_poll}
-use Rattle.esync_pubsub.specs.Order.{Reading, Told, Account, and, published_by_poll, published_by_call, reading_of, pure_reading_of, read_by_poll, read_by_call, more, told_by_call, told_after, after, known_at_first, AreUnread, Follow, HasRead, ReadsInOrder, unread_by_poll, unread_by_call, unread_told, HasUnread, CountsUnread}
+use Rattle.esync_pubsub.specs.Order.{Reading, Told, Account, and, published_by_poll, published_by_call, given_by, reading_of, read_by_poll, read_by_call, more, told_by_call, told_after, after, known_at_first, AreUnread, Follow, HasRead, ReadsInOrder, unread_by_poll, unread_by_call, unread_told, IsExact, IsExactPoll, IsExactCall, TellsUnread, TellsGone, HasUnread, CountsAreTrue}
 use Rattle.esync_pubsub.specs.Sizes.{IsHeld, SizesAddUp}
 use Rattle.esync_log.specs.declared.log.TryPublishError.TheVariants.{Full, Exhausted}
 use Rattle.esync_pubsub.specs.declared.pubsub.Error.TheVariants.{MaximumSubscribersReached, MaximumPublishersReached}
 use Rattle.esync_log.specs.declared.log.WaitResult.{WaitResult}
-use Rattle.esync_log.specs.declared.log.WaitResult.TheVariants.{Message as Given}
+use Rattle.esync_log.specs.declared.log.WaitResult.TheVariants.{Lagged, Message as Given}
 use Rattle.esync_pubsub.specs.declared.pubsub.machine.PubSubAsk.{PubSubAsk}
 use Rattle.esync_pubsub.specs.declared.pubsub.machine.PubSubAsk.TheVariants.{Publish, Message, MessagePure, Stream}
 use Rattle.esync_pubsub.specs.declared.pubsub.machine.PubSubCall.{PubSubCall}
@@ -179,23 +179,23 @@ module _ {T : Type 0} (C : T → T → Type 0) (names s : ℕ) where
     }
 
     module _ (t : ℕ) (e : is_subscriber t o ≡ true) (log2 : Log T) where
-      reads : (answer : WaitResult T) → IsBelow (Some answer) (position (place_at t o) o.log) o.log → Reads C (place_at t o) o.log (Some answer) log2 → Steps None (if s == t then Some (reading_of answer) else None) o log2
+      reads : (answer : WaitResult T) → IsBelow (Some answer) (position (place_at t o) o.log) o.log → Reads C (place_at t o) o.log (Some answer) log2 → Steps None (if s == t then Some (reading_of (gone s o) (given_by answer)) else None) o log2
       reads answer b r =
-          steps_read t (λ n. reading_of answer) log2 e (read_goes C (place_at t o) o.log (Some answer) log2 (live_at t e) b r) (read_end C (place_at t o) o.log log2 (Some answer) r) (λ unread u. read_tells C (place_at t o) o.log log2 unread w.numbered (live_at t e) u answer r) (s == t) refl
+          steps_read t (λ n. reading_of n (given_by answer)) log2 e (read_goes C (place_at t o) o.log (Some answer) log2 (live_at t e) b r) (read_end C (place_at t o) o.log log2 (Some answer) r) (λ unread u. read_tells C (place_at t o) o.log log2 unread w.numbered (live_at t e) u answer r) (s == t) refl
 
-      reads_on : (answer : Option T) → IsBelow answer (position (place_at t o) (caught (place_at t o) o.log)) o.log → ReadsOn C (place_at t o) o.log answer log2 → Steps None (if s == t then Some (pure_reading_of (gone s o) answer) else None) o log2
+      reads_on : (answer : Option T) → IsBelow answer (position (place_at t o) (caught (place_at t o) o.log)) o.log → ReadsOn C (place_at t o) o.log answer log2 → Steps None (if s == t then Some (reading_of (gone s o) answer) else None) o log2
       reads_on answer b r =
-          steps_read t (λ n. pure_reading_of n answer) log2 e (pure_goes C (place_at t o) o.log answer log2 (live_at t e) b r) (pure_end C (place_at t o) o.log log2 answer r) (λ unread u. pure_tells C (place_at t o) o.log log2 unread w.numbered (live_at t e) u answer r) (s == t) refl
+          steps_read t (λ n. reading_of n answer) log2 e (pure_goes C (place_at t o) o.log answer log2 (live_at t e) b r) (pure_end C (place_at t o) o.log log2 answer r) (λ unread u. pure_tells C (place_at t o) o.log log2 unread w.numbered (live_at t e) u answer r) (s == t) refl
 
       gap_below : (b : Bool) (k : ℕ) → Reads C (place_at t o) o.log (gap b k) log2 → IsBelow (gap {T = T} b k) (position (place_at t o) o.log) o.log
       gap_below true k r = omega (arith, r.0)
       gap_below false k r = tt
 
-      streams : Reads C (place_at t o) o.log (gap (lags (place_at t o) o.log) (oldest o.log - position (place_at t o) o.log)) log2 → Steps None (if s == t then Some (pure_reading_of (gone s o) None) else None) o log2
+      streams : Reads C (place_at t o) o.log (gap (lags (place_at t o) o.log) (oldest o.log - position (place_at t o) o.log)) log2 → Steps None (if s == t then Some (reading_of (gone s o) None) else None) o log2
       streams r =
           let q = place_at t o in
           let x = gap {T = T} (lags q o.log) (oldest o.log - position q o.log) in
-          steps_read t (λ n. pure_reading_of n None) log2 e (read_goes C q o.log x log2 (live_at t e) (gap_below (lags q o.log) (oldest o.log - position q o.log) r) r) (read_end C q o.log log2 x r) (λ unread u. stream_tells C q o.log log2 unread w.numbered (live_at t e) u r) (s == t) refl
+          steps_read t (λ n. reading_of n None) log2 e (read_goes C q o.log x log2 (live_at t e) (gap_below (lags q o.log) (oldest o.log - position q o.log) r) r) (read_end C q o.log log2 x r) (λ unread u. stream_tells C q o.log log2 unread w.numbered (live_at t e) u r) (s == t) refl
 
     -- a poll of a request
     polled : (I : T → Type 0) (cap : ℕ) (ask : PubSubAsk T) (a : Answer (PubSubHeard T)) (log2 : Log T) → names_it ask o ≡ true → PollsLog C I cap o ask a log2 → Steps (published_by_poll (Some ask) a) (read_by_poll s (gone s o) (Some ask) a) o log2
@@ -546,15 +546,60 @@ module _ {T : Type 0} (C : T → T → Type 0) (names s : ℕ) where
     nothing_told k (End r) = tt
     nothing_told k (Call call) = nothing_called k.told call
 
-    so : EachStep rules (HasLaw rules (λ c. Unit {0}) (after {W = W} cap s) (IsTold rules (λ c. Unit {0}) (after {W = W} cap s) On IsKnown) (λ k c a. IsSo (unread_told s k c a) k.told))
+    -- what a plain read tells of those that are gone
+    module _ (o o2 : Topic T) where
+      read_exact : (q : ℕ) (answer : WaitResult T) (log2 : Log T) → Reads C q o.log (Some answer) log2 → IsExact (oldest o.log - position q o.log) answer
+      read_exact q (Lagged k) log2 r = (omega (arith, r.0), r.1)
+      read_exact q (Given v) log2 r = (let f = r.from in omega (arith, f))
+
+      polled_exact : (ask : PubSubAsk T) (a : Answer (PubSubHeard T)) (p : Option (PubSubAsk T)) → Polls C I cap o ask a o2 p → IsExactPoll o (Some ask) a
+      polled_exact (Message t) (Gives (Read answer)) p h = elim (where_done (is_subscriber t o) o (PollsLog C I cap o (Message t) (Gives (Read answer)) o2.log × WithLog o o2) (Gives (Read answer)) o2 h.0) [
+        | inl d ↦ read_exact (place_at t o) answer o2.log d.1.0.1
+        | inr n ↦ absurd (let e = n.0 in cc)
+      ]
+      polled_exact (Stream t) (Gives (Streamed (Some v))) p h = elim (where_done (is_subscriber t o) o (PollsLog C I cap o (Stream t) (Gives (Streamed (Some v))) o2.log × WithLog o o2) (Gives (Streamed (Some v))) o2 h.0) [
+        | inl d ↦ read_exact (place_at t o) (Given v) o2.log d.1.0.1
+        | inr n ↦ absurd (let e = n.0 in cc)
+      ]
+      polled_exact ask a p h = tt
+
+      called_exact : (call : PubSubCall T) (a : Answer (PubSubHeard T)) → Calls C I cap pubs o call a o2 → IsExactCall o call a
+      called_exact (Next t) (Gives (Tried (Some answer))) h = elim (where_done (is_subscriber t o) o (Tries C I (place_at t o) o.log (Gives (Tried (Some answer))) o2.log × WithLog o o2) (Gives (Tried (Some answer))) o2 h) [
+        | inl d ↦ read_exact (place_at t o) answer o2.log d.1.0.1
+        | inr n ↦ absurd (let e = n.0 in cc)
+      ]
+      called_exact call a h = tt
+
+    refused_exact_poll : (o : Topic T) (ask : Option (PubSubAsk T)) → IsExactPoll o ask NoSuch
+    refused_exact_poll o (Some (Message t)) = tt
+    refused_exact_poll o (Some (Stream t)) = tt
+    refused_exact_poll o ask = tt
+
+    refused_exact_call : (o : Topic T) (call : PubSubCall T) → IsExactCall o call NoSuch
+    refused_exact_call o (Next t) = tt
+    refused_exact_call o call = tt
+
+    refused_exact : (k : Account T) (c : Command (PubSubAsk T) W (PubSubCall T)) → TellsGone k c NoSuch
+    refused_exact k (Start r ask) = tt
+    refused_exact k (Poll r w) = refused_exact_poll k.topic (ask_of k.asked r)
+    refused_exact k (End r) = tt
+    refused_exact k (Call call) = refused_exact_call k.topic call
+
+    told_truly : (o o2 : Topic T) (k : Account T) → On o k → (call : PubSubCall T) (a : Answer (PubSubHeard T)) → Calls C I cap pubs o call a o2 → IsSo (unread_by_call s call a) k.told × IsExactCall k.topic call a
+    told_truly o o2 k on call a h = (called_so o o2 k on.stands call a h, subst (λ x. IsExactCall x call a) (sym on.same) (called_exact o o2 call a h))
+
+    so : EachStep rules (HasLaw rules (λ c. Unit {0}) (after {W = W} cap s) (IsTold rules (λ c. Unit {0}) (after {W = W} cap s) On IsKnown) (λ k c a. TellsUnread C s k c a × TellsGone k c a))
     so = record {
-      refused = λ o c k kind told. nothing_told k c;
-      starts = λ o r ask h there begins k kind told. tt;
-      polls = λ o r v h a core p there polls k kind told. subst (λ x. IsSo (unread_by_poll s x a) k.told) (sym (told.here r h (at_of o.requests r (Some h) there))) (polled_so o.core core k told.core.stands h a p polls);
-      ends = λ o r h core there ends k kind told. tt;
+      refused = λ o c k kind told. (nothing_told k c, refused_exact k c);
+      starts = λ o r ask h there begins k kind told. (tt, tt);
+      polls = λ o r v h a core p there polls k kind told. subst (λ x. IsSo (unread_by_poll s x a) k.told × IsExactPoll k.topic x a) (sym (told.here r h (at_of o.requests r (Some h) there))) (
+        polled_so o.core core k told.core.stands h a p polls,
+        subst (λ x. IsExactPoll x (Some h) a) (sym told.core.same) (polled_exact o.core core h a p polls),
+      );
+      ends = λ o r h core there ends k kind told. (tt, tt);
       calls = λ o call r p a core p2 reach there calls k kind told. absurd (no_number call r reach);
-      alone = λ o call a core p reach calls k kind told. called_so o.core core k told.core.stands call a calls.0;
-      leaves = λ o call a core p reach calls k kind told. called_so o.core core k told.core.stands call a calls.0;
+      alone = λ o call a core p reach calls k kind told. told_truly o.core core k told.core call a calls.0;
+      leaves = λ o call a core p reach calls k kind told. told_truly o.core core k told.core call a calls.0;
     }
 
     -- a size that is told is that of the channel
@@ -576,8 +621,8 @@ module _ {T : Type 0} (C : T → T → Type 0) (names s : ℕ) where
           let told = told_requests rules (λ c. Unit {0}) (after cap s) H eq K (keeps_each rules (λ c. Unit {0}) (after cap s) keeps) o o2 g g2 (known_at_first o.requests o.core) cs as' (of_any_kind cs) run at_first in
           (told.core.same, told.core.stands.reads)
 
-      pub counts_unread : CountsUnread C cap s o.requests o.core cs as'
-      counts_unread = law_requests rules (λ c. Unit {0}) (after cap s) H eq K (keeps_each rules (λ c. Unit {0}) (after cap s) keeps) so o o2 g g2 (known_at_first o.requests o.core) cs as' (of_any_kind cs) run at_first
+      pub counts_are_true : CountsAreTrue C cap s o.requests o.core cs as'
+      counts_are_true = law_requests rules (λ c. Unit {0}) (after cap s) H eq K (keeps_each rules (λ c. Unit {0}) (after cap s) keeps) so o o2 g g2 (known_at_first o.requests o.core) cs as' (of_any_kind cs) run at_first
 
       pub sizes_add_up : SizesAddUp cap s o.requests o.core cs as'
       sizes_add_up = sizes_requests rules (after cap s) Len FreeCapacity Number cap IsHeld On IsKnown tells H eq K keeps o o2 g g2 (known_at_first o.requests o.core) cs as' run at_first

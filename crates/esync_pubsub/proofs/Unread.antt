@@ -5,7 +5,7 @@ use Rattle.std.proofs.lemmas.Bool.Decides.{nat_tests}
 use Rattle.std.proofs.lemmas.List.{length_push, length-drop, drop-drop, drop-append-le, drop_all}
 use Rattle.esync_base.specs.ListedLaws.{true_or_false}
 use Rattle.esync_log.specs.Log.{Log, oldest, is_read, trimmed, is_live, position, published, moved, settled, lags, caught, found, gap, Gives, Takes, Reads, ReadsOn, Streams}
-use Rattle.esync_pubsub.specs.Order.{Reading, reading_of, pure_reading_of, behind, AreUnread, IsGiven, Follow}
+use Rattle.esync_pubsub.specs.Order.{Reading, given_by, reading_of, behind, AreUnread, IsGiven, Follow}
 use Rattle.esync_pubsub.proofs.Kept.{caught_held}
 use Rattle.esync_log.specs.LogLaws.{caught_lagging, caught_up, moved_live, moved_position}
 use Rattle.esync_base.specs.declared.waitqueue.Poll.TheVariants.{Pending as NotYet}
@@ -137,38 +137,38 @@ module _ {T : Type 0} where
         (most, subst (λ x. AreUnread q x (drop (oldest log - position q log) unread)) (sym e) (unread_moved q (oldest log) (oldest log - position q log) log unread here p most u))
 
     module _ (q : ℕ) (log log2 : Log T) (unread : List T) (n : IsNumbered log) (here : is_live q log ≡ true) (u : AreUnread q log unread) where
-      pub read_tells : (answer : WaitResult T) → Reads C q log (Some answer) log2 → Tells (reading_of answer) q log2 unread
-      read_tells (Lagged k) r = (let m = lagged q log log2 unread here r.0 r.2 u in record {
-        most = omega (arith, m.0, r.1);
-        given = tt;
-        rest = subst (λ x. AreUnread q log2 (drop x unread)) (sym r.1) m.1;
-      })
-      read_tells (Given v) r = (let t = takes q log log2 unread v n here r u in record { most = omega arith; given = t.0; rest = t.1 })
+      pub read_tells : (answer : WaitResult T) → Reads C q log (Some answer) log2 → Tells (reading_of (oldest log - position q log) (given_by answer)) q log2 unread
+      read_tells (Lagged k) r = (let m = lagged q log log2 unread here r.0 r.2 u in record { most = m.0; given = tt; rest = m.1 })
+      read_tells (Given v) r =
+          let t = takes q log log2 unread v n here r u in
+          let k : Tells (reading_of 0 (Some v)) q log2 unread = record { most = omega arith; given = t.0; rest = t.1 } in
+          let none : oldest log - position q log ≡ 0 = (let f = r.from in omega (arith, f)) in
+          subst (λ x. Tells (reading_of x (Some v)) q log2 unread) (sym none) k
 
-      nothing_tells : (over : ℕ) → over ≡ 0 → log2 ≡ log → Tells (pure_reading_of over None) q log2 unread
+      nothing_tells : (over : ℕ) → over ≡ 0 → log2 ≡ log → Tells (reading_of over None) q log2 unread
       nothing_tells over none e =
-          let k : Tells (pure_reading_of 0 None) q log2 unread = record { most = omega arith; given = tt; rest = subst (λ x. AreUnread q x unread) (sym e) u } in
-          subst (λ x. Tells (pure_reading_of x None) q log2 unread) (sym none) k
+          let k : Tells (reading_of 0 None) q log2 unread = record { most = omega arith; given = tt; rest = subst (λ x. AreUnread q x unread) (sym e) u } in
+          subst (λ x. Tells (reading_of x None) q log2 unread) (sym none) k
 
-      gap_tells : (b : Bool) → Reads C q log (gap b (oldest log - position q log)) log2 → Tells (pure_reading_of (oldest log - position q log) None) q log2 unread
+      gap_tells : (b : Bool) → Reads C q log (gap b (oldest log - position q log)) log2 → Tells (reading_of (oldest log - position q log) None) q log2 unread
       gap_tells true r = (let m = lagged q log log2 unread here r.0 r.2 u in record { most = m.0; given = tt; rest = m.1 })
       gap_tells false r = nothing_tells (oldest log - position q log) (omega (arith, r.0)) r.1
 
       -- after so many that are gone
       module _ (over : ℕ) (most : over ≤ length unread) (log1 : Log T) (n1 : IsNumbered log1) (here1 : is_live q log1 ≡ true) (u1 : AreUnread q log1 (drop over unread)) where
-        then_tells : (answer : Option T) → Reads C q log1 (found answer) log2 → Tells (pure_reading_of over answer) q log2 unread
+        then_tells : (answer : Option T) → Reads C q log1 (found answer) log2 → Tells (reading_of over answer) q log2 unread
         then_tells None r = record { most = most; given = tt; rest = subst (λ x. AreUnread q x (drop over unread)) (sym r.1) u1 }
         then_tells (Some v) r = (let t = takes q log1 log2 (drop over unread) v n1 here1 r u1 in record { most = most; given = t.0; rest = t.1 })
 
-      pub pure_tells : (answer : Option T) → ReadsOn C q log answer log2 → Tells (pure_reading_of (oldest log - position q log) answer) q log2 unread
+      pub pure_tells : (answer : Option T) → ReadsOn C q log answer log2 → Tells (reading_of (oldest log - position q log) answer) q log2 unread
       pure_tells answer r = elim (true_or_false (nat_lt (position q log) (oldest log))) [
         | inl e ↦ (let l : position q log < oldest log = grind (arith, nat_tests) in let c = caught_lagging q log l in let m = lagged q log (moved q (oldest log) log) unread here l refl u in
             then_tells (oldest log - position q log) m.0 (moved q (oldest log) log) n (moved_live q log here (oldest log)) m.1 answer (subst (λ x. Reads C q x (found answer) log2) c r))
         | inr e ↦ (let l : oldest log ≤ position q log = grind (arith, nat_tests) in let c = caught_up q log l in let none : oldest log - position q log ≡ 0 = omega (arith, l) in
-            subst (λ x. Tells (pure_reading_of x answer) q log2 unread) (sym none) (then_tells 0 (omega arith) log n here u answer (subst (λ x. Reads C q x (found answer) log2) c r)))
+            subst (λ x. Tells (reading_of x answer) q log2 unread) (sym none) (then_tells 0 (omega arith) log n here u answer (subst (λ x. Reads C q x (found answer) log2) c r)))
       ]
 
-      pub stream_tells : Streams C q log NotYet log2 → Tells (pure_reading_of (oldest log - position q log) None) q log2 unread
+      pub stream_tells : Streams C q log NotYet log2 → Tells (reading_of (oldest log - position q log) None) q log2 unread
       stream_tells r = gap_tells (lags q log) r
 
     -- what is held after a read

@@ -1,6 +1,6 @@
 -- A subscriber reads what was published since it came, in order, but for just the messages that were gone: told of the channel and its
 -- requests at first, and of the commands and their answers.
-use Rattle.std.specs.Prelude.{◌≡◌, ℕ, ◌+◌, ◌-◌, ◌≤◌, ◌==◌, ◌⊎◌, true, List, [], ◌∷◌, ◌++◌, length, drop, Option, Some, None, IfSome, Ok, if◌then◌else◌}
+use Rattle.std.specs.Prelude.{◌≡◌, ℕ, ◌+◌, ◌-◌, ◌<◌, ◌≤◌, ◌==◌, ◌⊎◌, true, List, [], ◌∷◌, ◌++◌, length, drop, Option, Some, None, IfSome, Ok, if◌then◌else◌}
 use Rattle.esync_machine.specs.Account.{account, AtEach, ask_of, asked_from, asked_after}
 use Rattle.esync_machine.specs.declared.run.Reply.{Reply}
 use Rattle.esync_machine.specs.declared.primitive.Answer.{Answer}
@@ -9,7 +9,9 @@ use Rattle.esync_machine.specs.declared.primitive.Command.{Command}
 use Rattle.esync_machine.specs.declared.primitive.Command.TheVariants.{Start, Poll, End, Call}
 use Rattle.esync_log.specs.Log.{Log, oldest, position}
 use Rattle.esync_pubsub.specs.Advance.{gone, topic_after}
-use Rattle.esync_pubsub.specs.PubSubRules.{Topic, place_at, is_subscriber, is_of_subscriber}
+use Rattle.esync_pubsub.specs.Events.{Eventing}
+use Rattle.esync_pubsub.specs.PubSub.{PubSub}
+use Rattle.esync_pubsub.specs.PubSubRules.{Topic, topic_of, place_at, is_subscriber, is_of_subscriber}
 use Rattle.esync_log.specs.declared.log.WaitResult.{WaitResult}
 use Rattle.esync_log.specs.declared.log.WaitResult.TheVariants.{Lagged, Message as Given}
 use Rattle.esync_pubsub.specs.declared.pubsub.machine.PubSubAsk.{PubSubAsk}
@@ -19,7 +21,7 @@ use Rattle.esync_pubsub.specs.declared.pubsub.machine.PubSubCall.TheVariants.{Jo
 use Rattle.esync_pubsub.specs.declared.pubsub.machine.PubSubHeard.{PubSubHeard}
 use Rattle.esync_pubsub.specs.declared.pubsub.machine.PubSubHeard.TheVariants.{Published, Read, ReadPure, Streamed, Came, TriedPublish, PublishedAtOnce, Tried, TriedPure, Unread}
 
--- what an answer tells a subscriber: how many messages it passed over, and which one it was given behind them
+-- what a read tells a subscriber: how many messages it passed over, and which one it was given behind them
 pub record Reading (T : Type 0) : Type 0 where
   pub skipped : ℕ
   pub given : Option T
@@ -40,6 +42,10 @@ pub record Account (T : Type 0) : Type 0 where
   -- nothing where the subscriber didn't come, or left
   pub told : Option (Told T)
 
+-- the channel of a machine
+abbrev pub topic_in : {T W : Type 0} → Eventing (PubSub T W) → Topic T
+topic_in e = topic_of e.state e.tables
+
 -- with one more behind the others, if there is one
 abbrev pub and : {A : Type 0} → List A → Option A → List A
 and xs None = xs
@@ -57,22 +63,22 @@ module _ {T : Type 0} where
   published_by_call (Immediate message) (Gives (PublishedAtOnce (Ok done))) = Some message
   published_by_call _ _ = None
 
-  -- a read tells how many messages are gone, or gives the next one
-  abbrev pub reading_of : WaitResult T → Reading T
-  reading_of (Lagged k) = record { skipped = k; given = None }
-  reading_of (Given message) = record { skipped = 0; given = Some message }
+  -- the message that a plain read gives: none where it tells of a lag
+  abbrev pub given_by : WaitResult T → Option T
+  given_by (Lagged k) = None
+  given_by (Given message) = Some message
 
-  -- a pure read passes over those that are gone
-  abbrev pub pure_reading_of : ℕ → Option T → Reading T
-  pure_reading_of n given = record { skipped = n; given = given }
+  -- each read passes over the messages that are gone, whatever it answers
+  abbrev pub reading_of : ℕ → Option T → Reading T
+  reading_of n given = record { skipped = n; given = given }
 
   -- what a poll of a request tells its subscriber, for whom n messages are gone: a stream that is Pending has passed over them
   abbrev pub heard_by_poll : ℕ → PubSubAsk T → Answer (PubSubHeard T) → Option (Reading T)
-  heard_by_poll n (Message t) (Gives (Read answer)) = Some (reading_of answer)
-  heard_by_poll n (MessagePure t) (Gives (ReadPure message)) = Some (pure_reading_of n (Some message))
-  heard_by_poll n (MessagePure t) Pending = Some (pure_reading_of n None)
-  heard_by_poll n (Stream t) (Gives (Streamed (Some message))) = Some (reading_of (Given message))
-  heard_by_poll n (Stream t) Pending = Some (pure_reading_of n None)
+  heard_by_poll n (Message t) (Gives (Read answer)) = Some (reading_of n (given_by answer))
+  heard_by_poll n (MessagePure t) (Gives (ReadPure message)) = Some (reading_of n (Some message))
+  heard_by_poll n (MessagePure t) Pending = Some (reading_of n None)
+  heard_by_poll n (Stream t) (Gives (Streamed (Some message))) = Some (reading_of n (Some message))
+  heard_by_poll n (Stream t) Pending = Some (reading_of n None)
   heard_by_poll n _ _ = None
 
   -- with a message that was published, and a reading
@@ -87,8 +93,8 @@ module _ {T : Type 0} where
     read_by_poll (Some ask) a = if is_of_subscriber s ask then heard_by_poll n ask a else None
 
     abbrev pub read_by_call : PubSubCall T → Answer (PubSubHeard T) → Option (Reading T)
-    read_by_call (Next t) (Gives (Tried (Some answer))) = if s == t then Some (reading_of answer) else None
-    read_by_call (NextPure t) (Gives (TriedPure given)) = if s == t then Some (pure_reading_of n given) else None
+    read_by_call (Next t) (Gives (Tried (Some answer))) = if s == t then Some (reading_of n (given_by answer)) else None
+    read_by_call (NextPure t) (Gives (TriedPure given)) = if s == t then Some (reading_of n given) else None
     read_by_call _ _ = None
 
     -- who comes knows of nothing, and who leaves is gone
@@ -138,6 +144,29 @@ module _ {T : Type 0} where
     unread_told k (End r) a = None
     unread_told k (Call call) a = unread_by_call call a
 
+  -- a plain read for which n messages are gone: where any are it tells of a lag of n, and it gives a message only where none is
+  abbrev pub IsExact : ℕ → WaitResult T → Type 0
+  IsExact n (Lagged k) = (0 < n) × (k ≡ n)
+  IsExact n (Given message) = n ≡ 0
+
+  -- a poll of a request tells its subscriber exactly how many messages are gone: none where a stream gives one, and a pure read doesn't tell
+  abbrev pub IsExactPoll : Topic T → Option (PubSubAsk T) → Answer (PubSubHeard T) → Type 0
+  IsExactPoll o (Some (Message t)) (Gives (Read answer)) = IsExact (gone t o) answer
+  IsExactPoll o (Some (Stream t)) (Gives (Streamed (Some message))) = IsExact (gone t o) (Given message)
+  IsExactPoll o _ _ = Unit {0}
+
+  -- a call tells the subscriber that it names exactly how many messages are gone
+  abbrev pub IsExactCall : Topic T → PubSubCall T → Answer (PubSubHeard T) → Type 0
+  IsExactCall o (Next t) (Gives (Tried (Some answer))) = IsExact (gone t o) answer
+  IsExactCall o _ _ = Unit {0}
+
+  -- an answer tells exactly how many messages are gone, of the channel that the answers before it tell
+  abbrev pub TellsGone : {W : Type 0} → Account T → Command (PubSubAsk T) W (PubSubCall T) → Answer (PubSubHeard T) → Type 0
+  TellsGone k (Start r ask) a = Unit {0}
+  TellsGone k (Poll r w) a = IsExactPoll k.topic (ask_of k.asked r) a
+  TellsGone k (End r) a = Unit {0}
+  TellsGone k (Call call) a = IsExactCall k.topic call a
+
   module _ (IsClone : T → T → Type 0) where
     -- the message in front is given itself, or as a clone
     abbrev pub IsGiven : Option T → List T → Type 0
@@ -171,7 +200,11 @@ module _ {T : Type 0} where
     abbrev pub HasUnread : ℕ → Told T → Type 0
     HasUnread n k = (unread : List T) × Follow k.published k.readings unread × (length unread ≡ n)
 
-    -- of a channel o with these requests at first: each answer that tells the subscriber how much is unread, or that there is nothing, is so
-    abbrev pub CountsUnread : {W : Type 0} {K : ℕ} → ℕ → ℕ → List (Option (PubSubAsk T)) → Topic T → List (Command (PubSubAsk T) W (PubSubCall T)) → List (Reply (Answer (PubSubHeard T)) W K) → Type 0
-    CountsUnread cap s requests o commands replies =
-        AtEach (λ k c a. after cap s k c a.answer) (λ k c a. IfSome (unread_told s k c a.answer) (λ n. IfSome k.told (HasUnread n))) (known_at_first requests o) commands replies
+    -- an answer that tells the subscriber how much is unread, or that there is nothing, is so
+    abbrev pub TellsUnread : {W : Type 0} → ℕ → Account T → Command (PubSubAsk T) W (PubSubCall T) → Answer (PubSubHeard T) → Type 0
+    TellsUnread s k c a = IfSome (unread_told s k c a) (λ n. IfSome k.told (HasUnread n))
+
+    -- of a channel o with these requests at first: each answer tells truly how much is unread, and how much is gone
+    abbrev pub CountsAreTrue : {W : Type 0} {K : ℕ} → ℕ → ℕ → List (Option (PubSubAsk T)) → Topic T → List (Command (PubSubAsk T) W (PubSubCall T)) → List (Reply (Answer (PubSubHeard T)) W K) → Type 0
+    CountsAreTrue cap s requests o commands replies =
+        AtEach (λ k c a. after cap s k c a.answer) (λ k c a. TellsUnread s k c a.answer × TellsGone k c a.answer) (known_at_first requests o) commands replies

@@ -7,7 +7,7 @@ ghost use Rattle.esync_machine.specs.Runs.{GoodRun};
 ghost use Rattle.esync_machine.specs.Wakings.{IsHanded, unless_refused};
 ghost use Rattle.esync_pubsub.specs.Events.{AreNamed};
 ghost use Rattle.esync_log.specs.Log.{Log, is_live, position, left};
-ghost use Rattle.esync_pubsub.specs.Order.{ReadsInOrder, CountsUnread};
+ghost use Rattle.esync_pubsub.specs.Order.{ReadsInOrder, CountsAreTrue, topic_in};
 ghost use Rattle.esync_pubsub.specs.Sizes.{SizesAddUp};
 ghost use Rattle.esync_pubsub.specs.PubSub.{PubSub, fresh, frees};
 ghost use Rattle.esync_pubsub.specs.PubSubRules.{topic_of, is_free, is_subscriber, is_publisher, is_of_subscriber, is_of_publisher, leaves, place_at, names_it, departed, Where, WithLog, Comes, Counts, TriesPublish, AtOnce, Tries, TriesPure, Calls, Polls, room_hands, immediate_of, immediate_hands, call_hands, reach, rest_of, publish_of, read_of, pure_of, stream_of, publish_hands, read_hands, pure_hands, stream_hands, poll_hands, pubsub_rules, pubsub_wakings, PollsPublish, PollsMessage, PollsPure, PollsStream, PollsLog};
@@ -845,7 +845,8 @@ pub type PubSubReply<T, W, const K: usize> = Reply<Answer<PubSubHeard<T>>, W, K>
 ///
 /// From its coming on, what a subscriber reads, and just what was gone when it read, is what was published since then, in order, up to its
 /// position. The number that was gone follows from the channel and the requests at entry, the commands and the answers. What the subscriber
-/// is told of how much is unread is so.
+/// is told of how much is unread is so. A `Lagged` tells just how many messages were gone, and a read that tells of lags, or a stream, gives
+/// a message only where none was.
 ///
 /// And the channel's sizes add up: how many messages it holds at each answer follows from the channel and the requests at entry, the
 /// commands and the answers. A length is that number, and a free capacity makes up `CAP` with it.
@@ -864,9 +865,9 @@ pub fn run_pubsub<
     commands: Vec<PubSubCommand<T, W>>,
 ) -> Result<Vec<PubSubReply<T, W, K>>, AllocError>
     ensures run { IfOk result (λ replies. GoodRun (requests_meaning (pubsub_rules T.is_clone T.is_infallible CAP PUBS) (pubsub_wakings W.eq SUBS PUBS) W.eq K) (record { core = topic_of machine.old.state.state machine.old.state.tables; requests = machine.old.requests }) machine.old.state.state.lists commands.items replies.items (record { core = topic_of machine.new.state.state machine.new.state.tables; requests = machine.new.requests }) machine.new.state.state.lists) }
-    ensures order { IfOk result (λ replies. (s : ℕ) → ReadsInOrder T.is_clone CAP s machine.old.requests (topic_of machine.old.state.state machine.old.state.tables) commands.items replies.items (topic_of machine.new.state.state machine.new.state.tables)) }
-    ensures counts { IfOk result (λ replies. (s : ℕ) → CountsUnread T.is_clone CAP s machine.old.requests (topic_of machine.old.state.state machine.old.state.tables) commands.items replies.items) }
-    ensures sizes { IfOk result (λ replies. (s : ℕ) → SizesAddUp CAP s machine.old.requests (topic_of machine.old.state.state machine.old.state.tables) commands.items replies.items) }
+    ensures order { IfOk result (λ replies. (s : ℕ) → ReadsInOrder T.is_clone CAP s machine.old.requests (topic_in machine.old.state) commands.items replies.items (topic_in machine.new.state)) }
+    ensures counts { IfOk result (λ replies. (s : ℕ) → CountsAreTrue T.is_clone CAP s machine.old.requests (topic_in machine.old.state) commands.items replies.items) }
+    ensures sizes { IfOk result (λ replies. (s : ℕ) → SizesAddUp CAP s machine.old.requests (topic_in machine.old.state) commands.items replies.items) }
     ensures refused { OnErr result (machine.new ≡ machine.old) }
 {
     machine.state().named();

@@ -3,9 +3,9 @@ use Rattle.std.proofs.lemmas.Result.{IfOk-weaker}
 use Rattle.esync_machine.specs.Runs.{GoodRun}
 use Rattle.esync_machine.specs.Object.{requests_meaning}
 use Rattle.esync_pubsub.specs.PubSubRules.{topic_of, pubsub_rules, pubsub_wakings}
-use Rattle.esync_pubsub.specs.Order.{ReadsInOrder, CountsUnread}
+use Rattle.esync_pubsub.specs.Order.{ReadsInOrder, CountsAreTrue, topic_in}
 use Rattle.esync_pubsub.specs.Sizes.{SizesAddUp}
-use Rattle.esync_pubsub.proofs.Order.{whole_of, in_order, counts_unread, sizes_add_up}
+use Rattle.esync_pubsub.proofs.Order.{whole_of, in_order, counts_are_true, sizes_add_up}
 use Rattle.esync_pubsub.proofs.pubsub.machine.run_pubsub.Goals as goal
 
 pub returns : goal.returns
@@ -20,19 +20,19 @@ returns g c =
       order = (
           IfOk-weaker c.run.result
           (λ replies. GoodRun (requests_meaning (pubsub_rules clone.is_clone clone.is_infallible g.row.CAP g.row.PUBS) wakings g.W.PartialEq.eq g.row.K) (record { core = topic_of old.state.state old.state.tables; requests = old.requests }) old.state.state.lists c.args.commands.items replies.items (record { core = topic_of new.state.state new.state.tables; requests = new.requests }) new.state.state.lists)
-          (λ replies. (s : ℕ) → ReadsInOrder clone.is_clone g.row.CAP s old.requests (topic_of old.state.state old.state.tables) c.args.commands.items replies.items (topic_of new.state.state new.state.tables))
+          (λ replies. (s : ℕ) → ReadsInOrder clone.is_clone g.row.CAP s old.requests (topic_in old.state) c.args.commands.items replies.items (topic_in new.state))
           (λ replies run s. in_order clone.is_clone g.row.NAMES s clone.is_infallible g.row.CAP g.row.PUBS _ wakings g.W.PartialEq.eq g.row.K _ _ _ _ c.args.commands.items replies.items run whole)
           c.run.ensures.run);
       counts = (
           IfOk-weaker c.run.result
           (λ replies. GoodRun (requests_meaning (pubsub_rules clone.is_clone clone.is_infallible g.row.CAP g.row.PUBS) wakings g.W.PartialEq.eq g.row.K) (record { core = topic_of old.state.state old.state.tables; requests = old.requests }) old.state.state.lists c.args.commands.items replies.items (record { core = topic_of new.state.state new.state.tables; requests = new.requests }) new.state.state.lists)
-          (λ replies. (s : ℕ) → CountsUnread clone.is_clone g.row.CAP s old.requests (topic_of old.state.state old.state.tables) c.args.commands.items replies.items)
-          (λ replies run s. counts_unread clone.is_clone g.row.NAMES s clone.is_infallible g.row.CAP g.row.PUBS _ wakings g.W.PartialEq.eq g.row.K _ _ _ _ c.args.commands.items replies.items run whole)
+          (λ replies. (s : ℕ) → CountsAreTrue clone.is_clone g.row.CAP s old.requests (topic_in old.state) c.args.commands.items replies.items)
+          (λ replies run s. counts_are_true clone.is_clone g.row.NAMES s clone.is_infallible g.row.CAP g.row.PUBS _ wakings g.W.PartialEq.eq g.row.K _ _ _ _ c.args.commands.items replies.items run whole)
           c.run.ensures.run);
       sizes = (
           IfOk-weaker c.run.result
           (λ replies. GoodRun (requests_meaning (pubsub_rules clone.is_clone clone.is_infallible g.row.CAP g.row.PUBS) wakings g.W.PartialEq.eq g.row.K) (record { core = topic_of old.state.state old.state.tables; requests = old.requests }) old.state.state.lists c.args.commands.items replies.items (record { core = topic_of new.state.state new.state.tables; requests = new.requests }) new.state.state.lists)
-          (λ replies. (s : ℕ) → SizesAddUp g.row.CAP s old.requests (topic_of old.state.state old.state.tables) c.args.commands.items replies.items)
+          (λ replies. (s : ℕ) → SizesAddUp g.row.CAP s old.requests (topic_in old.state) c.args.commands.items replies.items)
           (λ replies run s. sizes_add_up clone.is_clone g.row.NAMES s clone.is_infallible g.row.CAP g.row.PUBS _ wakings g.W.PartialEq.eq g.row.K _ _ _ _ c.args.commands.items replies.items run whole)
           c.run.ensures.run);
       refused = c.run.ensures.refused;
