@@ -25,7 +25,7 @@ use Rattle.esync_log.specs.Log.{Log, oldest, number_of, has_subscribers, is_live
 use Rattle.esync_pubsub.specs.PubSub.{PubSub}
 use Rattle.esync_pubsub.specs.PubSubRules.{Topic, topic_of, place_at, is_subscriber, is_free, is_publisher, names_it, reach, rest_of, departed, WithLog, Begins, IsBelow, PollsLog, Polls, Comes, Counts, TriesPublish, AtOnce, Tries, TriesPure, Calls, pubsub_rules}
 use Rattle.esync_pubsub.specs.Advance.{gone, topic_after, topic_after_poll}
-use Rattle.esync_pubsub.specs.Order.{Reading, Told, Account, and, published_by_poll, published_by_call, given_by, reading_of, read_by_poll, read_by_call, more, told_by_call, told_after, after, known_at_first, AreUnread, Follow, HasRead, ReadsInOrder, unread_by_poll, unread_by_call, unread_told, IsExact, IsExactPoll, IsExactCall, TellsUnread, TellsGone, HasUnread, CountsAreTrue}
+use Rattle.esync_pubsub.specs.Order.{Reading, Told, Account, and, published_by_poll, published_by_call, given_by, reading_of, read_by_poll, read_by_call, more, told_by_call, told_after, after, known_at_first, AreUnread, Follow, HasRead, IsInOrder, ReadsInOrder, unread_by_poll, unread_by_call, unread_told, IsExact, IsExactPoll, IsExactCall, TellsUnread, TellsGone, HasUnread, CountsAreTrue}
 use Rattle.esync_pubsub.specs.Sizes.{IsHeld, SizesAddUp}
 use Rattle.esync_log.specs.declared.log.TryPublishError.TheVariants.{Full, Exhausted}
 use Rattle.esync_pubsub.specs.declared.pubsub.Error.TheVariants.{MaximumSubscribersReached, MaximumPublishersReached}
@@ -498,6 +498,20 @@ module _ {T : Type 0} (C : T → T → Type 0) (names s : ℕ) where
       others = λ k c a r ask ne known. ask_of-other rules k.asked c a r ne ∙ known;
     }
 
+    in_order_now : (o : Topic T) (k : Account T) → On o k → IsInOrder C s k
+    in_order_now o k on = subst (λ x. IfSome k.told (λ t. HasRead C s x t)) (sym on.same) on.stands.reads
+
+    in_order_before : EachStep rules (HasLaw rules (λ c. Unit {0}) (after {W = W} cap s) (IsTold rules (λ c. Unit {0}) (after {W = W} cap s) On IsKnown) (λ k c a. IsInOrder C s k))
+    in_order_before = record {
+      refused = λ o c k kind told. in_order_now o.core k told.core;
+      starts = λ o r ask h there begins k kind told. in_order_now o.core k told.core;
+      polls = λ o r v h a core p there polls k kind told. in_order_now o.core k told.core;
+      ends = λ o r h core there ends k kind told. in_order_now o.core k told.core;
+      calls = λ o call r p a core p2 reach there calls k kind told. in_order_now o.core k told.core;
+      alone = λ o call a core p reach calls k kind told. in_order_now o.core k told.core;
+      leaves = λ o call a core p reach calls k kind told. in_order_now o.core k told.core;
+    }
+
     -- what is told of how many are unread is so
     abbrev IsSo : Option ℕ → Option (Told T) → Type 0
     IsSo m told = IfSome m (λ n. IfSome told (λ k. HasUnread C n k))
@@ -618,8 +632,10 @@ module _ {T : Type 0} (C : T → T → Type 0) (names s : ℕ) where
 
       pub in_order : ReadsInOrder C cap s o.requests o.core cs as' o2.core
       in_order =
-          let told = told_requests rules (λ c. Unit {0}) (after cap s) H eq K (keeps_each rules (λ c. Unit {0}) (after cap s) keeps) o o2 g g2 (known_at_first o.requests o.core) cs as' (of_any_kind cs) run at_first in
-          (told.core.same, told.core.stands.reads)
+          let each = keeps_each rules (λ c. Unit {0}) (after cap s) keeps in
+          let first = known_at_first o.requests o.core in
+          let told = told_requests rules (λ c. Unit {0}) (after cap s) H eq K each o o2 g g2 first cs as' (of_any_kind cs) run at_first in
+          (told.core.same, in_order_now o2.core _ told.core, law_requests rules (λ c. Unit {0}) (after cap s) H eq K each in_order_before o o2 g g2 first cs as' (of_any_kind cs) run at_first)
 
       pub counts_are_true : CountsAreTrue C cap s o.requests o.core cs as'
       counts_are_true = law_requests rules (λ c. Unit {0}) (after cap s) H eq K (keeps_each rules (λ c. Unit {0}) (after cap s) keeps) so o o2 g g2 (known_at_first o.requests o.core) cs as' (of_any_kind cs) run at_first

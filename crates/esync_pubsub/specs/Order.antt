@@ -188,13 +188,18 @@ module _ {T : Type 0} where
       pub follow : Follow k.published k.readings unread
       pub rest : AreUnread (place_at s o) o.log unread
 
-    -- of a channel o with these requests at first, of at most cap messages, and o2 at last: the answers tell o2, and what the subscriber
-    -- with the number s was given since it came, each message itself or a clone, and what was gone when it read, are in order what was
-    -- published since then, up to its position
+    -- where the subscriber is known to be here: what it was given since it came, each message itself or a clone, and what was gone when it
+    -- read, are in order what was published since then, up to its position
+    abbrev pub IsInOrder : ℕ → Account T → Type 0
+    IsInOrder s k = IfSome k.told (λ t. HasRead s k.topic t)
+
+    -- of a channel o with these requests at first, of at most cap messages, and o2 at last: the answers tell o2, and the subscriber with the
+    -- number s has read in order at last, and before each command, so also where it leaves
     abbrev pub ReadsInOrder : {W : Type 0} {K : ℕ} → ℕ → ℕ → List (Option (PubSubAsk T)) → Topic T → List (Command (PubSubAsk T) W (PubSubCall T)) → List (Reply (Answer (PubSubHeard T)) W K) → Topic T → Type 0
     ReadsInOrder cap s requests o commands replies o2 =
-        let k = account (λ k c a. after cap s k c a.answer) (known_at_first requests o) commands replies in
-        (k.topic ≡ o2) × IfSome k.told (λ t. HasRead s o2 t)
+        let first = known_at_first requests o in
+        let last = account (λ k c a. after cap s k c a.answer) first commands replies in
+        (last.topic ≡ o2) × IsInOrder s last × AtEach (λ k c a. after cap s k c a.answer) (λ k c a. IsInOrder s k) first commands replies
 
     -- so many messages are unread
     abbrev pub HasUnread : ℕ → Told T → Type 0

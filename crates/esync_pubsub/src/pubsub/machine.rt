@@ -843,10 +843,10 @@ pub type PubSubReply<T, W, const K: usize> = Reply<Answer<PubSubHeard<T>>, W, K>
 /// last heard Pending would now be answered Ready, unless its waker was handed out in that poll or since. And no Pending poll that changes
 /// nothing hands out its own waker. Who leaves or retires ends its requests first.
 ///
-/// From its coming on, what a subscriber reads, and just what was gone when it read, is what was published since then, in order, up to its
-/// position. The number that was gone follows from the channel and the requests at entry, the commands and the answers. What the subscriber
-/// is told of how much is unread is so. A `Lagged` tells just how many messages were gone, and a read that tells of lags, or a stream, gives
-/// a message only where none was.
+/// From its coming until it leaves, what a subscriber reads, and just what was gone when it read, is what was published since it came, in
+/// order, up to its position. The number that was gone follows from the channel and the requests at entry, the commands and the answers.
+/// What the subscriber is told of how much is unread is so. A `Lagged` tells just how many messages were gone, and a read that tells of
+/// lags, or a stream, gives a message only where none was.
 ///
 /// And the channel's sizes add up: how many messages it holds at each answer follows from the channel and the requests at entry, the
 /// commands and the answers. A length is that number, and a free capacity makes up `CAP` with it.
