@@ -260,7 +260,7 @@ impl<W: Copy, const N: usize, const L: usize> Kept for PipeRows<W, N, L> {
     }
 }
 
-/// Who waits for bytes, and who waits for room.
+/// Shows at place 0 the waker of the task that waits for bytes, and at place 1 that of the task that waits for room.
 impl<W: Copy + Eq, const N: usize, const L: usize> Registered for PipeRows<W, N, L> {
     type Waker = W;
 
@@ -274,7 +274,9 @@ impl<W: Copy + Eq, const N: usize, const L: usize> Registered for PipeRows<W, N,
 }
 
 impl<W: Copy + Eq, const N: usize, const L: usize> PipeRows<W, N, L> {
-    /// No byte, and nobody who waits. `L` has to be at least `N`.
+    /// Returns an empty pipe that no task waits on, with rows of at most `L` bytes.
+    ///
+    /// `L` has to be at least `N`. A caller tests `N <= L`: both are numbers of the type, so that it compares two constants.
     pub fn new() -> Self
         requires { N ≤ L }
         ensures items { result.ring.items ≡ [] }
@@ -282,12 +284,21 @@ impl<W: Copy + Eq, const N: usize, const L: usize> PipeRows<W, N, L> {
         ensures readers { result.slots.readers ≡ [] }
         ensures writers { result.slots.writers ≡ [] }
     {
-        PipeRows {
-            state: PipeState::new(),
-        }
+        PipeRows::from_state(PipeState::new())
     }
 
-    /// The state.
+    /// Returns a pipe of this state, with its bytes and its wakers, and with rows of at most `L` bytes. So a run can begin at any
+    /// state.
+    ///
+    /// `L` has to be at least `N`. A caller tests `N <= L`: both are numbers of the type, so that it compares two constants.
+    pub fn from_state(state: PipeState<W, N>) -> Self
+        requires { N ≤ L }
+        ensures { result ≡ state }
+    {
+        PipeRows { state }
+    }
+
+    /// Lends the state.
     pub fn state(&self) -> &PipeState<W, N>
         ensures { result.now ≡ self.now }
     {
