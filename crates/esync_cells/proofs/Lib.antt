@@ -1,4 +1,3 @@
-mod Asked
 pub mod OnceSet
 mod Handed
 mod Parts

@@ -1,11 +1,12 @@
 -- A change is told once.
 use Rattle.std.proofs.Common.{◌≡◌, ℕ, ◌==◌, ◌&&◌, Bool, true, false, List, Option, Some, None, nat_lt, ◌⊎◌, inl, inr, refl, sym, ap, ◌∙◌, subst}
-use Rattle.std.specs.Prelude.{[], Result, Ok, Err, is_none, is_some, nat_eq, length, slice_get, slice_set, if◌then◌else◌}
+use Rattle.std.specs.Prelude.{[], ◌∷◌, Result, Ok, Err, is_none, is_some, nat_eq, length, slice_get, slice_set, if◌then◌else◌}
 use Rattle.std.specs.declared.alloc.AllocError.{AllocError}
+use Rattle.std.proofs.Math.Bool.{and-true, and-false}
 use Rattle.esync_base.specs.ListedLaws.{same_number, equal_number, unequal_number, same_or_not}
 use Rattle.esync_machine.specs.AccountLaws.{of_any_kind, KeepsTold, law_run}
-use Rattle.esync_machine.specs.Numbers.{at_number, swept}
-use Rattle.esync_machine.specs.NumbersLaws.{there_of, at_of, at_set_here, at_set_other, swept_nothing}
+use Rattle.esync_machine.specs.Numbers.{flat, at_number, swept, swept_place, AllAt}
+use Rattle.esync_machine.specs.NumbersLaws.{set_there, there_of, at_of, at_set, at_set_here, at_set_other, swept_at, swept_nothing}
 use Rattle.esync_machine.specs.Runs.{GoodRun}
 use Rattle.esync_machine.specs.Object.{Object, Allows, AllowsAt, requests_meaning}
 use Rattle.esync_machine.specs.ObjectLaws.{EachStep, each_step}
@@ -22,9 +23,8 @@ use Rattle.esync_cells.specs.Receivers.{is_counted, is_free, seen_at, version_of
 use Rattle.esync_cells.specs.ReceiversLaws.{and_first, and_second, nobody, at_marked}
 use Rattle.esync_cells.specs.WatchRules.{Watch, sought, marks, with_read, with_receiver, Begins, PollsAs, Polls, Calls, Joins, JoinsAnon, Leaves, Tried, Reads, reach, leaves, watch_rules, watch_wakings, IsReceiving}
 use Rattle.esync_cells.specs.WatchLaws.{only_waits}
-use Rattle.esync_cells.specs.Asked.{with_asked, known_after}
-use Rattle.esync_cells.specs.WatchNews.{Account, is_told, told_by, told_by_poll, asked_by, after, WaitsOn, WaitsOnFor, TellsNoMore, TellsOnce}
-use Rattle.esync_cells.proofs.Asked.{AreThere, started_at, over_at, goes_on_at, left_at, kept_place, with_each}
+use Rattle.esync_cells.specs.Asked.{requests_after}
+use Rattle.esync_cells.specs.WatchNews.{Account, is_told, told_by, told_by_poll, requests_by, after, WaitsOn, WaitsOnFor, TellsNoMore, at_first, TellsOnce}
 use Rattle.esync_cells.specs.declared.watch.machine.Seen.{Seen}
 use Rattle.esync_cells.specs.declared.watch.machine.Reading.{Reading}
 use Rattle.esync_cells.specs.declared.watch.machine.Reading.TheVariants.{Get, Changed, GetAnd, ChangedAnd}
@@ -68,9 +68,11 @@ someone : (p : Option Seen) → is_counted p ≡ true → (s : Seen) × (p ≡ S
 someone None e = absurd cc
 someone (Some s) e = (s, refl)
 
-none_ends : (b : Bool) → (b && false) ≡ false
-none_ends true = refl
-none_ends false = refl
+-- tests that say the same end the same
+swept_as : {A : Type 0} (f g : A → Bool) (q : List (Option A)) → ((x : A) → f x ≡ g x) → swept f q ≡ swept g q
+swept_as f g [] same = refl
+swept_as f g (None ∷ q) same = ap (λ l. None ∷ l) (swept_as f g q same)
+swept_as f g (Some x ∷ q) same = rw (same x, swept_place) (ap (λ l. swept_place g (Some x) ∷ l) (swept_as f g q same))
 
 -- a request that is started is what was asked
 begun_as : {J : Type 0} (b : Bool) (ask x : Await J) → Begins b ask (Some x) → ask ≡ x
@@ -124,24 +126,28 @@ module _ {T : Type 0} (h : ℕ) where
         let now : Seen = record s { version = o.version } in
         subst (λ y. IsThere y true) (sym e) (now, subst (λ t. at_number (with_seen r o.version o.receivers) t ≡ Some now) same (seen_here o.receivers r o.version s at), not_newer o.version)
 
-    told_polled : (o o2 : Watch T) (k : Bool) (known : Option (Await J)) (held : Await J) (a : Answer (WatchHeard T)) (p : Option (Await J)) (got : Result (Option T) AllocError) → PollsAs IsClone IsInfallible passes got o held a o2 p → ((x : Await J) → known ≡ Some x → (held ≡ x) × IsReceiving o x) → IsThere o k → IsThere o2 (told_by_poll h k known a)
-    told_polled o o2 k None held a p got t is there = polled_as o o2 k held a p got t there
-    told_polled o o2 k (Some ask) held a p (Ok (Some v)) t is there = elim (same_or_not ask.receiver h) [
-      | inl same ↦ rw (t.0, equal_number ask.receiver h same) (
-          let known = is ask refl in
-          let there = someone (at_number o.receivers ask.receiver) known.1 in
-          seen_now o o2 ask.receiver there.0 there.1 same (subst (λ x. o2 ≡ with_read x.receiver o.version o) known.0 t.1)
+    told_polled : (o o2 : Watch T) (k : Bool) (held : Await J) (a : Answer (WatchHeard T)) (p : Option (Await J)) (got : Result (Option T) AllocError) → PollsAs IsClone IsInfallible passes got o held a o2 p → IsReceiving o held → IsThere o k → IsThere o2 (told_by_poll h k (Some held) a)
+    told_polled o o2 k held a p (Ok (Some v)) t receiving there = elim (same_or_not held.receiver h) [
+      | inl same ↦ rw (t.0, equal_number held.receiver h same) (
+          let s = someone (at_number o.receivers held.receiver) receiving in
+          seen_now o o2 held.receiver s.0 s.1 same t.1
           )
-      | inr other ↦ rw (t.0, unequal_number ask.receiver h other) (polled_as o o2 k held a p (Ok (Some v)) t there)
+      | inr other ↦ rw (t.0, unequal_number held.receiver h other) (polled_as o o2 k held a p (Ok (Some v)) t there)
     ]
-    told_polled o o2 k (Some ask) held a p (Ok None) t is there = rw t.0 (polled_as o o2 k held a p (Ok None) t there)
-    told_polled o o2 k (Some ask) held a p (Err e) t is there = rw t.0 (polled_as o o2 k held a p (Err e) t there)
+    told_polled o o2 k held a p (Ok None) t receiving there = rw t.0 (polled_as o o2 k held a p (Ok None) t there)
+    told_polled o o2 k held a p (Err e) t receiving there = rw t.0 (polled_as o o2 k held a p (Err e) t there)
 
     -- a request is over where its poll shows a value, and else goes on
-    polled_asked : {W : Type 0} (o o2 : Watch T) (asked : ℕ → Option (Await J)) (q : List (Option (Await J))) (r : ℕ) (w : W) (held : Await J) (a : Answer (WatchHeard T)) (p : Option (Await J)) (got : Result (Option T) AllocError) → slice_get q r ≡ Some (Some held) → PollsAs IsClone IsInfallible passes got o held a o2 p → AreThere asked q → AreThere (known_after {C = Unit {0}} asked (Poll r w) a) (slice_set q r p)
-    polled_asked o o2 asked q r w held a p (Ok (Some v)) at t are = rw t.0 (over_at asked q r (Some held) p at are)
-    polled_asked o o2 asked q r w held a p (Ok None) at t are = rw (t.0, t.2) (goes_on_at asked q r (Some held) at are)
-    polled_asked o o2 asked q r w held a p (Err e) at t are = rw (t.0, t.2) (goes_on_at asked q r (Some held) at are)
+    polled_requests : {W : Type 0} (o o2 : Watch T) (known q : List (Option (Await J))) (r : ℕ) (w : W) (held : Await J) (a : Answer (WatchHeard T)) (p : Option (Await J)) (got : Result (Option T) AllocError) → slice_get q r ≡ Some (Some held) → PollsAs IsClone IsInfallible passes got o held a o2 p → known ≡ q → requests_after {C = Unit {0}} known (Poll r w) a ≡ slice_set q r p
+    polled_requests o o2 known q r w held a p (Ok (Some v)) at t are = rw (t.0, t.2) (ap (λ l. slice_set l r None) are)
+    polled_requests o o2 known q r w held a p (Ok None) at t are = rw (t.0, t.2) (are ∙ sym (set_there q r (Some held) at))
+    polled_requests o o2 known q r w held a p (Err e) at t are = rw (t.0, t.2) (are ∙ sym (set_there q r (Some held) at))
+
+    -- what stands at the number of a poll after it stood there before
+    goes_on_as : (o o2 : Watch T) (held x : Await J) (a : Answer (WatchHeard T)) (p : Option (Await J)) (got : Result (Option T) AllocError) → PollsAs IsClone IsInfallible passes got o held a o2 p → p ≡ Some x → held ≡ x
+    goes_on_as o o2 held x a p (Ok (Some v)) t e = (let f = sym t.2 ∙ e in absurd cc)
+    goes_on_as o o2 held x a p (Ok None) t e = (let f = sym t.2 ∙ e in cc)
+    goes_on_as o o2 held x a p (Err error) t e = (let f = sym t.2 ∙ e in cc)
 
     -- a read of the receiver at r that found this
     module _ (o : Watch T) (k : Bool) (r : ℕ) (read : Reading J) (s : Seen) (at : at_number o.receivers r ≡ Some s) where
@@ -230,41 +236,27 @@ module _ {T : Type 0} (h : ℕ) where
 
         refused : (k : Account J) (c : Command (Await J) W (WatchCall T C J)) → after h k c NoSuch ≡ k
         refused k (Start r ask) = refl
-        refused k (Poll r w) = ap (λ b. record { told = b; asked = k.asked }) (told_nothing k.told (k.asked r))
+        refused k (Poll r w) = ap (λ b. record { told = b; requests = k.requests }) (told_nothing k.told (at_number k.requests r))
         refused k (End r) = refl
         refused k (Call (Leave r)) = refl
         refused k (Call call) = refl
 
-        -- the receiver is told, the requests are there, and their receivers are
+        -- the receiver is told, the requests are known, and their receivers are there
         abbrev Told : Object (Watch T) (Await J) → Account J → Type 0
-        Told o k = IsThere o.core k.told × AreThere k.asked o.requests × ((r : ℕ) (x : Await J) → k.asked r ≡ Some x → IsReceiving o.core x)
+        Told o k = IsThere o.core k.told × (k.requests ≡ o.requests) × AllAt (IsReceiving o.core) o.requests
 
-        asked_alone : (asked : ℕ → Option (Await J)) (call : WatchCall T C J) (a : Answer (WatchHeard T)) → reach call ≡ Nobody → asked_by asked call a ≡ asked
-        asked_alone asked (Leave r) a e = cc
-        asked_alone asked call a e = refl
+        requests_alone : (requests : List (Option (Await J))) (call : WatchCall T C J) (a : Answer (WatchHeard T)) → reach call ≡ Nobody → requests_by requests call a ≡ requests
+        requests_alone requests (Leave r) a e = cc
+        requests_alone requests call a e = refl
 
         -- a receiver leaves, if one is there, and its requests end
-        left_asked : (o o2 : Watch T) (asked : ℕ → Option (Await J)) (q : List (Option (Await J))) (r : ℕ) (a : Answer (WatchHeard T)) (p : Option Seen) (ends : Await J → Bool) → ((x : Await J) → ends x ≡ (nat_eq x.receiver r && is_some p)) → Leaves p r o a o2 → AreThere asked q → AreThere (asked_by {C = C} asked (Leave r) a) (swept ends q)
-        left_asked o o2 asked q r a None ends is t are =
-            rw t.0 (subst (λ l. AreThere asked l) (sym (swept_nothing ends q (λ x. is x ∙ none_ends (nat_eq x.receiver r)))) are)
-        left_asked o o2 asked q r a (Some s) ends is t are =
-            rw t.0 (left_at asked q (λ x. nat_eq x.receiver r) ends (λ x e. is x ∙ ap (λ b. b && true) e) are)
+        left_requests : (o o2 : Watch T) (q : List (Option (Await J))) (r : ℕ) (a : Answer (WatchHeard T)) (p : Option Seen) (ends : Await J → Bool) → ((x : Await J) → ends x ≡ (nat_eq x.receiver r && is_some p)) → Leaves p r o a o2 → requests_by {C = C} q (Leave r) a ≡ swept ends q
+        left_requests o o2 q r a None ends is t = rw t.0 (sym (swept_nothing ends q (λ x. is x ∙ and-false (nat_eq x.receiver r))))
+        left_requests o o2 q r a (Some s) ends is t = rw t.0 (swept_as (λ x. nat_eq x.receiver r) ends q (λ x. sym (is x ∙ and-true (nat_eq x.receiver r))))
 
-        asked_leaving : (o o2 : Watch T) (asked : ℕ → Option (Await J)) (q : List (Option (Await J))) (call : WatchCall T C J) (a : Answer (WatchHeard T)) → reach call ≡ Leavers → Calls n IsClone IsInfallible changed tells passes o call a o2 → AreThere asked q → AreThere (asked_by asked call a) (swept (leaves o call) q)
-        asked_leaving o o2 asked q (Leave r) a e t are = left_asked o o2 asked q r a (at_number o.receivers r) (leaves {C = C} o (Leave r)) (λ x. refl) t are
-        asked_leaving o o2 asked q call a e t are = cc
-
-        -- what is known still after a call isn't ended by it
-        left_stays : (asked : ℕ → Option (Await J)) (o o2 : Watch T) (r s : ℕ) (x : Await J) (a : Answer (WatchHeard T)) (p : Option Seen) → Leaves p s o a o2 → asked_by {C = C} asked (Leave s) a r ≡ Some x → (asked r ≡ Some x) × ((nat_eq x.receiver s && is_some p) ≡ false)
-        left_stays asked o o2 r s x a None t e = (rw t.0 at e, none_ends (nat_eq x.receiver s))
-        left_stays asked o o2 r s x a (Some t2) t e =
-            let f = rw t.0 at e in
-            let k = kept_place (λ y. nat_eq y.receiver s) (asked r) x f in
-            (k.0, ap (λ b. b && true) k.1)
-
-        known_stays : (asked : ℕ → Option (Await J)) (o o2 : Watch T) (call : WatchCall T C J) (a : Answer (WatchHeard T)) (r : ℕ) (x : Await J) → Calls n IsClone IsInfallible changed tells passes o call a o2 → asked_by asked call a r ≡ Some x → (asked r ≡ Some x) × (ended (watch_rules n IsClone IsInfallible changed tells passes) o (reach call) call x ≡ false)
-        known_stays asked o o2 (Leave s) a r x t e = left_stays asked o o2 r s x a (at_number o.receivers s) t e
-        known_stays asked o o2 call a r x t e = (e, refl)
+        requests_leaving : (o o2 : Watch T) (q : List (Option (Await J))) (call : WatchCall T C J) (a : Answer (WatchHeard T)) → reach call ≡ Leavers → Calls n IsClone IsInfallible changed tells passes o call a o2 → requests_by q call a ≡ swept (leaves o call) q
+        requests_leaving o o2 q (Leave r) a e t = left_requests o o2 q r a (at_number o.receivers r) (leaves {C = C} o (Leave r)) (λ x. refl) t
+        requests_leaving o o2 q call a e t = cc
 
         any : W → W → Bool
         any v w = true
@@ -279,78 +271,92 @@ module _ {T : Type 0} (h : ℕ) where
             let handed = handed_by_poll (watch_wakings {C = C} any n tells) o [] held w a p in
             (polled_kept n IsClone IsInfallible changed tells passes any o o2 [] handed.after handed.wakes held a p w (refl, refl) t x).fits receiving
 
-        -- fewer are known after a poll
-        known_before : (asked : ℕ → Option (Await J)) (r : ℕ) (w : W) (a : Answer (WatchHeard T)) (s : ℕ) (x : Await J) → known_after {C = WatchCall T C J} asked (Poll r w) a s ≡ Some x → asked s ≡ Some x
-        known_before asked r w (Gives heard) s x e = with_each (λ t y. asked t ≡ Some y) asked r None (λ y f. absurd cc) (λ t y other f. f) s x e
-        known_before asked r w a s x e = e
+        started_receives : (o : Watch T) (q : List (Option (Await J))) (r : ℕ) (ask x : Await J) → slice_get q r ≡ Some None → Begins (is_counted (at_number o.receivers ask.receiver)) ask (Some x) → AllAt (IsReceiving o) q → AllAt (IsReceiving o) (slice_set q r (Some x))
+        started_receives o q r ask x at begins receiving s y e = elim (at_set q r None (Some x) s y at e) [
+          | inl here ↦ (let same : x ≡ y = (let f = here.1 in cc) in subst (IsReceiving o) (begun_as _ ask x begins ∙ same) (begun_counted _ ask x begins))
+          | inr other ↦ receiving s y other.1
+        ]
+
+        polled_receives : (o o2 : Watch T) (q : List (Option (Await J))) (r : ℕ) (w : W) (held : Await J) (a : Answer (WatchHeard T)) (p : Option (Await J)) → slice_get q r ≡ Some (Some held) → Polls IsClone IsInfallible passes o held a o2 p → AllAt (IsReceiving o) q → AllAt (IsReceiving o2) (slice_set q r p)
+        polled_receives o o2 q r w held a p at t receiving s y e = elim (at_set q r (Some held) p s y at e) [
+          | inl here ↦ receives_polled o o2 held w a p y t (subst (IsReceiving o) (goes_on_as o o2 held y a p t.0 t.2 here.1) (receiving r held (at_of q r (Some held) at)))
+          | inr other ↦ receives_polled o o2 held w a p y t (receiving s y other.1)
+        ]
+
+        ended_receives : (o : Watch T) (q : List (Option (Await J))) (r : ℕ) (held : Await J) → slice_get q r ≡ Some (Some held) → AllAt (IsReceiving o) q → AllAt (IsReceiving o) (slice_set q r None)
+        ended_receives o q r held at receiving s y e = elim (at_set q r (Some held) None s y at e) [
+          | inl here ↦ absurd cc
+          | inr other ↦ receiving s y other.1
+        ]
 
         keeps : EachStep (watch_rules n IsClone IsInfallible changed tells passes) (KeepsTold (watch_rules n IsClone IsInfallible changed tells passes) (λ c. Unit {0}) (after {W = W} h) Told)
         keeps = record {
           refused = λ o c k kind told. subst (λ x. Told o x) (sym (refused k c)) told;
           starts = λ o r ask x at begins k kind told. (
             told.0,
-            subst (λ y. AreThere (with_asked r (Some ask) k.asked) (slice_set o.requests r (Some y))) (begun_as _ ask x begins) (started_at k.asked o.requests r ask None at told.1),
-            with_each (λ s y. IsReceiving o.core y) k.asked r (Some ask) (λ y e. let same : ask ≡ y = cc in subst (IsReceiving o.core) same (begun_counted _ ask x begins)) (λ s y other e. told.2 s y e),
+            ap (λ l. slice_set l r (Some ask)) told.1 ∙ ap (λ y. slice_set o.requests r (Some y)) (begun_as _ ask x begins),
+            started_receives o.core o.requests r ask x at begins told.2,
           );
           polls = λ o r w x a core p at t k kind told. (
-            told_polled o.core core k.told (k.asked r) x a p t.0 t.2 (λ y e. let f : at_number o.requests r ≡ Some x = at_of o.requests r (Some x) at in let same : Some x ≡ Some y = sym f ∙ told.1 r y e in (cc, told.2 r y e)) told.0,
-            polled_asked o.core core k.asked o.requests r w x a p t.0 at t.2 told.1,
-            λ s y e. receives_polled o.core core x w a p y t (told.2 s y (known_before k.asked r w a s y e)),
+            let there : at_number o.requests r ≡ Some x = at_of o.requests r (Some x) at in
+                subst (λ y. IsThere core (told_by_poll h k.told y a)) (sym (ap (λ l. at_number l r) told.1 ∙ there)) (told_polled o.core core k.told x a p t.0 t.2 (told.2 r x there) told.0),
+            polled_requests o.core core k.requests o.requests r w x a p t.0 at t.2 told.1,
+            polled_receives o.core core o.requests r w x a p at t told.2,
           );
           ends = λ o r x core at e k kind told. (
             still o.core core k.told e told.0,
-            over_at k.asked o.requests r (Some x) None at told.1,
-            λ s y f. subst (λ z. IsReceiving z y) (sym e) (with_each (λ t z. IsReceiving o.core z) k.asked r None (λ z g. absurd cc) (λ t z other g. told.2 t z g) s y f),
+            ap (λ l. slice_set l r None) told.1,
+            subst (λ z. AllAt (IsReceiving z) (slice_set o.requests r None)) (sym e) (ended_receives o.core o.requests r x at told.2),
           );
           calls = λ o call r p a core p2 at there t k kind told. absurd (not_at_a_number call r at);
           alone = λ o call a core p at t k kind told. (
             called o.core core k.told call a t.0 told.0,
-            subst (λ x. AreThere x o.requests) (sym (asked_alone k.asked call a at)) told.1,
-            λ s y e. let f = known_stays k.asked o.core core call a s y t.0 e in receives_called o.core core call a y t.0 f.1 (told.2 s y f.0),
+            requests_alone k.requests call a at ∙ told.1,
+            λ s y e. receives_called o.core core call a y t.0 (ap (λ z. ended (watch_rules n IsClone IsInfallible changed tells passes) o.core z call y) at) (told.2 s y e),
           );
           leaves = λ o call a core p at t k kind told. (
             called o.core core k.told call a t.0 told.0,
-            asked_leaving o.core core k.asked o.requests call a at t.0 told.1,
-            λ s y e. let f = known_stays k.asked o.core core call a s y t.0 e in receives_called o.core core call a y t.0 f.1 (told.2 s y f.0),
+            ap (λ l. requests_by l call a) told.1 ∙ requests_leaving o.core core o.requests call a at t.0,
+            λ s y e. let f = swept_at (leaves o.core call) o.requests s y e in receives_called o.core core call a y t.0 (ap (λ z. ended (watch_rules n IsClone IsInfallible changed tells passes) o.core z call y) at ∙ f.1) (told.2 s y f.0),
           );
         }
 
-        -- a request that is known finds no news
-        polled_tells : (o o2 : Object (Watch T) (Await J)) (r : ℕ) (w : W) (a : Answer (WatchHeard T)) (ask : Await J) → slice_get o.requests r ≡ Some (Some ask) → Allows (watch_rules n IsClone IsInfallible changed tells passes) o (Poll r w) a o2 → sought passes o.core.value o.core.version (seen_at o.core.receivers ask.receiver) ask.read ≡ None → a ≡ Pending
-        polled_tells o o2 r w a ask at allowed none =
-            let t = (subst (λ p. AllowsAt (watch_rules n IsClone IsInfallible changed tells passes) o (Poll r w) r p a o2) at allowed) in
-            let polls : Polls IsClone IsInfallible passes o.core ask a t.0 t.1 = t.2 in
-            (only_waits n IsClone IsInfallible changed tells passes o.core ask a t.0 t.1 polls.0 (subst (λ y. Answers IsClone IsInfallible y polls.0) none polls.1) polls.2).0
+        -- a request of the receiver finds no news
+        polled_tells : (o o2 : Watch T) (a : Answer (WatchHeard T)) (ask : Await J) (p : Option (Await J)) → Polls IsClone IsInfallible passes o ask a o2 p → sought passes o.value o.version (seen_at o.receivers ask.receiver) ask.read ≡ None → a ≡ Pending
+        polled_tells o o2 a ask p t none =
+            (only_waits n IsClone IsInfallible changed tells passes o ask a o2 p t.0 (subst (λ y. Answers IsClone IsInfallible y t.0) none t.1) t.2).0
 
-        waits_on : (o o2 : Object (Watch T) (Await J)) (r : ℕ) (w : W) (a : Answer (WatchHeard T)) (receiver : ℕ) (read : Reading J) → slice_get o.requests r ≡ Some (Some (record { receiver = receiver; read = read })) → Allows (watch_rules n IsClone IsInfallible changed tells passes) o (Poll r w) a o2 → IsThere o.core true → WaitsOn h receiver read a
-        waits_on o o2 r w a receiver Get at allowed there = tt
-        waits_on o o2 r w a receiver Changed at allowed there = λ same.
-            polled_tells o o2 r w a (record { receiver = receiver; read = Changed }) at allowed (no_news_at o.core receiver Changed (λ s seen. rw seen refl) there same)
-        waits_on o o2 r w a receiver (GetAnd judge) at allowed there = tt
-        waits_on o o2 r w a receiver (ChangedAnd judge) at allowed there = λ same.
-            polled_tells o o2 r w a (record { receiver = receiver; read = ChangedAnd judge }) at allowed (no_news_at o.core receiver (ChangedAnd judge) (λ s seen. rw seen refl) there same)
+        waits_on : (o o2 : Watch T) (a : Answer (WatchHeard T)) (receiver : ℕ) (read : Reading J) (p : Option (Await J)) → Polls IsClone IsInfallible passes o (record { receiver = receiver; read = read }) a o2 p → IsThere o true → WaitsOn h receiver read a
+        waits_on o o2 a receiver Get p t there = tt
+        waits_on o o2 a receiver Changed p t there = λ same.
+            polled_tells o o2 a (record { receiver = receiver; read = Changed }) p t (no_news_at o receiver Changed (λ s seen. rw seen refl) there same)
+        waits_on o o2 a receiver (GetAnd judge) p t there = tt
+        waits_on o o2 a receiver (ChangedAnd judge) p t there = λ same.
+            polled_tells o o2 a (record { receiver = receiver; read = ChangedAnd judge }) p t (no_news_at o receiver (ChangedAnd judge) (λ s seen. rw seen refl) there same)
 
-        waits_on_for : (o o2 : Object (Watch T) (Await J)) (r : ℕ) (w : W) (a : Answer (WatchHeard T)) (ask : Option (Await J)) → ((x : Await J) → ask ≡ Some x → slice_get o.requests r ≡ Some (Some x)) → Allows (watch_rules n IsClone IsInfallible changed tells passes) o (Poll r w) a o2 → IsThere o.core true → WaitsOnFor h ask a
-        waits_on_for o o2 r w a None at allowed there = tt
-        waits_on_for o o2 r w a (Some ask) at allowed there = waits_on o o2 r w a ask.receiver ask.read (at ask refl) allowed there
+        -- by what stands at the number of a poll
+        waits_on_for : (o o2 : Object (Watch T) (Await J)) (r : ℕ) (w : W) (a : Answer (WatchHeard T)) (p : Option (Option (Await J))) → AllowsAt (watch_rules n IsClone IsInfallible changed tells passes) o (Poll r w) r p a o2 → IsThere o.core true → WaitsOnFor h (flat p) a
+        waits_on_for o o2 r w a None allowed there = allowed.0
+        waits_on_for o o2 r w a (Some None) allowed there = allowed.2.0
+        waits_on_for o o2 r w a (Some (Some ask)) allowed there = waits_on o.core allowed.0 a ask.receiver ask.read allowed.1 allowed.2 there
 
-        tells_no_more : (o o2 : Object (Watch T) (Await J)) (told : Bool) (asked : ℕ → Option (Await J)) (c : Command (Await J) W (WatchCall T C J)) (a : Answer (WatchHeard T)) → Allows (watch_rules n IsClone IsInfallible changed tells passes) o c a o2 → Told o (record { told = told; asked = asked }) → TellsNoMore h told asked c a
-        tells_no_more o o2 false asked c a allowed told = tt
-        tells_no_more o o2 true asked (Start r ask) a allowed told = tt
-        tells_no_more o o2 true asked (Poll r w) a allowed told =
-            waits_on_for o o2 r w a (asked r) (λ x e. there_of o.requests r x (told.1 r x e)) allowed told.0
-        tells_no_more o o2 true asked (End r) a allowed told = tt
-        tells_no_more o o2 true asked (Call (Read r Changed)) a allowed told =
+        tells_no_more : (o o2 : Object (Watch T) (Await J)) (told : Bool) (requests : List (Option (Await J))) (c : Command (Await J) W (WatchCall T C J)) (a : Answer (WatchHeard T)) → Allows (watch_rules n IsClone IsInfallible changed tells passes) o c a o2 → Told o (record { told = told; requests = requests }) → TellsNoMore h told requests c a
+        tells_no_more o o2 false requests c a allowed told = tt
+        tells_no_more o o2 true requests (Start r ask) a allowed told = tt
+        tells_no_more o o2 true requests (Poll r w) a allowed told =
+            subst (λ q. WaitsOnFor h (at_number q r) a) (sym told.1) (waits_on_for o o2 r w a (slice_get o.requests r) allowed told.0)
+        tells_no_more o o2 true requests (End r) a allowed told = tt
+        tells_no_more o o2 true requests (Call (Read r Changed)) a allowed told =
             no_news o.core allowed.0 r Changed a (λ s seen. rw seen refl) allowed.2.0 told.0
-        tells_no_more o o2 true asked (Call (Read r (ChangedAnd judge))) a allowed told =
+        tells_no_more o o2 true requests (Call (Read r (ChangedAnd judge))) a allowed told =
             no_news o.core allowed.0 r (ChangedAnd judge) a (λ s seen. rw seen refl) allowed.2.0 told.0
-        tells_no_more o o2 true asked (Call call) a allowed told = tt
+        tells_no_more o o2 true requests (Call call) a allowed told = tt
 
 -- whatever wakers the watch hands out
-pub tells_once : {T C J W : Type 0} (n : ℕ) (IsClone : T → T → Type 0) (IsInfallible : T → Type 0) (changed : C → Option T → Option T) (tells : C → Option T → Bool) (passes : J → T → Bool) (H : Wakings (Watch T) (Await J) (WatchCall T C J) (WatchHeard T) W) (eq : W → W → Bool) (K h : ℕ) (o o2 : Object (Watch T) (Await J)) (g g2 : H.Registered) (cs : List (Command (Await J) W (WatchCall T C J))) (as' : List (Reply (Answer (WatchHeard T)) W K)) → GoodRun (requests_meaning (watch_rules n IsClone IsInfallible changed tells passes) H eq K) o g cs as' o2 g2 → TellsOnce h cs as'
-tells_once {T} {C} {J} {W} n IsClone IsInfallible changed tells passes H eq K h o o2 g g2 cs as' run =
+pub tells_once : {T C J W : Type 0} (n : ℕ) (IsClone : T → T → Type 0) (IsInfallible : T → Type 0) (changed : C → Option T → Option T) (tells : C → Option T → Bool) (passes : J → T → Bool) (H : Wakings (Watch T) (Await J) (WatchCall T C J) (WatchHeard T) W) (eq : W → W → Bool) (K h : ℕ) (o o2 : Object (Watch T) (Await J)) (g g2 : H.Registered) (cs : List (Command (Await J) W (WatchCall T C J))) (as' : List (Reply (Answer (WatchHeard T)) W K)) → GoodRun (requests_meaning (watch_rules n IsClone IsInfallible changed tells passes) H eq K) o g cs as' o2 g2 → AllAt (IsReceiving o.core) o.requests → TellsOnce h o.requests cs as'
+tells_once {T} {C} {J} {W} n IsClone IsInfallible changed tells passes H eq K h o o2 g g2 cs as' run receiving =
     let rules = watch_rules n IsClone IsInfallible changed tells passes in
     law_run (requests_meaning rules H eq K) (λ c. Unit {0}) (λ k c a. after h k c a.answer) (Told h IsClone IsInfallible passes n changed tells W)
     (λ o o2 k c a kind allowed. each_step rules (keeps h IsClone IsInfallible passes n changed tells W) o o2 c a.answer allowed k kind)
-    (λ k c a. TellsNoMore h k.told k.asked c a.answer) (λ o o2 k c a kind allowed told. tells_no_more h IsClone IsInfallible passes n changed tells W o o2 k.told k.asked c a.answer allowed told)
-    o o2 g g2 (record { told = false; asked = λ r. None }) cs as' (of_any_kind cs) run (tt, (λ r x e. absurd cc), (λ r x e. absurd cc))
+    (λ k c a. TellsNoMore h k.told k.requests c a.answer) (λ o o2 k c a kind allowed told. tells_no_more h IsClone IsInfallible passes n changed tells W o o2 k.told k.requests c a.answer allowed told)
+    o o2 g g2 (at_first o.requests) cs as' (of_any_kind cs) run (tt, refl, receiving)

@@ -1,12 +1,14 @@
--- A value that was set stays until it is taken: told of the commands and their answers alone.
-use Rattle.std.specs.Prelude.{◌≡◌, ◌⊎◌, ℕ, true, List, Option, Some, None, Ok, Err}
+-- A value that was set stays until it is taken: told of the value and the requests at first, and of the commands and their
+-- answers.
+use Rattle.std.specs.Prelude.{◌≡◌, ℕ, true, List, Option, Some, None, Ok, Err}
 use Rattle.esync_machine.specs.Account.{AtEach}
+use Rattle.esync_machine.specs.Numbers.{at_number}
 use Rattle.esync_machine.specs.declared.run.Reply.{Reply}
 use Rattle.esync_machine.specs.declared.primitive.Answer.{Answer}
 use Rattle.esync_machine.specs.declared.primitive.Answer.TheVariants.{NoSuch, Gives}
 use Rattle.esync_machine.specs.declared.primitive.Command.{Command}
 use Rattle.esync_machine.specs.declared.primitive.Command.TheVariants.{Poll, Call}
-use Rattle.esync_cells.specs.Asked.{known_after}
+use Rattle.esync_cells.specs.Asked.{requests_after}
 use Rattle.esync_cells.specs.declared.once_lock.InitError.TheVariants.{Set}
 use Rattle.esync_cells.specs.declared.once_lock.machine.Get.{Get}
 use Rattle.esync_cells.specs.declared.once_lock.machine.OnceCall.{OnceCall}
@@ -14,12 +16,12 @@ use Rattle.esync_cells.specs.declared.once_lock.machine.OnceCall.TheVariants.{Tr
 use Rattle.esync_cells.specs.declared.once_lock.machine.OnceHeard.{OnceHeard}
 use Rattle.esync_cells.specs.declared.once_lock.machine.OnceHeard.TheVariants.{Got, Found, HasSet, Shown, IsSet as WasSet}
 
--- what is known of a once lock from its commands and answers
+-- what is known of a once lock from its value and its requests at first, its commands and answers
 pub record Account (T : Type 0) : Type 0 where
   -- the value that was set, and not yet taken
   pub value : Option T
-  -- which requests are there
-  pub asked : ℕ → Option Get
+  -- what stands at each number
+  pub requests : List (Option Get)
 
 module _ {T : Type 0} where
   -- the value after a command and its answer
@@ -34,7 +36,7 @@ module _ {T : Type 0} where
   value_after value _ a = value
 
   abbrev pub after : {W : Type 0} → Account T → Command Get W (OnceCall T) → Answer (OnceHeard T) → Account T
-  after k c a = record { value = value_after k.value c a; asked = known_after k.asked c a }
+  after k c a = record { value = value_after k.value c a; requests = requests_after k.requests c a }
 
   -- what a call is answered while this value is there
   abbrev pub ShowsTo : T → OnceCall T → Answer (OnceHeard T) → Type 0
@@ -44,19 +46,25 @@ module _ {T : Type 0} where
   ShowsTo v Take a = a ≡ Gives (Found (Some v))
   ShowsTo v IsSet a = a ≡ Gives (WasSet true)
 
-  -- what a poll is answered then: at a number at which no request is known, there may be none
+  -- what the poll of a request is answered then, and a poll at a number at which there is none
   abbrev pub ShowsToPoll : T → Option Get → Answer (OnceHeard T) → Type 0
   ShowsToPoll v (Some ask) a = a ≡ Gives (Got v)
-  ShowsToPoll v None a = (a ≡ NoSuch) ⊎ (a ≡ Gives (Got v))
+  ShowsToPoll v None a = a ≡ NoSuch
 
   -- what any command is answered, where this value was set or none was
-  abbrev pub Shows : {W : Type 0} → Option T → (ℕ → Option Get) → Command Get W (OnceCall T) → Answer (OnceHeard T) → Type 0
-  Shows None asked c a = Unit {0}
-  Shows (Some v) asked (Poll r w) a = ShowsToPoll v (asked r) a
-  Shows (Some v) asked (Call call) a = ShowsTo v call a
-  Shows (Some v) asked c a = Unit {0}
+  abbrev pub Shows : {W : Type 0} → Option T → List (Option Get) → Command Get W (OnceCall T) → Answer (OnceHeard T) → Type 0
+  Shows None requests c a = Unit {0}
+  Shows (Some v) requests (Poll r w) a = ShowsToPoll v (at_number requests r) a
+  Shows (Some v) requests (Call call) a = ShowsTo v call a
+  Shows (Some v) requests c a = Unit {0}
 
-  -- at each command of a run: from a successful `Init` or a `GetOrInit` on, until a `Take`, each call and each poll of a request shows the value
-  abbrev pub StaysSet : {W : Type 0} {K : ℕ} → List (Command Get W (OnceCall T)) → List (Reply (Answer (OnceHeard T)) W K) → Type 0
-  StaysSet commands replies =
-      AtEach (λ k c a. after k c a.answer) (λ k c a. Shows k.value k.asked c a.answer) (record { value = None; asked = λ r. None }) commands replies
+  -- what is known at first of a once lock with this value, if it was set, and these requests
+  abbrev pub at_first : Option T → List (Option Get) → Account T
+  at_first value requests = record { value = value; requests = requests }
+
+  -- of a once lock with this value and these requests at first, at each command of a run: from a successful `Init` or a `GetOrInit` on, or
+  -- from the first command on if a value is there, until a `Take`, each call and each poll of a request shows the value, and every other
+  -- poll names what isn't there
+  abbrev pub StaysSet : {W : Type 0} {K : ℕ} → Option T → List (Option Get) → List (Command Get W (OnceCall T)) → List (Reply (Answer (OnceHeard T)) W K) → Type 0
+  StaysSet value requests commands replies =
+      AtEach (λ k c a. after k c a.answer) (λ k c a. Shows k.value k.requests c a.answer) (at_first value requests) commands replies

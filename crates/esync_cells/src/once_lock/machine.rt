@@ -131,14 +131,16 @@ pub type OnceReply<T, W, const K: usize> = Reply<Answer<OnceHeard<T>>, W, K>;
 /// Gives the commands to the value, one after another, as `run` does.
 ///
 /// The answers are those of an optional value, and no wake is lost, since a poll that finds no value wakes itself. A value that was
-/// set stays: from a successful `Init` or a `GetOrInit` on, until a `Take`, each call shows it, and so does each poll of a request.
+/// set, before the run or by a successful `Init` or a `GetOrInit`, stays until a `Take`: each call shows it, and so does each poll of a
+/// request, whether it stood at its number before the run or was started in it. A poll at a number without a request is answered
+/// `NoSuch`.
 pub fn run_once<T: Copy, W: Copy + Eq, const REQS: usize, const K: usize>(
     alloc: Global,
     machine: &mut OnceRun<T, W, REQS, K>,
     commands: Vec<OnceCommand<T, W>>,
 ) -> Result<Vec<OnceReply<T, W, K>>, AllocError>
     ensures run { IfOk result (λ replies. GoodRun (requests_meaning (once_rules T) (once_wakings T W) W.eq K) (record { core = machine.old.state; requests = machine.old.requests }) tt commands.items replies.items (record { core = machine.new.state; requests = machine.new.requests }) tt) }
-    ensures set { IfOk result (λ replies. StaysSet commands.items replies.items) }
+    ensures set { IfOk result (λ replies. StaysSet machine.old.state machine.old.requests commands.items replies.items) }
     ensures refused { OnErr result (machine.new ≡ machine.old) }
 {
     run(alloc, machine, commands)

@@ -583,7 +583,8 @@ pub type WatchReply<T, W, const K: usize> = Reply<Answer<WatchHeard<T>>, W, K>;
 /// Each answer is one that the latest value with its version, and what each receiver has seen, allow. No live request that last
 /// heard Pending would now be answered Ready, unless its waker was handed out in that poll or since. And no Pending poll that
 /// changes nothing hands out its own waker. A change is told once: from a receiver's read on, or a poll that showed it a value, until a
-/// send, its reads of what changed find nothing, and its requests for what changed wait on.
+/// send, its reads of what changed find nothing, and its requests for what changed wait on, whether they stood at their numbers before
+/// the run or were started in it. A poll at a number without a request is answered `NoSuch`.
 pub fn run_watch<
     T: Clone + Drop,
     W: Copy + Eq,
@@ -599,8 +600,10 @@ pub fn run_watch<
     commands: Vec<WatchCommand<T, W, C, J>>,
 ) -> Result<Vec<WatchReply<T, W, K>>, AllocError>
     ensures run { IfOk result (λ replies. GoodRun (requests_meaning (watch_rules N T.is_clone T.is_infallible C.changed C.tells J.passes) (watch_wakings W.eq N C.tells) W.eq K) (record { core = watch_of machine.old.state; requests = machine.old.requests }) machine.old.state.state.waiters commands.items replies.items (record { core = watch_of machine.new.state; requests = machine.new.requests }) machine.new.state.state.waiters) }
-    ensures news { IfOk result (λ replies. (h : ℕ) → TellsOnce h commands.items replies.items) }
+    ensures news { IfOk result (λ replies. (h : ℕ) → TellsOnce h machine.old.requests commands.items replies.items) }
     ensures refused { OnErr result (machine.new ≡ machine.old) }
 {
+    // Each request's receiver is counted, also at first.
+    machine.tied();
     run(alloc, machine, commands)
 }

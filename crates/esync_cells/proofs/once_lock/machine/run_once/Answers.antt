@@ -14,7 +14,7 @@ returns g c = record {
       let new = c.run.new.machine in
       IfOk-weaker c.run.result
       (λ replies. GoodRun (requests_meaning (once_rules g.row.T.Denot) (once_wakings g.row.T.Denot g.row.W.Denot) g.W.PartialEq.eq g.row.K) (record { core = old.state; requests = old.requests }) tt c.args.commands.items replies.items (record { core = new.state; requests = new.requests }) tt)
-      (λ replies. StaysSet c.args.commands.items replies.items)
+      (λ replies. StaysSet old.state old.requests c.args.commands.items replies.items)
       (λ replies run. stays_set (once_wakings g.row.T.Denot g.row.W.Denot) g.W.PartialEq.eq g.row.K _ _ _ _ c.args.commands.items replies.items run)
       c.run.ensures.run);
   refused = c.run.ensures.refused;
