@@ -2,7 +2,7 @@
 ghost use Rattle.std.specs.Prelude.{◌≡◌, ◌<◌, true, [], length, slice_get, OnSome, IsSome, None};
 ghost use Rattle.esync_zerocopy.specs.Slots.{all_spare, count, before, is_out, out_if, waiting_unless};
 ghost use Rattle.esync_zerocopy.specs.Turned.{wakes_of_turn, DoneIf};
-ghost use Rattle.esync_zerocopy.specs.Shared.{slots_of, slots_of_sender, slots_of_receiver};
+ghost use Rattle.esync_zerocopy.specs.Shared.{slots_of_sender, slots_of_receiver};
 
 use super::turns::Turns;
 use super::{Side, SlotLent};
@@ -99,6 +99,15 @@ pub struct Channel<T, W, H> {
     turns: Shared<Turns<W>, W, H>,
 }
 
+/// Shows to clauses how many slots the channel has.
+impl<T, W, H> Model for Channel<T, W, H> {
+    ghost use Rattle.std.specs.Prelude.{ℕ, length};
+
+    ghost Value = { ℕ };
+
+    ghost view = { λ a. length a.slots.items };
+}
+
 impl<T, W: Copy + Eq, H: Hand<W>> Channel<T, W, H> {
     ghost use Rattle.std.specs.Prelude.{⊤};
     ghost use Rattle.std.specs.Borrow.{sem, follows_so};
@@ -108,7 +117,7 @@ impl<T, W: Copy + Eq, H: Hand<W>> Channel<T, W, H> {
     /// A channel of these slots, all spare. There has to be a slot.
     pub fn new(slots: Vec<Slot<T>>, hand: H) -> Self
         requires { 0 < length slots.items }
-        ensures { slots_of result ≡ length slots.items }
+        ensures { result ≡ length slots.items }
     {
         let capacity = slots.len();
         Channel {
@@ -119,9 +128,9 @@ impl<T, W: Copy + Eq, H: Hand<W>> Channel<T, W, H> {
 
     /// The two sides of the channel.
     pub fn split(&mut self) -> (Sender<'_, T, W, H>, Receiver<'_, T, W, H>)
-        ensures* leaves { sem 𝓛 (follows_so (the_row T.row W.row H.row) (the_row T.row W.row H.row) self.entry.ghost_name none (λ _ _. ⊤) (λ v. slots_of v ≡ slots_of self.old)) }
-        ensures sender { slots_of_sender result.0 ≡ slots_of self.old }
-        ensures receiver { slots_of_receiver result.1 ≡ slots_of self.old }
+        ensures* leaves { sem 𝓛 (follows_so (the_row T.row W.row H.row) (the_row T.row W.row H.row) self.entry.ghost_name none (λ _ _. ⊤) (λ v. v ≡ self.old)) }
+        ensures sender { slots_of_sender result.0 ≡ self.old }
+        ensures receiver { slots_of_receiver result.1 ≡ self.old }
     {
         let channel = &*self;
         (Sender { channel }, Receiver { channel })
@@ -129,7 +138,7 @@ impl<T, W: Copy + Eq, H: Hand<W>> Channel<T, W, H> {
 
     /// Makes all slots spare, and wakes who waits to send. Nobody has a loan, since the channel is borrowed whole.
     pub fn clear(&mut self)
-        ensures { slots_of self.new ≡ slots_of self.old }
+        ensures { self.new ≡ self.old }
     {
         step!(self.turns, |turns, wakes| reset(&mut turns, &mut wakes))
     }
@@ -151,7 +160,7 @@ impl<T, W: Copy + Eq, H: Hand<W>> Channel<T, W, H> {
 
     /// How many slots there are. It takes no lock.
     pub fn capacity(&self) -> usize
-        ensures { result ≡ slots_of self.now }
+        ensures { result ≡ self.now }
     {
         self.slots.len()
     }
@@ -396,7 +405,8 @@ impl<T, W: Copy + Eq, H: Hand<W>> EndsLoan for LentTo<'_, T, W, H> {
     }
 
     fn end(&self) {
-        self.channel.turns.guard().end_loan(self.side);
+        let channel = self.channel;
+        channel.turns.guard().end_loan(self.side);
     }
 }
 
