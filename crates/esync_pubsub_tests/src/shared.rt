@@ -1,8 +1,7 @@
-use crate::clones::{Counted, message};
 use esync_base::waitqueue::{Context, Poll};
 use esync_notes::{Notes, holds, woken};
 use esync_pubsub::pubsub::{Error, Pub, PubSubBehavior, PubSubChannel, Sub, WaitResult};
-use std::cell::Cell;
+use std::alloc::AllocError;
 use std::process::Abort;
 use std::sync::Wait;
 
@@ -79,8 +78,22 @@ fn a_sink_publishes_what_it_stored_last(rt: HostRuntime) {
     sinks(&rt, &notes, channel.publisher(), channel.subscriber());
 }
 
+// A message that counts its clones.
+#[derive(Drop)]
+struct Tally {
+    clones: u32,
+}
+
+impl Clone for Tally {
+    fn clone(&self) -> Result<Self, AllocError> {
+        Ok(Tally {
+            clones: self.clones.saturating_add(1),
+        })
+    }
+}
+
 // A read of the subscriber gives a message that was cloned so often.
-fn reads_cloned<'m, B: PubSubBehavior<Message = Counted<'m>>>(
+fn reads_cloned<B: PubSubBehavior<Message = Tally>>(
     rt: &impl Abort,
     subscriber: &mut Sub<'_, B>,
     clones: u32,
@@ -92,16 +105,17 @@ fn reads_cloned<'m, B: PubSubBehavior<Message = Counted<'m>>>(
 }
 
 // Of two that read a message, the last one is given the message itself.
-fn clones_once<'m, B: PubSubBehavior<Message = Counted<'m>, Waker = u64>>(
+fn clones_once<B: PubSubBehavior<Message = Tally, Waker = u64>>(
     rt: &impl Abort,
     publisher: Result<Pub<'_, B>, Error>,
     subscribers: (Result<Sub<'_, B>, Error>, Result<Sub<'_, B>, Error>),
-    message: Counted<'m>,
 ) {
     let mut first = subscribes(rt, subscribers.0);
     let mut second = subscribes(rt, subscribers.1);
     let publisher = counts(rt, publisher);
-    let published = publisher.publish(message).poll(&Context::from_waker(1));
+    let published = publisher
+        .publish(Tally { clones: 0 })
+        .poll(&Context::from_waker(1));
     holds!(*rt; matches!(published, Poll::Ready(Ok(()))));
     reads_cloned(rt, &mut first, 1);
     reads_cloned(rt, &mut second, 0);
@@ -109,13 +123,8 @@ fn clones_once<'m, B: PubSubBehavior<Message = Counted<'m>, Waker = u64>>(
 
 #[test]
 fn skip_clone_for_last_message(rt: HostRuntime) {
-    let (notes, is_refused) = (Notes::new(&rt), Cell::new(false));
-    let channel: PubSubChannel<Counted<'_>, u64, _, 1, 2, 1, 2> = PubSubChannel::new(&notes);
+    let notes = Notes::new(&rt);
+    let channel: PubSubChannel<Tally, u64, _, 1, 2, 1, 2> = PubSubChannel::new(&notes);
     let subscribers = (channel.subscriber(), channel.subscriber());
-    clones_once(
-        &rt,
-        channel.publisher(),
-        subscribers,
-        message(&is_refused, "x"),
-    );
+    clones_once(&rt, channel.publisher(), subscribers);
 }
