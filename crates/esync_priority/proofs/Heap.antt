@@ -1,10 +1,10 @@
 -- One exchange of a heap with a place that may hold anything.
-use Rattle.std.proofs.Common.{◌≡◌, ◌≢◌, ℕ, zero, suc, ◌/◌, ◌<◌, ◌≤◌, Bool, true, false, List, length, get_or, set, ◌⊎◌, inl, inr, arith}
+use Rattle.std.proofs.Common.{◌≡◌, ◌≢◌, ℕ, zero, suc, ◌/◌, ◌<◌, ◌≤◌, Bool, false, List, length, get_or, set, ◌⊎◌, inl, inr, arith}
 use Rattle.std.proofs.lemmas.List.{length-set, get_or-set_same, get_or-set_other}
 use Rattle.std.proofs.lemmas.Bool.Decides.{eqb_tells}
 use Rattle.esync_priority.specs.Heap.{IsChild, IsNotAbove, IsHeap, IsHeapBut, NoneAbove}
 
-same_or_other : (a b : ℕ) → (a ≡ b) ⊎ (a ≢ b)
+pub same_or_other : (a b : ℕ) → (a ≡ b) ⊎ (a ≢ b)
 same_or_other a b = elim (eqb_tells a b) [ inl e ↦ inl e.1 | inr e ↦ inr e.1 ]
 
 module _ {A : Type 0} (above : A → A → Bool) (d : A) where
@@ -60,6 +60,17 @@ module _ {A : Type 0} (above : A → A → Bool) (d : A) where
           | inr ki ↦ rw (stays k ki (omega arith)) (ties (get_or xs k d) (get_or xs c d) x (but.order c k (child_before c k h) ki (omega arith)) under)
         ];
       }
+
+  -- a place of a heap that may hold anything now, and the others as before
+  pub opened : (xs ys : List A) (i : ℕ) → ((k : ℕ) → k ≢ i → k < length ys → (k < length xs) × (get_or ys k d ≡ get_or xs k d))
+      → ((p k : ℕ) → IsChild ys p i → IsChild ys i k → ⊥) → IsHeap above d xs → IsHeapBut above d ys i
+  opened xs ys i same alone heap = record {
+    order = λ p k h ki pi.
+        let at_k = same k ki h.inside in
+        let at_p = same p pi (omega arith) in
+        along xs ys k p k p at_k.1 at_p.1 (heap.order p k (record { behind = h.behind; within = h.within; inside = at_k.0 }));
+    bridge = λ p k h g. absurd (alone p k h g);
+  }
 
   -- the item has found its place
   pub settled : (xs : List A) (i : ℕ) (x : A) → i < length xs → IsHeapBut above d xs i → NoneAbove above d xs i x → ((p : ℕ) → IsChild xs p i → above x (get_or xs p d) ≡ false) → IsHeap above d (set xs i x)

@@ -1,10 +1,10 @@
 -- A free place that goes from one place to another.
-use Rattle.std.proofs.Common.{◌≡◌, ◌≢◌, ℕ, zero, suc, ◌<◌, List, [], ◌∷◌, length, get_or, set, refl, sym, ◌∙◌, ap, arith}
-use Rattle.std.specs.Prelude.{IsPermutation}
+use Rattle.std.proofs.Common.{◌≡◌, ◌≢◌, ℕ, zero, suc, ◌<◌, List, [], ◌∷◌, length, get_or, set, Option, None, refl, sym, ◌∙◌, ap, inl, inr, arith}
 use Rattle.std.proofs.lemmas.List.{length-set, set-set, set_comm, get_or-set_same, get_or-set_other}
-use Rattle.std.proofs.lemmas.List.Sorted.{IsPermutation-refl, IsPermutation-trans, IsPermutation-swap}
+use Rattle.std.proofs.lemmas.List.Sorted.{IsPermutation-trans, IsPermutation-swap}
 use Rattle.std.specs.List.{swap}
-use Rattle.esync_priority.specs.Heap.{MovesPlace}
+use Rattle.esync_priority.specs.Heap.{IsHole, MovesPlace}
+use Rattle.esync_priority.proofs.Heap.{same_or_other}
 
 other_default : {A : Type 0} (xs : List A) (i : ℕ) (d e : A) → i < length xs → get_or xs i d ≡ get_or xs i e
 other_default [] i d e h = absurd (omega arith)
@@ -46,3 +46,16 @@ module _ {A : Type 0} where
 
   pub at_others : (row new : List A) (to from : ℕ) (n d : A) → new ≡ set (set row from n) to (get_or row from d) → (k : ℕ) → k ≢ to → k ≢ from → get_or new k d ≡ get_or row k d
   at_others row new to from n d e k a b = ap (λ (r : List A). get_or r k d) e ∙ get_or-set_other (set row from n) to k (get_or row from d) d a ∙ get_or-set_other row from k n d b
+
+-- the free place is the one whose item went
+pub hole_moves : {A : Type 0} (row new : List (Option A)) (to from : ℕ) → to < length row → from < length row → to ≢ from → IsHole row to → new ≡ set (set row from None) to (get_or row from None) → IsHole new from
+hole_moves row new to from hi hj ne hole e =
+    let back : from ≢ to = omega arith in
+    let many = (moves_on row new to from None None hi hj ne e).length_kept in
+    record {
+      free = ap (λ (r : List (Option _)). get_or r from None) e ∙ get_or-set_other (set row from None) to from (get_or row from None) None back ∙ get_or-set_same row from None None hj;
+      others = λ k l other. elim (same_or_other k to) [
+        | inl same ↦ rw (same, at_target row new to from None None hi e) (hole.others from hj back)
+        | inr apart ↦ rw (at_others row new to from None None e k apart other) (hole.others k (omega arith) apart)
+      ];
+    }

@@ -1,5 +1,6 @@
 -- A heap in a row of places: the children of place p are the places 2p + 1 and 2p + 2.
-use Rattle.std.specs.Prelude.{◌≡◌, ◌≢◌, ℕ, ◌+◌, ◌-◌, ◌*◌, ◌^◌, ◌<◌, ◌≤◌, Bool, true, false, List, length, get_or, slice_set, IsPermutation, Option, Some, None}
+use Rattle.std.specs.Prelude.{◌≡◌, ◌≢◌, ℕ, ◌+◌, ◌-◌, ◌*◌, ◌^◌, ◌<◌, ◌≤◌, Bool, true, false, List, map, length, get_or, slice_set, IsPermutation, IsSome, Option, Some, None}
+use Rattle.esync_base.specs.Rows.{IsRow, items_of}
 
 -- an item is above a free place, and a free place above none
 abbrev pub above_in_place : {T : Type 0} → (T → T → Bool) → Option T → Option T → Bool
@@ -12,6 +13,16 @@ pub record IsChild {A : Type 0} (row : List A) (p k : ℕ) : Type 0 where
   pub behind : 2 * p < k
   pub within : k ≤ 2 * p + 2
   pub inside : k < length row
+
+-- the second child of place p, or the first
+abbrev pub child_at : ℕ → Bool → ℕ
+child_at p true = 2 * p + 1 + 1
+child_at p false = 2 * p + 1
+
+-- place p is free, and each other one holds an item
+pub record IsHole {A : Type 0} (row : List (Option A)) (p : ℕ) : Type 0 where
+  pub free : get_or row p None ≡ None
+  pub others : (k : ℕ) → k < length row → k ≢ p → IsSome (get_or row k None)
 
 -- place k isn't above place p
 abbrev pub IsNotAbove : {A : Type 0} → (A → A → Bool) → A → List A → ℕ → ℕ → Type 0
@@ -39,3 +50,8 @@ pub record CostsWithin (old new n : ℕ) : Type 0 where
 pub record MovesPlace {A : Type 0} (old new : List A) (i j : ℕ) : Type 0 where
   pub length_kept : length new ≡ length old
   pub holds : (x : A) → IsPermutation (slice_set old i x) (slice_set new j x)
+
+-- the first len of n places hold the items, which are a heap there
+pub record IsHeapRow {A : Type 0} (above : A → A → Bool) (n : ℕ) (row : List (Option A)) (len : ℕ) : Type 0 where
+  pub items : IsRow n row len
+  pub heap : IsHeap (above_in_place above) None (map Some (items_of row))

@@ -1,14 +1,17 @@
 //! A queue of fixed capacity that takes no memory, and hands out first an item that none of the others is above.
-ghost use Rattle.std.specs.Prelude.{◌≡◌, ◌+◌, ◌-◌, ◌*◌, ◌<◌, ◌≤◌, ◌↔◌, [], ◌∷◌, Bool, true, false, length, get_or, slice_get, slice_set, IsPermutation, IsTrue, OnOk, OnErr, OnSome, IfSome, IfErr, IfNone};
-ghost use Rattle.esync_priority.specs.Heap.{above_in_place, IsChild, IsHeap, IsHeapBut, NoneAbove, MovesPlace, CostsWithin};
+ghost use Rattle.std.specs.Prelude.{◌≡◌, ◌≢◌, ◌+◌, ◌-◌, ◌*◌, ◌<◌, ◌≤◌, ◌↔◌, [], ◌∷◌, Bool, true, false, Some, None, length, get_or, slice_get, slice_set, IsPermutation, IsSome, IsTrue, OnOk, OnErr, OnSome, IfSome, IfErr, IfNone};
+ghost use Rattle.std.proofs.Math.ListN.{replicate};
+ghost use Rattle.esync_base.specs.Rows.{IsRow, items_of};
+ghost use Rattle.esync_priority.specs.Heap.{above_in_place, child_at, IsChild, IsHeap, IsHeapBut, IsHeapRow, IsHole, NoneAbove, MovesPlace, CostsWithin};
 ghost use Rattle.esync_priority.specs.Prio.{IsTop, bits};
 
 mod counting;
 
-use arrayvec::ArrayVec;
 pub use counting::Comparisons;
 use esync_base::kept::Kept;
 use esync_base::store::Store;
+use esync_rows::place::Place;
+use esync_rows::row::Row;
 use std::alloc::AllocError;
 use std::cmp::Ordering;
 use std::fmt;
@@ -74,114 +77,130 @@ impl<T: Ord> Kind<T> for Min {
     ghost ties = { less-ties T.cmp T.Ord.total };
 }
 
-/// At most `N` items, in places of its own: it takes no memory.
+/// Holds at most `N` items, in places of its own, so that it allocates nothing.
 ///
-/// They stand in a heap: the children of place p are the places 2p + 1 and 2p + 2, and none is above its parent.
-#[derive_where(Debug; T: fmt::Debug + Drop)]
-#[derive(Drop)]
+/// The items are a heap: the children of place p are the places 2p + 1 and 2p + 2, and none is above its parent.
+/// The first item gives each place its bytes, which takes time in proportion to `N`. The bytes of an item that was taken
+/// stay in its place until another item is written over them, as in upstream's containers.
 pub struct PrioQueue<T, K: Kind<T>, const N: usize> {
-    items: ArrayVec<Option<T>, N>,
+    row: Row<T, N>,
+    len: usize,
     kind: PhantomData<K>,
 }
 
 impl<T, K: Kind<T>, const N: usize> Model for PrioQueue<T, K, N> {
-    ghost use Rattle.std.specs.Prelude.{◌≡◌, List, Some, None, map};
+    ghost use Rattle.std.specs.Prelude.{List};
     ghost use Rattle.std.specs.Coded.{coded_list};
     ghost use Rattle.esync_base.specs.Rows.{items_of};
-    ghost use Rattle.esync_priority.specs.Heap.{IsHeap, above_in_place};
+    ghost use Rattle.esync_priority.specs.Heap.{IsHeapRow};
 
     ghost Value = { List T };
 
     ghost coded = { coded_list T.code };
 
-    ghost view = { λ a. items_of a.items.items };
+    ghost view = { λ a. items_of a.row };
 
-    ghost invariant = { λ a. (a.items.items ≡ map Some (items_of a.items.items)) × IsHeap (above_in_place K.above) None a.items.items };
+    ghost invariant = { λ a. IsHeapRow K.above N a.row a.len };
 }
 
-// Whether an item is above that of a place.
-fn is_above<T, K: Kind<T>>(
-    item: &Option<T>,
-    row: &[Option<T>],
-    place: usize,
-    comparisons: &mut Comparisons,
-) -> bool
-    requires { place < length row.now }
-    ensures value { result ≡ above_in_place K.above item.now (get_or row.now place None) }
-    ensures more { comparisons.old ≤ comparisons.new }
-    ensures once { comparisons.new ≤ comparisons.old + 1 }
-    ensures counted { IfSome item.now (λ _. IfSome (get_or row.now place None) (λ _. comparisons.new ≡ comparisons.old + 1)) }
-{
-    match item {
-        Some(item) => match &row[place] {
-            Some(other) => K::above(item, other, comparisons),
-            None => true,
-        },
-        None => false,
+/// Shows the items in the order of their places, as a list.
+impl<T: fmt::Debug + Drop, K: Kind<T>, const N: usize> fmt::Debug for PrioQueue<T, K, N> {
+    fn fmt<F: fmt::Write>(&self, f: &mut fmt::Formatter<F>) -> fmt::Result {
+        let mut list = f.debug_list();
+        for i in 0..self.len {
+            list.entry(self.row.get(i));
+        }
+        list.finish()
     }
 }
 
-// The child of this place that the other isn't above.
-fn upper_child<T, K: Kind<T>>(
-    row: &[Option<T>],
+// Returns whether an item is above that of a place.
+fn is_above<T, K: Kind<T>>(
+    item: &T,
+    row: &[Place<T>],
     place: usize,
     comparisons: &mut Comparisons,
-) -> usize
-    requires { 2 * place + 1 < length row.now }
-    ensures child { IsChild row.now place result }
-    ensures upper { NoneAbove (above_in_place K.above) None row.now place (get_or row.now result None) }
+) -> bool
+    requires inside { place < length row.now }
+    requires held { IsSome (get_or row.now place None) }
+    ensures value { result ≡ above_in_place K.above (Some item.now) (get_or row.now place None) }
+    ensures counted { comparisons.new ≡ comparisons.old + 1 }
+{
+    K::above(item, row[place].get(), comparisons)
+}
+
+// Returns whether a free place has a second child and that one is above the first.
+fn right_is_upper<T, K: Kind<T>>(
+    row: &[Place<T>],
+    place: usize,
+    comparisons: &mut Comparisons,
+) -> bool
+    requires inside { 2 * place + 1 < length row.now }
+    requires hole { IsHole row.now place }
+    ensures child { IsChild row.now place (child_at place result) }
+    ensures upper { NoneAbove (above_in_place K.above) None row.now place (get_or row.now (child_at place result) None) }
     ensures more { comparisons.old ≤ comparisons.new }
     ensures once { comparisons.new ≤ comparisons.old + 1 }
 {
     let left = 2 * place + 1;
     let right = left + 1;
-    if right < row.len() && is_above::<T, K>(&row[right], row, left, comparisons) {
-        right
-    } else {
-        left
-    }
+    right < row.len() && is_above::<T, K>(row[right].get(), row, left, comparisons)
 }
 
-// The item of one place goes to another.
-fn shift<T: Drop>(row: &mut [Option<T>], to: usize, from: usize)
+// Moves the item of one place to a free one.
+fn shift<T>(row: &mut [Place<T>], to: usize, from: usize)
     requires to { to < length row.old }
     requires from { from < length row.old }
+    requires apart { to ≢ from }
+    requires free { get_or row.old to None ≡ None }
+    requires held { IsSome (get_or row.old from None) }
     ensures { row.new ≡ slice_set (slice_set row.old from None) to (get_or row.old from None) }
 {
-    row[to] = row[from].take();
+    let item = row[from].take();
+    row[to].put(item);
 }
 
-// Brings the free first place down to one without children, and says which.
-fn sink<T: Drop, K: Kind<T>>(row: &mut [Option<T>], comparisons: &mut Comparisons) -> usize
+// Brings the free first place down to one without children, and returns that one.
+fn sink<T, K: Kind<T>>(row: &mut [Place<T>], comparisons: &mut Comparisons) -> usize
     requires some { 0 < length row.old }
+    requires hole { IsHole row.old 0 }
     requires heap { IsHeapBut (above_in_place K.above) None row.old 0 }
     ensures inside { result < length row.new }
     ensures bottom { length row.new ≤ 2 * result + 1 }
+    ensures hole { IsHole row.new result }
     ensures heap { IsHeapBut (above_in_place K.above) None row.new result }
     ensures moved { MovesPlace row.old row.new 0 result }
     ensures cost { CostsWithin comparisons.old comparisons.new (result + 1) }
 {
     let mut place = 0;
     while place < row.len() / 2 {
-        let child = upper_child::<T, K>(row, place, comparisons);
-        shift(row, place, child);
-        place = child;
+        let left = 2 * place + 1;
+        // Each arm has its own shift, so that the compiler keeps the branch: without it a steady heap is slower.
+        if right_is_upper::<T, K>(row, place, comparisons) {
+            shift(row, place, left + 1);
+            place = left + 1;
+        } else {
+            shift(row, place, left);
+            place = left;
+        }
     }
     place
 }
 
-// Brings a free place up to where no parent is below this item, and says which.
-fn climb<T: Drop, K: Kind<T>>(
-    row: &mut [Option<T>],
+// Brings a free place up to where no parent is below this item, and returns that one.
+fn climb<T, K: Kind<T>>(
+    row: &mut [Place<T>],
     start: usize,
-    item: &Option<T>,
+    item: &T,
     comparisons: &mut Comparisons,
 ) -> usize
     requires inside { start < length row.old }
+    requires hole { IsHole row.old start }
     requires heap { IsHeapBut (above_in_place K.above) None row.old start }
-    requires below { NoneAbove (above_in_place K.above) None row.old start item.now }
+    requires below { NoneAbove (above_in_place K.above) None row.old start (Some item.now) }
     ensures inside { result < length row.new }
-    ensures heap { IsHeap (above_in_place K.above) None (slice_set row.new result item.now) }
+    ensures hole { IsHole row.new result }
+    ensures heap { IsHeap (above_in_place K.above) None (slice_set row.new result (Some item.now)) }
     ensures moved { MovesPlace row.old row.new start result }
     ensures cost { CostsWithin comparisons.old comparisons.new (start + 1) }
 {
@@ -198,53 +217,167 @@ fn climb<T: Drop, K: Kind<T>>(
 }
 
 // Puts an item in where a place is free, or further up.
-fn rise<T: Drop, K: Kind<T>>(
-    row: &mut [Option<T>],
-    start: usize,
-    item: Option<T>,
-    comparisons: &mut Comparisons,
-)
+fn rise<T, K: Kind<T>>(row: &mut [Place<T>], start: usize, item: T, comparisons: &mut Comparisons)
     requires inside { start < length row.old }
+    requires hole { IsHole row.old start }
     requires heap { IsHeapBut (above_in_place K.above) None row.old start }
-    requires below { NoneAbove (above_in_place K.above) None row.old start item }
+    requires below { NoneAbove (above_in_place K.above) None row.old start (Some item) }
     ensures heap { IsHeap (above_in_place K.above) None row.new }
-    ensures permutation { IsPermutation (slice_set row.old start item) row.new }
+    ensures permutation { IsPermutation (slice_set row.old start (Some item)) row.new }
     ensures cost { CostsWithin comparisons.old comparisons.new (start + 1) }
 {
     let place = climb::<T, K>(row, start, &item, comparisons);
-    row[place] = item;
+    row[place].put(item);
 }
 
-// Brings the item of the first place to where it belongs.
-fn settle<T: Drop, K: Kind<T>>(row: &mut [Option<T>], comparisons: &mut Comparisons)
-    requires { IsHeapBut (above_in_place K.above) None row.old 0 }
+// Puts an item into a row whose first place is free, where it belongs.
+fn settle<T, K: Kind<T>>(row: &mut [Place<T>], item: T, comparisons: &mut Comparisons)
+    requires some { 0 < length row.old }
+    requires hole { IsHole row.old 0 }
+    requires heap { IsHeapBut (above_in_place K.above) None row.old 0 }
     ensures heap { IsHeap (above_in_place K.above) None row.new }
-    ensures permutation { IsPermutation row.old row.new }
+    ensures permutation { IsPermutation (slice_set row.old 0 (Some item)) row.new }
     ensures more { comparisons.old ≤ comparisons.new }
     ensures few { comparisons.new ≤ comparisons.old + 2 * (bits (length row.old) - 1) }
 {
-    if row.is_empty() {
-        return;
-    }
-    let item = row[0].take();
     let place = sink::<T, K>(row, comparisons);
     rise::<T, K>(row, place, item, comparisons);
 }
 
+// Puts an item into a heap of the first `last` places.
+fn push_into<T, K: Kind<T>>(
+    row: &mut [Place<T>],
+    last: usize,
+    item: T,
+    comparisons: &mut Comparisons,
+)
+    requires inside { last < length row.old }
+    requires heap { IsHeapRow K.above (length row.old) row.old last }
+    ensures heap { IsHeapRow K.above (length row.old) row.new (last + 1) }
+    ensures items { IsPermutation (item ∷ items_of row.old) (items_of row.new) }
+    ensures cost { CostsWithin comparisons.old comparisons.new (last + 1) }
+{
+    rise::<T, K>(&mut row[..last + 1], last, item, comparisons);
+}
+
+// Takes the first item out of a heap of the first `last + 1` places.
+fn pop_from<T, K: Kind<T>>(row: &mut [Place<T>], last: usize, comparisons: &mut Comparisons) -> T
+    requires heap { IsHeapRow K.above (length row.old) row.old (last + 1) }
+    ensures heap { IsHeapRow K.above (length row.old) row.new last }
+    ensures items { IsPermutation (items_of row.old) (result ∷ items_of row.new) }
+    ensures first { slice_get (items_of row.old) 0 ≡ Some result }
+    ensures more { comparisons.old ≤ comparisons.new }
+    ensures few { comparisons.new ≤ comparisons.old + 2 * (bits last - 1) }
+{
+    let item = row[last].take();
+    if last == 0 {
+        return item;
+    }
+    let row = &mut row[..last];
+    let top = row[0].take();
+    settle::<T, K>(row, item, comparisons);
+    top
+}
+
+// Puts an item into a row that holds a heap of `last` items.
+fn push_row<T, K: Kind<T>, const N: usize>(
+    row: &mut Row<T, N>,
+    last: usize,
+    item: T,
+    comparisons: &mut Comparisons,
+)
+    requires inside { last < N }
+    requires heap { IsHeapRow K.above N row.old last }
+    ensures heap { IsHeapRow K.above N row.new (last + 1) }
+    ensures items { IsPermutation (item ∷ items_of row.old) (items_of row.new) }
+    ensures cost { CostsWithin comparisons.old comparisons.new (last + 1) }
+{
+    match &mut row.cells {
+        Some(cells) => push_into::<T, K>(&mut cells[..], last, item, comparisons),
+        None => row.put(last, item),
+    }
+}
+
+// Takes the first item out of a row that holds a heap of `last + 1` items.
+fn pop_row<T, K: Kind<T>, const N: usize>(
+    row: &mut Row<T, N>,
+    last: usize,
+    comparisons: &mut Comparisons,
+) -> T
+    requires heap { IsHeapRow K.above N row.old (last + 1) }
+    ensures heap { IsHeapRow K.above N row.new last }
+    ensures items { IsPermutation (items_of row.old) (result ∷ items_of row.new) }
+    ensures first { slice_get (items_of row.old) 0 ≡ Some result }
+    ensures more { comparisons.old ≤ comparisons.new }
+    ensures few { comparisons.new ≤ comparisons.old + 2 * (bits last - 1) }
+{
+    let Some(cells) = &mut row.cells else {
+        unreachable!()
+    };
+    pop_from::<T, K>(&mut cells[..], last, comparisons)
+}
+
+// Drops the items of the first `len` places, which are all that the row holds.
+fn empty<T: Drop, const N: usize>(row: &mut Row<T, N>, len: usize)
+    requires { IsRow N row.old len }
+    ensures { row.new ≡ replicate N None }
+{
+    for i in 0..len {
+        row.take(i);
+    }
+}
+
+// Returns a row with the same items in the same places.
+fn copied<T: Copy, const N: usize>(row: &Row<T, N>, len: usize) -> Row<T, N>
+    requires { IsRow N row.now len }
+    ensures { result ≡ row.now }
+{
+    let mut copy = Row::new();
+    for i in 0..len {
+        copy.put(i, *row.get(i));
+    }
+    copy
+}
+
+impl<T, K: Kind<T>, const N: usize> PrioQueue<T, K, N> {
+    // Returns the places of a queue that holds no item.
+    fn into_row(self) -> Row<T, N>
+        requires { self ≡ [] }
+        ensures { result ≡ replicate N None }
+    {
+        let Self {
+            row,
+            len: _,
+            kind: _,
+        } = self;
+        row
+    }
+}
+
+impl<T: Drop, K: Kind<T>, const N: usize> Drop for PrioQueue<T, K, N> {
+    fn drop(self) {
+        let mut queue = self;
+        queue.clear();
+        queue.into_row().free();
+    }
+}
+
 impl<T: Drop, K: Kind<T>, const N: usize> PrioQueue<T, K, N> {
-    /// An empty one.
+    /// Returns an empty queue. It takes no time for its places: they get their bytes with the first item.
     pub fn new() -> Self
         ensures { result ≡ [] }
     {
         PrioQueue {
-            items: ArrayVec::new(),
+            row: Row::new(),
+            len: 0,
             kind: PhantomData,
         }
     }
 
-    /// Puts an item in. At a full queue it comes back, and nothing was compared.
+    /// Puts an item in. At a full queue the item comes back, and nothing was compared.
     ///
-    /// Where n items are held after it, it compares fewer times than n has binary digits.
+    /// Where the queue holds n items after it, it compares fewer times than n has binary digits. The first item of a queue
+    /// gives each place its bytes, which takes time in proportion to `N`.
     pub fn push(&mut self, item: T, comparisons: &mut Comparisons) -> Result<(), T>
         ensures room { OnOk result (length self.old < N) }
         ensures ok { OnOk result (IsPermutation (item ∷ self.old) self.new) }
@@ -255,18 +388,19 @@ impl<T: Drop, K: Kind<T>, const N: usize> PrioQueue<T, K, N> {
         ensures never { OnErr result (comparisons.new ≡ comparisons.old) }
         ensures returned { IfErr result (λ back. back ≡ item) }
     {
-        if self.items.is_full() {
+        let last = self.len;
+        if last == N {
             return Err(item);
         }
-        let last = self.items.len();
-        self.items.push(None);
-        rise::<T, K>(self.items.as_mut_slice(), last, Some(item), comparisons);
+        push_row::<T, K, N>(&mut self.row, last, item, comparisons);
+        self.len = last + 1;
         Ok(())
     }
 
-    /// Takes the item that `peek` lends: none of the others is above it.
+    /// Takes the item that `peek` lends: none of the others is above it. It returns `None` where the queue is empty.
     ///
     /// Where n items are left, it compares at most twice for each binary digit of n but the first, and never where none is.
+    /// The bytes of the item stay in a place of the queue until another item is written over them.
     pub fn pop(&mut self, comparisons: &mut Comparisons) -> Option<T>
         ensures item { IfSome result (λ item. IsPermutation self.old (item ∷ self.new)) }
         ensures first { IfSome result (λ item. slice_get self.old 0 ≡ Some item) }
@@ -278,61 +412,64 @@ impl<T: Drop, K: Kind<T>, const N: usize> PrioQueue<T, K, N> {
         ensures none { IfNone result (self.new ≡ []) }
         ensures never { IfNone result (comparisons.new ≡ comparisons.old) }
     {
-        if self.items.is_empty() {
+        if self.len == 0 {
             return None;
         }
-        let item = self.items.swap_remove(0);
-        settle::<T, K>(self.items.as_mut_slice(), comparisons);
-        item
+        let last = self.len - 1;
+        let item = pop_row::<T, K, N>(&mut self.row, last, comparisons);
+        self.len = last;
+        Some(item)
     }
 
-    /// An item that none of the others is above. It stays.
+    /// Lends an item that none of the others is above. The item stays in the queue.
     pub fn peek(&self) -> Option<&T>
         ensures first { IfSome result (λ item. slice_get self.now 0 ≡ Some item.now) }
         ensures top { IfSome result (λ item. IsTop K.above item.now self.now) }
         ensures empty { IfNone result (self.now ≡ []) }
     {
-        // Each place holds an item.
-        self.items.as_slice().first()?.as_ref()
+        if self.len == 0 {
+            None
+        } else {
+            Some(self.row.get(0))
+        }
     }
 
-    /// Lets go of all items.
+    /// Drops all items. Their bytes stay in the places until other items are written over them.
     pub fn clear(&mut self)
         ensures { self.new ≡ [] }
     {
-        self.items.clear();
+        empty(&mut self.row, self.len);
+        self.len = 0;
     }
 
-    /// How many items are held.
+    /// Returns how many items the queue holds.
     pub fn len(&self) -> usize
         ensures value { result ≡ length self.now }
         ensures within { result ≤ N }
     {
-        self.items.len()
+        self.len
     }
 
-    /// No item is held.
+    /// Returns whether the queue holds no item.
     pub fn is_empty(&self) -> bool
         ensures { IsTrue result ↔ (self.now ≡ []) }
     {
-        self.items.is_empty()
+        self.len == 0
     }
 
-    /// `N` items are held.
+    /// Returns whether the queue holds `N` items.
     pub fn is_full(&self) -> bool
         ensures { IsTrue result ↔ (length self.now ≡ N) }
     {
-        self.items.is_full()
+        self.len == N
     }
 }
 
 impl<T: Copy, K: Kind<T>, const N: usize> Kept for PrioQueue<T, K, N> {
     fn kept(&self) -> Result<Self, AllocError> {
-        let Ok(items) = ArrayVec::try_from(self.items.as_slice()) else {
-            unreachable!()
-        };
         Ok(PrioQueue {
-            items,
+            row: copied(&self.row, self.len),
+            len: self.len,
             kind: PhantomData,
         })
     }

@@ -10,6 +10,8 @@ mod deque;
 #[cfg(test)]
 mod heap;
 #[cfg(test)]
+mod heap_drops;
+#[cfg(test)]
 mod permit_runs;
 #[cfg(test)]
 mod permits;

@@ -64,7 +64,7 @@ fn a_priority_channel_shows_its_heap(rt: HostRuntime) -> Result<(), AllocError> 
         priority_channel::ChannelState::new();
     holds!(rt; channel.try_send(1, &mut wakes).is_ok());
     holds!(rt; channel.try_send(2, &mut wakes).is_ok());
-    shows_among(&rt, rt.alloc(), &channel, "[Some(2), Some(1)]")
+    shows_among(&rt, rt.alloc(), &channel, "queue: [2, 1]")
 }
 
 #[test]

@@ -1,27 +1,29 @@
-use Rattle.std.proofs.Common.{◌≡◌, ◌≢◌, ◌+◌, ◌-◌, ◌*◌, ◌/◌, ◌<◌, ◌≤◌, length, None, true, sym, ◌∙◌, get_or, arith}
+use Rattle.std.proofs.Common.{◌≡◌, ◌≢◌, ◌-◌, ◌/◌, ◌<◌, length, Some, None, true, sym, ◌∙◌, get_or, arith}
 use Rattle.esync_priority.specs.Heap.{above_in_place, IsChild, MovesPlace}
 use Rattle.esync_priority.proofs.Counts.{halved, last_level}
 use Rattle.esync_priority.proofs.Heap.{risen, risen_below, settled}
-use Rattle.esync_priority.proofs.Moves.{moves_on, moves_further, at_target, at_others}
+use Rattle.esync_priority.proofs.Moves.{moves_on, moves_further, at_target, at_others, hole_moves}
 use Rattle.esync_priority.proofs.Places.{place-one_way, place-ties}
 use Rattle.esync_priority.proofs.prio.climb.Goals as goal
 
 pub returns-then-not-is_above-clause-cost : goal.returns-then-not-is_above-clause-cost
 returns-then-not-is_above-clause-cost g c =
+    let asked = c.is_above.ensures.counted in
     last_level c.args.comparisons.now c.loop-place.comparisons c.is_above.new.comparisons c.loop-place.place c.args.start
-    c.loop-place.invariant.more c.is_above.ensures.more c.is_above.ensures.once (omega arith) c.loop-place.invariant.few
+    c.loop-place.invariant.more (omega (arith, asked)) (omega (arith, asked)) (omega arith) c.loop-place.invariant.few
 
 pub returns-clause-heap : goal.returns-clause-heap
 returns-clause-heap g c =
-    settled (above_in_place g.K.Kind.above) None c.loop-place.row c.loop-place.place c.args.item.now c.loop-place.invariant.inside c.loop-place.invariant.heap c.loop-place.invariant.below (λ p h. absurd (omega arith))
+    settled (above_in_place g.K.Kind.above) None c.loop-place.row c.loop-place.place (Some c.args.item.now) c.loop-place.invariant.inside c.loop-place.invariant.heap c.loop-place.invariant.below (λ p h. absurd (omega arith))
 
 pub loop-place-preserved : goal.loop-place-preserved
 loop-place-preserved g c =
     let above = above_in_place g.K.Kind.above in
     let laws = g.met.K.Kind in
+    let asked = c.is_above.ensures.counted in
     let row = c.loop-place.row in
     let new = c.shift.new.row in
-    let item = c.args.item.now in
+    let item = Some c.args.item.now in
     let place = c.loop-place.place in
     let parent = (place - 1) / 2 in
     let inside : place < length row = c.loop-place.invariant.inside in
@@ -36,10 +38,11 @@ loop-place-preserved g c =
     let moved : MovesPlace row new place parent = moves_on row new place parent None None inside above_it apart c.shift.ensures in
     record {
       inside = omega (arith, moved.length_kept);
+      hole = hole_moves row new place parent inside above_it apart c.loop-place.invariant.hole c.shift.ensures;
       heap = risen above None row new place parent moved.length_kept there stays ties child c.loop-place.invariant.heap;
       below = risen_below above None row new place parent moved.length_kept there stays ties item child under c.loop-place.invariant.heap;
       moved = moves_further c.args.row.now row new c.args.start place parent c.loop-place.invariant.moved moved;
-      more = omega (arith, c.loop-place.invariant.more, c.is_above.ensures.more);
+      more = omega (arith, c.loop-place.invariant.more, asked);
       few = halved c.args.comparisons.now c.loop-place.comparisons c.is_above.new.comparisons place parent c.args.start
-          c.loop-place.invariant.more c.is_above.ensures.more c.is_above.ensures.once (omega arith) c.loop-place.invariant.few;
+          c.loop-place.invariant.more (omega (arith, asked)) (omega (arith, asked)) (omega arith) c.loop-place.invariant.few;
     }

@@ -1,17 +1,19 @@
-use Rattle.std.proofs.Common.{List, ◌∙◌, ap, arith, slice_get}
-use Rattle.std.proofs.lemmas.Grind.{common_steps}
-use Rattle.esync_priority.proofs.Items.{top_of_lent, some_lent}
+use Rattle.std.proofs.Common.{◌<◌, None, arith}
 use Rattle.esync_base.specs.Rows.{items_of}
+use Rattle.esync_priority.proofs.Items.{held_below, first_of_row, top_of_heap}
+use Rattle.esync_priority.proofs.PrioParts.{places_fit}
 use Rattle.esync_priority.proofs.prio.PrioQueue.peek.Goals as goal
 
-pub returns-clause-first : goal.returns-clause-first
-returns-clause-first g c = grind (arith, common_steps)
+pub get-requires : goal.get-requires
+get-requires g c =
+    let row = c.self.inside.row in
+    let r = c.self.invariant.items in
+    let some : 0 < c.self.inside.len = omega (arith, c.if-self-eq0.false) in
+    (places_fit g.row.T g.row.K g.row.N g.K.Kind c.requires-raw.1.1.1, (omega (arith, some, r.count, r.fits), held_below g.row.N row c.self.inside.len 0 None r some))
 
-pub returns-clause-top : goal.returns-clause-top
-returns-clause-top g c =
+pub returns-else-self-eq0-clause-top : goal.returns-else-self-eq0-clause-top
+returns-else-self-eq0-clause-top g c =
     let laws = g.met.K.Kind in
-    rw (← c.self.view_is) (top_of_lent g.K.Kind.above laws.irreflexive laws.ties c.self.inside.items.items c.self.invariant.0 c.self.invariant.1 (λ b. b.now) c.as_ref.result (rw c.self.view_is (returns-clause-first g c)))
-
-pub returns-clause-empty : goal.returns-clause-empty
-returns-clause-empty g c =
-    some_lent c.self.inside.items.items (items_of c.self.inside.items.items) c.in_ok-first.field-0.now c.as_ref.result _ c.self.invariant.0 (c.in_ok-first.ensures.value ∙ ap (λ (r : List _). slice_get r 0) c.as_slice.ensures.value) c.as_ref.ensures.variant
+    let row = c.self.inside.row in
+    let x = c.get.result.now in
+    rw (← c.self.view_is) (top_of_heap g.K.Kind.above laws.irreflexive laws.ties (items_of row) x c.self.invariant.heap (first_of_row g.row.N row c.self.inside.len x c.self.invariant.items c.get.ensures.item))
