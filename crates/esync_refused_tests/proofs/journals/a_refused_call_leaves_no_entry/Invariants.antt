@@ -1,4 +1,0 @@
-use Rattle.esync_refused_tests.proofs.journals.a_refused_call_leaves_no_entry.Given as goal
-
-abbrev pub ghosts-records_again : goal.ghosts-records_again
-ghosts-records_again g a = record { name = a.blank.name; parts = a.blank.parts }

@@ -1,0 +1,3 @@
+//! The shared pipe.
+mod dynamic;
+mod shared;

@@ -1,0 +1,221 @@
+use super::steps::{Two, has, joins};
+use esync_base::waitqueue::Wakes;
+use esync_machine::primitive::{Answer, Command};
+use esync_machine::requests::Requests;
+use esync_notes::{holds, same};
+use esync_pubsub::pubsub::machine::{
+    Events, PubSubAsk as Ask, PubSubCall as Call, PubSubHeard as Heard, PubSubReply, PubSubRun,
+    run_pubsub,
+};
+use esync_pubsub::pubsub::{PubSubState, SubId, WaitResult};
+use std::alloc::{AllocError, Global};
+use std::cell::Cell;
+use std::process::Abort;
+
+/// A message that counts its clones, and whose clone has no memory while the cell says so.
+#[derive(Drop)]
+pub struct Counted<'a> {
+    is_refused: &'a Cell<bool>,
+    pub clones: u32,
+    text: &'static str,
+}
+
+impl Clone for Counted<'_> {
+    fn clone(&self) -> Result<Self, AllocError> {
+        if self.is_refused.get() {
+            return Err(AllocError);
+        }
+        Ok(Counted {
+            is_refused: self.is_refused,
+            clones: self.clones.saturating_add(1),
+            text: self.text,
+        })
+    }
+}
+
+/// A message that wasn't cloned yet.
+pub fn message<'a>(is_refused: &'a Cell<bool>, text: &'static str) -> Counted<'a> {
+    Counted {
+        is_refused,
+        clones: 0,
+        text,
+    }
+}
+
+fn publishes<'a>(
+    rt: &impl Abort,
+    state: &mut Two<Counted<'a>, 2>,
+    is_refused: &'a Cell<bool>,
+    text: &'static str,
+) {
+    let mut wakes: Wakes<u64, 2> = Wakes::new();
+    holds!(rt;
+        state
+            .publish_immediate(message(is_refused, text), &mut wakes)
+            .is_ok()
+    );
+}
+
+// A read gives a message with this text that was cloned so often.
+fn reads(
+    rt: &impl Abort,
+    state: &mut Two<Counted<'_>, 2>,
+    id: &SubId,
+    text: &'static str,
+    clones: u32,
+) {
+    let mut wakes: Wakes<u64, 2> = Wakes::new();
+    holds!(rt; state.is_subscriber(id));
+    match state.try_next_message(id, &mut wakes) {
+        Ok(Some(WaitResult::Message(message))) => {
+            same!(rt; message.text, text);
+            same!(rt; message.clones, clones);
+        }
+        _ => rt.abort(),
+    }
+}
+
+// Two read a message: the first one a clone of it.
+fn first_reads_a_clone<'a>(
+    rt: &impl Abort,
+    state: &mut Two<Counted<'a>, 2>,
+    is_refused: &'a Cell<bool>,
+) {
+    let first = joins(rt, state);
+    let second = joins(rt, state);
+    publishes(rt, state, is_refused, "x");
+    reads(rt, state, &first, "x", 1);
+    reads(rt, state, &second, "x", 0);
+}
+
+#[test]
+fn the_last_reader_is_given_the_message_itself(rt: HostRuntime) {
+    let is_refused = Cell::new(false);
+    let mut state: Two<Counted<'_>, 2> = PubSubState::new();
+    first_reads_a_clone(&rt, &mut state, &is_refused);
+}
+
+// Two read a message, which the first one is refused at first.
+fn first_is_refused<'a>(
+    rt: &impl Abort,
+    state: &mut Two<Counted<'a>, 2>,
+    is_refused: &'a Cell<bool>,
+) {
+    let first = joins(rt, state);
+    let second = joins(rt, state);
+    publishes(rt, state, is_refused, "x");
+    let mut wakes: Wakes<u64, 2> = Wakes::new();
+    holds!(rt; state.is_subscriber(&first));
+    holds!(rt; state.try_next_message(&first, &mut wakes).is_err());
+    has(rt, state, &first, 1);
+    same!(rt; state.len(), 1);
+    is_refused.set(false);
+    reads(rt, state, &first, "x", 1);
+    is_refused.set(true);
+    reads(rt, state, &second, "x", 0);
+    same!(rt; state.len(), 0);
+}
+
+#[test]
+fn a_refused_clone_moves_nobody(rt: HostRuntime) {
+    let is_refused = Cell::new(true);
+    let mut state: Two<Counted<'_>, 2> = PubSubState::new();
+    first_is_refused(&rt, &mut state, &is_refused);
+}
+
+// One of two who lag is refused a pure read, and hears of its lag afterwards.
+fn lag_is_left<'a>(rt: &impl Abort, state: &mut Two<Counted<'a>, 2>, is_refused: &'a Cell<bool>) {
+    let first = joins(rt, state);
+    let _second = joins(rt, state);
+    publishes(rt, state, is_refused, "p");
+    publishes(rt, state, is_refused, "q");
+    publishes(rt, state, is_refused, "r");
+    let mut wakes: Wakes<u64, 2> = Wakes::new();
+    holds!(rt; state.is_subscriber(&first));
+    holds!(rt; state.try_next_message_pure(&first, &mut wakes).is_err());
+    has(rt, state, &first, 3);
+    holds!(rt; state.is_subscriber(&first));
+    holds!(rt;
+        matches!(
+            state.try_next_message(&first, &mut wakes),
+            Ok(Some(WaitResult::Lagged(1)))
+        )
+    );
+    has(rt, state, &first, 2);
+}
+
+#[test]
+fn a_refused_pure_read_leaves_its_lag(rt: HostRuntime) {
+    let is_refused = Cell::new(true);
+    let mut state: Two<Counted<'_>, 2> = PubSubState::new();
+    lag_is_left(&rt, &mut state, &is_refused);
+}
+
+type Topic<'a> = PubSubRun<Counted<'a>, u64, 2, 2, 2, 2, 1, 2>;
+
+// The text of the message that was read.
+fn text(reply: Option<&PubSubReply<Counted<'_>, u64, 2>>) -> Option<&'static str> {
+    match &reply?.answer {
+        Answer::Gives(Heard::Read(WaitResult::Message(message))) => Some(message.text),
+        Answer::Gives(Heard::ReadPure(message)) => Some(message.text),
+        Answer::Gives(Heard::Streamed(Some(message))) => Some(message.text),
+        _ => None,
+    }
+}
+
+// The reply tells of want of memory.
+fn is_refusal(reply: Option<&PubSubReply<Counted<'_>, u64, 2>>) -> bool {
+    reply.is_some_and(|reply| matches!(reply.answer, Answer::NoMemory))
+}
+
+// Two join, a message is published, and the first one's request of this kind is polled and refused.
+fn is_refused_at_first<'a>(
+    alloc: Global,
+    topic: &mut Topic<'a>,
+    message: Counted<'a>,
+    ask: Ask<Counted<'a>>,
+) -> Result<bool, AllocError> {
+    let commands = vec![in alloc;
+        Command::Call(Call::Join(0)),
+        Command::Call(Call::Join(1)),
+        Command::Call(Call::Immediate(message)),
+        Command::Start(0, ask),
+        Command::Poll(0, 9),
+    ]?;
+    let replies = run_pubsub(alloc, topic, commands)?;
+    Ok(is_refusal(replies.last()))
+}
+
+// The text of the message that one more poll of the request reads.
+fn reads_at_last(alloc: Global, topic: &mut Topic<'_>) -> Result<Option<&'static str>, AllocError> {
+    let replies = run_pubsub(alloc, topic, vec![in alloc; Command::Poll(0, 9)]?)?;
+    Ok(text(replies.last()))
+}
+
+// A request of this kind whose clone is refused reads later.
+fn reads_later<'a>(
+    rt: &impl Abort,
+    alloc: Global,
+    is_refused: &'a Cell<bool>,
+    ask: Ask<Counted<'a>>,
+) {
+    is_refused.set(true);
+    let mut topic: Topic<'_> = Requests::new(Events::new_at(0));
+    let message = message(is_refused, "x");
+    holds!(rt; is_refused_at_first(alloc, &mut topic, message, ask) == Ok(true));
+    is_refused.set(false);
+    holds!(rt; reads_at_last(alloc, &mut topic) == Ok(Some("x")));
+}
+
+// As does one of each kind that reads.
+fn each_reads_later<'a>(rt: &impl Abort, alloc: Global, is_refused: &'a Cell<bool>) {
+    for ask in [Ask::Message(0), Ask::MessagePure(0), Ask::Stream(0)] {
+        reads_later(rt, alloc, is_refused, ask);
+    }
+}
+
+#[test]
+fn a_request_whose_clone_is_refused_reads_later(rt: HostRuntime) {
+    let is_refused = Cell::new(true);
+    each_reads_later(&rt, rt.alloc(), &is_refused);
+}
