@@ -1,13 +1,13 @@
 #!/bin/sh
-# Says of each recorded run whether synccheck finds what its verdict says, and whether upstream still answers so:
+# Says of each recorded run whether `esync check` finds what its verdict says, and whether upstream still answers so:
 #
-#     rust/found/judge.sh [SYNCCHECK [RECORDER]]
+#     rust/found/judge.sh [ESYNC [RECORDER]]
 #
-# The two programs are crates/synccheck/out/synccheck and examples/recorder/target/release/recorder where they aren't named.
+# The two programs are crates/esync/out/esync and examples/recorder/target/release/recorder where they aren't named.
 # The status is 1 where a run or a verdict is another.
 set -eu
 top=$(cd "$(dirname "$0")/../.." && pwd)
-synccheck=$(realpath "${1-$top/crates/synccheck/out/synccheck}")
+esync=$(realpath "${1-$top/crates/esync/out/esync}")
 recorder=$(realpath "${2-$top/examples/recorder/target/release/recorder}")
 cd "$top/rust/found/runs"
 status=0
@@ -15,7 +15,7 @@ for run in *.run; do
     name=${run%.run}
     found="the run and the verdict"
     sed 's/ => .*//' "$run" | "$recorder" | cmp -s "$run" - || found="another run"
-    { "$synccheck" <"$run" || true; } | cmp -s "$name.verdict" - || found="another verdict"
+    { "$esync" check <"$run" || true; } | cmp -s "$name.verdict" - || found="another verdict"
     [ "$found" = "the run and the verdict" ] || status=1
     printf '%-32s %s\n' "$name" "$found"
 done

@@ -375,7 +375,7 @@ impl<W: Copy + Eq> WakerRegistration<W> {
 }
 
 /// Who tells which wakers are registered, and at which of its places: 0 is that of receivers, readers, subscribers or of all who
-/// wait, 1 that of senders, writers or publishers. It is for who looks on, as `synctrace --explain` does.
+/// wait, 1 that of senders, writers or publishers. It is for who looks on, as `esync explain` does.
 pub trait Registered {
     type Waker;
 

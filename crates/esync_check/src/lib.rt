@@ -157,8 +157,8 @@ fn unread(error: &io::Error) -> Unchecked {
     Unchecked::Script(Fault::InputOutput)
 }
 
-// Writes what the text is found to be.
-fn print_verdict<W: Write>(text: &str, verdict: &Verdict, output: &mut W) -> io::Result<()>
+/// Writes what the text is found to be.
+pub fn print_verdict<W: Write>(text: &str, verdict: &Verdict, output: &mut W) -> io::Result<()>
     ensures { OnOk result (Appends (W.contents output.old) (W.contents output.new) (verdict_text (first_line text.now) verdict.now)) }
 {
     let (name, _) = split_line(text);

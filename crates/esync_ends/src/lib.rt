@@ -61,8 +61,8 @@ pub fn ends_of<P: Player, R: Read + Drop, W: Write + Drop, E: Write + Drop>(
 ) -> u8
     ensures { result ≤ 4 }
 {
-    match try_script(alloc, player, input, &mut output) {
-        Ok(tried) => u8::from(tried.untold > 0),
+    match read_text(alloc, input).and_then(|text| try_script(alloc, player, &text, &mut output)) {
+        Ok(is_told) => u8::from(!is_told),
         Err(fault) => {
             let _ = writeln!(errors, "{fault}");
             let _ = errors.flush();
@@ -71,15 +71,19 @@ pub fn ends_of<P: Player, R: Read + Drop, W: Write + Drop, E: Write + Drop>(
     }
 }
 
-fn try_script<P: Player, R: Read + Drop, W: Write>(
+/// Tries the sooner ends of a script that stands in memory, and writes what `ends` writes: whether each request was told.
+pub fn try_ends<W: Write>(alloc: Global, text: &str, output: &mut W) -> Result<bool, Fault> {
+    try_script(alloc, &SyncRun {}, text, output)
+}
+
+fn try_script<P: Player, W: Write>(
     alloc: Global,
     player: &P,
-    input: R,
+    text: &str,
     output: &mut W,
-) -> Result<Tried, Fault> {
-    let text = read_text(alloc, input)?;
-    player.play(alloc, &text)?;
-    let script = Script::new(alloc, &text)?;
+) -> Result<bool, Fault> {
+    player.play(alloc, text)?;
+    let script = Script::new(alloc, text)?;
     let mut tried = Tried::default();
     for line in 1..=script.len() {
         try_line(alloc, player, &script, line, &mut tried, output)?;
@@ -91,7 +95,7 @@ fn try_script<P: Player, R: Read + Drop, W: Write>(
     } = tried;
     writeln!(output, "{ends} ends, {polls} polls, {untold} not told")?;
     output.flush()?;
-    Ok(tried)
+    Ok(untold == 0)
 }
 
 // The text of the input.

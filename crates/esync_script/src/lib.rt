@@ -147,7 +147,7 @@ fn run<T: Telling, R: Read + Drop, W: Write + Drop, E: Write + Drop>(
 ) -> u8
     ensures { (outcome : Result (Unit {0}) Fault) × (result ≡ status_of_outcome outcome) × EndsScript ⟦<u64 as PartialEq>⟧.eq T.tells ⟦<Max as Kind<u32>>⟧.above ⟦<Min as Kind<u32>>⟧.above T.opening T.closing (R.remaining input) outcome }
 {
-    status(perform(alloc, telling, input, output), errors)
+    status(play_buffered(alloc, telling, input, output), errors)
 }
 
 // The status that tells how a script ended, and to `errors` why, where it didn't end with its last line.
@@ -168,7 +168,8 @@ fn report<E: Write>(errors: &mut E, fault: &Fault) -> io::Result<()> {
     errors.flush()
 }
 
-fn perform<T: Telling, R: Read + Drop, W: Write + Drop>(
+/// Plays a whole script, as `play_script` does, and writes in pieces: before a read that may wait, and at the end.
+pub fn play_buffered<T: Telling, R: Read + Drop, W: Write + Drop>(
     alloc: Global,
     telling: &mut T,
     input: R,

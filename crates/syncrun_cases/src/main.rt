@@ -1,6 +1,6 @@
 //! Plays each script of the cases that are named, and prints what is written of it.
 //!
-//!     syncrun_cases [--script | --trace | --pages | --explain | --reasons | --ends] NAME.. [--trace NAME.. ..]
+//!     syncrun_cases [--script | --trace | --pages | --explain | --reasons | --ends | --tool] NAME.. [--trace NAME.. ..]
 //!
 //! A case is a file of scripts, with a line `=` between two. Of each script it prints the case's name, with the script's number
 //! where there are several; what is written to the output, to the notes and to the errors; and the status. A word before the
@@ -9,7 +9,10 @@
 
 use esync_ends::ends;
 use esync_script::{explain, script, trace, trace_pages};
+use esync_tool::{Streams, esync};
 use std::alloc::{AllocError, Global};
+use std::fs::Files;
+use std::sync::Wait;
 use std::{env, fs, mem};
 
 /// What is done with a script.
@@ -17,16 +20,18 @@ use std::{env, fs, mem};
 enum Mode {
     /// It is answered, as by `syncrun`.
     Script,
-    /// It is drawn, as by `synctrace`.
+    /// It is drawn, as by `esync draw`.
     Trace,
-    /// It is drawn in pages, as by `synctrace --markdown`.
+    /// It is drawn in pages, as by `esync draw --format markdown`.
     Pages,
-    /// It is explained, as by `synctrace --explain`; the notes stand behind the answers.
+    /// It is explained, as by `esync explain`; the notes stand behind the answers.
     Explain,
-    /// The same without the answers, and of the notes not what the primitive holds.
+    /// Its reasons alone: an explanation without the answers, and of the notes not what the primitive holds.
     Reasons,
-    /// Its sooner ends are tried, as by `syncends`.
+    /// Its sooner ends are tried, as by `esync ends`.
     Ends,
+    /// Its first line has the words behind `esync`, and what follows is standard input.
+    Tool,
 }
 
 impl Mode {
@@ -38,6 +43,7 @@ impl Mode {
             "--explain" => Some(Mode::Explain),
             "--reasons" => Some(Mode::Reasons),
             "--ends" => Some(Mode::Ends),
+            "--tool" => Some(Mode::Tool),
             _ => None,
         }
     }
@@ -52,7 +58,37 @@ struct Written {
     status: u8,
 }
 
-fn written_of(alloc: Global, mode: Mode, input: &[u8]) -> Written {
+// What the tool writes, of a case whose first line has its words.
+fn written_by_tool<R: Files + Wait>(rt: &R, alloc: Global, case: &[u8]) -> anyhow::Result<Written> {
+    let at = case.iter().position(|byte| *byte == b'\n').unwrap_or(case.len());
+    let (first, input) = case.split_at(at);
+    let mut words = Vec::new(alloc);
+    for word in str::from_utf8(first)?.split(' ') {
+        words.push(String::from_str(alloc, word)?)?;
+    }
+    let (mut output, mut notes, mut errors) = (Vec::new(alloc), Vec::new(alloc), Vec::new(alloc));
+    let streams = Streams {
+        input: input.get(1..).unwrap_or(&[]),
+        is_terminal: false,
+        output: &mut output,
+        notes: &mut notes,
+        errors: &mut errors,
+    };
+    let status = esync(rt, alloc, words.as_slice(), streams);
+    Ok(Written {
+        output,
+        notes,
+        errors,
+        status,
+    })
+}
+
+fn written_of<R: Files + Wait>(
+    rt: &R,
+    alloc: Global,
+    mode: Mode,
+    input: &[u8],
+) -> anyhow::Result<Written> {
     let (mut output, mut notes, mut errors) = (Vec::new(alloc), Vec::new(alloc), Vec::new(alloc));
     let status = match mode {
         Mode::Script => script(alloc, input, &mut output, &mut errors),
@@ -61,13 +97,14 @@ fn written_of(alloc: Global, mode: Mode, input: &[u8]) -> Written {
         Mode::Explain => explain(alloc, input, &mut output, &mut notes, &mut errors),
         Mode::Reasons => explain(alloc, input, Vec::new(alloc), &mut notes, &mut errors),
         Mode::Ends => ends(alloc, input, &mut output, &mut errors),
+        Mode::Tool => return written_by_tool(rt, alloc, input),
     };
-    Written {
+    Ok(Written {
         output,
         notes,
         errors,
         status,
-    }
+    })
 }
 
 /// The notes, each up to its first brace.
@@ -82,8 +119,13 @@ fn without_values(alloc: Global, notes: &str) -> Result<String, AllocError> {
 }
 
 /// The text of what is written of a script.
-fn text_of(alloc: Global, mode: Mode, input: &[u8]) -> anyhow::Result<String> {
-    let written = written_of(alloc, mode, input);
+fn text_of<R: Files + Wait>(
+    rt: &R,
+    alloc: Global,
+    mode: Mode,
+    input: &[u8],
+) -> anyhow::Result<String> {
+    let written = written_of(rt, alloc, mode, input)?;
     let output = str::from_utf8(&written.output)?;
     let errors = str::from_utf8(&written.errors)?;
     let notes = match (mode, str::from_utf8(&written.notes)?) {
@@ -108,7 +150,13 @@ fn scripts_of(alloc: Global, case: &[u8]) -> Result<Vec<Vec<u8>>, AllocError> {
     Ok(scripts)
 }
 
-fn text_of_case(alloc: Global, mode: Mode, name: &str, case: &[u8]) -> anyhow::Result<String> {
+fn text_of_case<R: Files + Wait>(
+    rt: &R,
+    alloc: Global,
+    mode: Mode,
+    name: &str,
+    case: &[u8],
+) -> anyhow::Result<String> {
     let scripts = scripts_of(alloc, case)?;
     let mut text = String::new(alloc);
     for (place, script) in scripts.iter().enumerate() {
@@ -116,7 +164,7 @@ fn text_of_case(alloc: Global, mode: Mode, name: &str, case: &[u8]) -> anyhow::R
         if scripts.len() > 1 {
             write!(text, " {}", place + 1)?;
         }
-        write!(text, "\n{}", text_of(alloc, mode, script)?)?;
+        write!(text, "\n{}", text_of(rt, alloc, mode, script)?)?;
     }
     Ok(text)
 }
@@ -129,7 +177,7 @@ fn main(rt: HostRuntime) -> anyhow::Result<()> {
             mode = named;
         } else {
             let case = fs::read(&rt, word.as_str())?;
-            print!(rt; "{}", text_of_case(alloc, mode, &word, &case)?)?;
+            print!(rt; "{}", text_of_case(&rt, alloc, mode, &word, &case)?)?;
         }
     }
     Ok(())

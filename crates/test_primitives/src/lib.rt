@@ -1,5 +1,5 @@
 //! What neither a clause nor a script says of the primitives: shared forms on threads, clones that are counted or refused, calls
-//! that a drop does as well, and each generic call once at a type of its own. `crates/syncshared` plays scripts over the same forms.
+//! that a drop does as well, and each generic call once at a type of its own. `esync shared` plays scripts over the same forms.
 #![tactic(auto)]
 
 #[cfg(test)]

@@ -1,6 +1,6 @@
 //! Records runs of `embassy-sync`: plays a script on the crate itself, and writes what it answers and whom it wakes.
 //!
-//! The script language is that of `syncrun`, and the run is what `synccheck` reads.
+//! The script language is that of `syncrun`, and the run is what `esync check` reads.
 #![forbid(unsafe_code)]
 
 mod answer;

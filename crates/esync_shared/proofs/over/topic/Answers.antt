@@ -1,7 +1,7 @@
 use Rattle.std.proofs.Common.{ℕ, ◌+◌, ◌*◌, ◌<◌, ◌≤◌, ◌^◌, arith}
 use prog.Memory.{up}
 use Rattle.esync_script.proofs.Room.{up_to_eight}
-use Rattle.syncshared.proofs.over.topic.Goals as goal
+use Rattle.esync_shared.proofs.over.topic.Goals as goal
 
 -- the bytes of a shared channel of n messages, for four subscribers and four publishers
 abbrev room : ℕ → ℕ

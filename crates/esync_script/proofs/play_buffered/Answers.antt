@@ -5,7 +5,7 @@ use Rattle.esync_words.specs.declared.fault.Fault.{Fault}
 use Rattle.esync_words.specs.declared.fault.Fault.TheVariants.{InputOutput}
 use Rattle.esync_words.specs.Played.{IsJudged}
 use Rattle.esync_script.specs.Opening.{PlaysScript}
-use Rattle.esync_script.proofs.perform.Goals as goal
+use Rattle.esync_script.proofs.play_buffered.Goals as goal
 
 -- a result that says how a script ended is what became of it
 judged :

@@ -1,0 +1,102 @@
+//! The command line.
+use clap::{Arg, ArgAction, Command};
+use std::alloc::{AllocError, Global};
+
+const SCRIPT: &str = "The script; standard input where it is - or left out";
+
+const SCRIPTS: &str = "The scripts; standard input where it is - or left out";
+
+/// The command line of the tool.
+pub fn command<'a>(alloc: Global) -> Result<Command<'a>, AllocError> {
+    Command::new(alloc, "esync")
+        .bin_name("esync")?
+        .version("0.1.0")
+        .propagate_version(true)
+        .about(
+            "Plays scripts of calls, polls and ends of futures over the primitives of embassy-sync, and judges recorded runs",
+        )
+        .after_help(
+            "Status: 0 it holds or came to its end, 1 it doesn't hold, 2 bad input or usage, 3 a read or a write failed, 4 out of memory",
+        )
+        .subcommand_required(true)
+        .arg_required_else_help(true)
+        .subcommand(run(alloc)?)?
+        .subcommand(draw(alloc)?)?
+        .subcommand(explain(alloc)?)?
+        .subcommand(check(alloc)?)?
+        .subcommand(ends(alloc)?)?
+        .subcommand(shared(alloc)?)
+}
+
+fn one_file<'a>(alloc: Global, help: &'a str) -> Arg<'a> {
+    Arg::new(alloc, "FILE").default_value("-").help(help)
+}
+
+fn files<'a>(alloc: Global, help: &'a str) -> Arg<'a> {
+    Arg::new(alloc, "FILE")
+        .default_value("-")
+        .num_args(0..)
+        .help(help)
+}
+
+fn run<'a>(alloc: Global) -> Result<Command<'a>, AllocError> {
+    Command::new(alloc, "run")
+        .about(
+            "Answers each line of a script: what its call or poll is answered, and the wakers that it hands out",
+        )
+        .arg(one_file(alloc, SCRIPT))
+}
+
+fn draw<'a>(alloc: Global) -> Result<Command<'a>, AllocError> {
+    let format = Arg::new(alloc, "format")
+        .long("format")
+        .value_parser(["mermaid", "markdown"].as_slice())
+        .default_value("mermaid")
+        .help(
+            "A diagram in the language of Mermaid, or a document with one in pages of at most 50 lines",
+        );
+    Command::new(alloc, "draw")
+        .about("Draws a script as a sequence diagram: calls, polls, answers and wakes")
+        .arg(format)?
+        .arg(one_file(alloc, SCRIPT))
+}
+
+fn explain<'a>(alloc: Global) -> Result<Command<'a>, AllocError> {
+    Command::new(alloc, "explain")
+        .about(
+            "Answers each line of a script, and says why each waker was handed out and what the primitive holds then",
+        )
+        .arg(one_file(alloc, SCRIPT))
+}
+
+fn check<'a>(alloc: Global) -> Result<Command<'a>, AllocError> {
+    Command::new(alloc, "check")
+        .about(
+            "Says whether a recorded run, lines COMMAND => ANSWER | WAKERS behind line 1, is a run of its primitive",
+        )
+        .arg(files(
+            alloc,
+            "The recorded runs; standard input where it is - or left out",
+        ))
+}
+
+fn ends<'a>(alloc: Global) -> Result<Command<'a>, AllocError> {
+    Command::new(alloc, "ends")
+        .about(
+            "Ends each request of a script at each earlier line, and says whether each task whose turn comes is told",
+        )
+        .arg(files(alloc, SCRIPTS))
+}
+
+fn shared<'a>(alloc: Global) -> Result<Command<'a>, AllocError> {
+    let compare = Arg::new(alloc, "compare")
+        .long("compare")
+        .action(ArgAction::SetTrue)
+        .help("Say whether the shared form answers as the machine does, by each way to its calls");
+    Command::new(alloc, "shared")
+        .about(
+            "Plays a script over the shared form of its primitive, by its calls, handles and futures",
+        )
+        .arg(compare)?
+        .arg(files(alloc, SCRIPTS))
+}

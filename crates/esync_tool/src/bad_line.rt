@@ -1,0 +1,239 @@
+//! Why a line is no command: where in the line, and what would be one.
+use crate::language::{OPENINGS, REQUESTS, asks_of, calls_of, shape_of};
+use esync_words::lines::LONGEST;
+use std::alloc::{AllocError, Global};
+use strsim::levenshtein;
+
+/// Where in a line it stops to be a command, and why.
+#[derive(Debug, Drop)]
+pub struct Reason {
+    /// The column, in bytes, from 1.
+    pub column: usize,
+    pub text: String,
+}
+
+// How many letters a name may differ from the one that is suggested for it.
+const NEAR: usize = 2;
+
+/// Why this line of a script is no command. Line 1 has no primitive before it. `None` where nothing is known.
+pub fn reason_of(
+    alloc: Global,
+    primitive: Option<&str>,
+    line: &[u8],
+) -> Result<Option<Reason>, AllocError> {
+    if let Some((column, why)) = odd_byte(line) {
+        return Ok(Some(Reason {
+            column,
+            text: String::from_str(alloc, why)?,
+        }));
+    }
+    let Ok(line) = str::from_utf8(line) else {
+        return Ok(None);
+    };
+    match primitive {
+        None => commanded(alloc, line, 1, "primitive", OPENINGS),
+        Some(primitive) => of_command(alloc, primitive, line),
+    }
+}
+
+// The column of the first byte that no command has at its place, and why.
+fn odd_byte(line: &[u8]) -> Option<(usize, &'static str)> {
+    if line.is_empty() {
+        return Some((1, "an empty line"));
+    }
+    for (place, byte) in line.iter().enumerate() {
+        let before = if place == 0 { b' ' } else { line[place - 1] };
+        let why = match byte {
+            b'\r' => "a carriage return: a line ends in a line feed alone",
+            b' ' if before == b' ' => "a space too many: words stand one space apart",
+            0..=31 | 127 => "a control character",
+            128..=255 => "a byte that isn't ASCII",
+            _ if place == LONGEST => "a line has at most 256 bytes",
+            _ => continue,
+        };
+        return Some((place.saturating_add(1), why));
+    }
+    if line.ends_with(b" ") {
+        return Some((line.len(), "a space at the end of the line"));
+    }
+    None
+}
+
+fn of_command(alloc: Global, primitive: &str, line: &str) -> Result<Option<Reason>, AllocError> {
+    let (name, rest) = line.split_once(' ').unwrap_or((line, ""));
+    if name != "start" {
+        return of_call(alloc, primitive, name, line);
+    }
+    let (number, ask) = rest.split_once(' ').unwrap_or((rest, ""));
+    if let Some(why) = odd_word(b'k', number) {
+        return told(alloc, 7, number, why);
+    }
+    let kind = format!(in alloc; "request of {primitive}")?;
+    let column = number.len().saturating_add(8);
+    commanded(alloc, ask, column, &kind, asks_of(primitive))
+}
+
+// Why a line that doesn't begin with `start` is no command.
+fn of_call(
+    alloc: Global,
+    primitive: &str,
+    name: &str,
+    line: &str,
+) -> Result<Option<Reason>, AllocError> {
+    let calls = format!(in alloc; "start {REQUESTS} {}", calls_of(primitive))?;
+    let is_ask = shape_of(&calls, name).is_none() && shape_of(asks_of(primitive), name).is_some();
+    if is_ask {
+        let text = format!(in alloc; "{name} is asked by a request, as start 0 {line}")?;
+        return Ok(Some(Reason { column: 1, text }));
+    }
+    let kind = format!(in alloc; "command of {primitive}")?;
+    commanded(alloc, line, 1, &kind, &calls)
+}
+
+// Why the text that begins at this column is none of the commands.
+fn commanded(
+    alloc: Global,
+    text: &str,
+    column: usize,
+    kind: &str,
+    commands: &str,
+) -> Result<Option<Reason>, AllocError> {
+    let (name, rest) = text.split_once(' ').unwrap_or((text, ""));
+    let Some(shape) = shape_of(commands, name) else {
+        return unknown(alloc, name, column, kind, commands);
+    };
+    let behind = column.saturating_add(name.len()).saturating_add(1);
+    shaped(alloc, name, rest, behind, shape)
+}
+
+// That no command has this name, with the one that is nearest to it.
+fn unknown(
+    alloc: Global,
+    name: &str,
+    column: usize,
+    kind: &str,
+    commands: &str,
+) -> Result<Option<Reason>, AllocError> {
+    let mut text = if name.is_empty() {
+        format!(in alloc; "a {kind} is missing")?
+    } else {
+        format!(in alloc; "no {kind} is called {name}")?
+    };
+    if let Some(near) = nearest(alloc, name, commands)? {
+        write!(text, "; did you mean {near}?")?;
+    }
+    Ok(Some(Reason { column, text }))
+}
+
+// The name that is nearest to this one, if one is near.
+fn nearest<'a>(
+    alloc: Global,
+    name: &str,
+    commands: &'a str,
+) -> Result<Option<&'a str>, AllocError> {
+    let mut best = None;
+    let mut least = NEAR.saturating_add(1).min(name.len());
+    for command in commands.split(' ') {
+        let (own, _) = command.split_once(':').unwrap_or((command, ""));
+        let edits = levenshtein(alloc, name, own)?;
+        if edits < least {
+            least = edits;
+            best = Some(own);
+        }
+    }
+    Ok(best)
+}
+
+// Why the words behind a name, from this column on, aren't those that its letters ask for.
+fn shaped(
+    alloc: Global,
+    name: &str,
+    words: &str,
+    column: usize,
+    shape: &str,
+) -> Result<Option<Reason>, AllocError> {
+    let mut column = column;
+    let mut left = if words.is_empty() { None } else { Some(words) };
+    for letter in shape.bytes() {
+        let Some(words) = left else {
+            if letter.is_ascii_uppercase() {
+                return Ok(None);
+            }
+            return told(alloc, column, name, "a word is missing behind it");
+        };
+        let (word, rest) = split_word(words);
+        if let Some(why) = odd_word(letter.to_ascii_lowercase(), word) {
+            return told(alloc, column, word, why);
+        }
+        column = column.saturating_add(word.len()).saturating_add(1);
+        left = rest;
+    }
+    match left {
+        Some(words) => told(alloc, column, split_word(words).0, "a word too many"),
+        None => Ok(None),
+    }
+}
+
+// The first word, and those behind it, if there are some.
+fn split_word(words: &str) -> (&str, Option<&str>) {
+    match words.split_once(' ') {
+        Some((word, rest)) => (word, Some(rest)),
+        None => (words, None),
+    }
+}
+
+fn told(alloc: Global, column: usize, word: &str, why: &str) -> Result<Option<Reason>, AllocError> {
+    let text = if word.is_empty() {
+        String::from_str(alloc, why)?
+    } else {
+        format!(in alloc; "{word}: {why}")?
+    };
+    Ok(Some(Reason { column, text }))
+}
+
+// Why a word isn't what its letter asks for, if it isn't.
+fn odd_word(letter: u8, word: &str) -> Option<&'static str> {
+    if letter == b'b' {
+        return (!is_bytes(word)).then_some(
+            "bytes are numbers below 256, at most 16, with a comma between, or - for none",
+        );
+    }
+    if word.is_empty() {
+        return Some("a number is missing");
+    }
+    if !is_number(word) {
+        return Some("no number");
+    }
+    match (letter, word.parse::<u64>()) {
+        (b'v', Ok(value)) if value > 4_294_967_295 => {
+            Some("too large: a value is at most 4294967295")
+        }
+        (b'n', Ok(count)) if count > 16 => Some("too large: at most 16 bytes"),
+        (b'c', Ok(places)) if !matches!(places, 1 | 2 | 3 | 4 | 8) => {
+            Some("another capacity: it is 1, 2, 3, 4 or 8")
+        }
+        (b'1', Ok(places)) if places != 1 => Some("another capacity: it is 1"),
+        (_, Ok(_)) => None,
+        (_, Err(_)) => Some("too large: a number is at most 18446744073709551615"),
+    }
+}
+
+fn is_number(word: &str) -> bool {
+    !word.is_empty() && word.bytes().all(|byte| byte.is_ascii_digit())
+}
+
+// The word is a list of bytes.
+fn is_bytes(word: &str) -> bool {
+    if word == "-" {
+        return true;
+    }
+    let mut count: usize = 0;
+    for number in word.split(',') {
+        let is_byte = is_number(number) && matches!(number.parse::<u64>(), Ok(0..=255));
+        count = count.saturating_add(1);
+        if !is_byte || count > 16 {
+            return false;
+        }
+    }
+    true
+}

@@ -1,0 +1,106 @@
+//! The tool `esync`: scripts and recorded runs of the primitives, for people.
+#![tactic(auto)]
+
+use crate::stopped::Stopped;
+use esync_words::fault::Fault;
+use std::alloc::Global;
+use std::fs::Files;
+use std::io::{Read, Write};
+use std::sync::Wait;
+
+mod arguments;
+mod bad_line;
+mod inputs;
+mod language;
+mod source;
+mod stopped;
+mod tasks;
+
+/// What the tool reads and writes.
+#[derive(Drop)]
+pub struct Streams<I: Drop, O: Drop, N: Drop, E: Drop> {
+    pub input: I,
+    /// The input is a terminal, where somebody types.
+    pub is_terminal: bool,
+    pub output: O,
+    /// Where the notes of an explanation go, as a rule to the output.
+    pub notes: N,
+    pub errors: E,
+}
+
+/// Does what the words of a command line ask for, of which the first is the program's name, and returns the status.
+///
+/// | Status | What was asked for |
+/// |---|---|
+/// | 0 | holds, or came to its end |
+/// | 1 | doesn't hold |
+/// | 2 | isn't understood, or the input is bad: `errors` says where and why |
+/// | 3 | met a read or a write that failed |
+/// | 4 | takes more memory than there is |
+///
+/// Of several files the greatest status counts. Whether `errors` can be written changes no status.
+pub fn esync<R, I, O, N, E>(
+    rt: &R,
+    alloc: Global,
+    words: &[String],
+    streams: Streams<I, O, N, E>,
+) -> u8
+where
+    R: Files + Wait,
+    I: Read + Drop,
+    O: Write + Drop,
+    N: Write + Drop,
+    E: Write + Drop,
+{
+    let mut streams = streams;
+    match asked(rt, alloc, words, &mut streams) {
+        Ok(status) => status,
+        Err(stopped) => {
+            let _ = writeln!(streams.errors, "esync: {stopped}");
+            let _ = streams.errors.flush();
+            stopped.status()
+        }
+    }
+}
+
+fn asked<R, I, O, N, E>(
+    rt: &R,
+    alloc: Global,
+    words: &[String],
+    streams: &mut Streams<I, O, N, E>,
+) -> Result<u8, Stopped>
+where
+    R: Files + Wait,
+    I: Read + Drop,
+    O: Write + Drop,
+    N: Write + Drop,
+    E: Write + Drop,
+{
+    let command = arguments::command(alloc)?;
+    let matches = match command.try_get_matches_from(words) {
+        Ok(matches) => matches,
+        Err(error) => return said(&error, streams),
+    };
+    match matches.subcommand() {
+        Some((name, matches)) => tasks::perform(rt, alloc, name, matches, streams),
+        None => Ok(2),
+    }
+}
+
+// Says what the command line asks to be told: a help, the version, or what isn't understood.
+fn said<I: Drop, O: Write + Drop, N: Drop, E: Write + Drop>(
+    error: &clap::Error,
+    streams: &mut Streams<I, O, N, E>,
+) -> Result<u8, Stopped> {
+    if error.kind() == clap::error::ErrorKind::OutOfMemory {
+        return Err(Stopped::Fault(Fault::OutOfMemory));
+    }
+    if error.use_stderr() {
+        let _ = write!(streams.errors, "{error}");
+        let _ = streams.errors.flush();
+        return Ok(2);
+    }
+    write!(streams.output, "{error}")?;
+    streams.output.flush()?;
+    Ok(0)
+}

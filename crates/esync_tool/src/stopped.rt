@@ -1,0 +1,78 @@
+//! What keeps a command of the tool from its end.
+use crate::bad_line::Reason;
+use esync_check::fault::Unchecked;
+use esync_words::fault::Fault;
+use std::alloc::AllocError;
+use std::fmt::{self, Display, Formatter};
+use std::io;
+
+/// Why an input was not gone through to its end.
+#[derive(Drop)]
+pub enum Stopped {
+    /// It can't be opened.
+    Unopened(io::Error),
+    /// A line is no command, a read or a write failed, or memory was refused.
+    Fault(Fault),
+    /// The line of this number is no command, for this reason.
+    BadLine(u64, Reason),
+    /// The line of this number has no reply.
+    NoReply(u64),
+}
+
+impl Stopped {
+    /// The status of a program that ends so.
+    pub fn status(&self) -> u8 {
+        match self {
+            Stopped::Unopened(_) => 3,
+            Stopped::Fault(fault) => fault.status(),
+            Stopped::BadLine(_, _) | Stopped::NoReply(_) => 2,
+        }
+    }
+}
+
+impl Display for Stopped {
+    fn fmt<W: fmt::Write>(&self, f: &mut Formatter<W>) -> fmt::Result {
+        match self {
+            Stopped::Unopened(error) => write!(f, "{error}"),
+            Stopped::Fault(fault) => write!(f, "{fault}"),
+            Stopped::BadLine(line, reason) => {
+                write!(
+                    f,
+                    "line {line}, column {}: not a command: {}",
+                    reason.column, reason.text
+                )
+            }
+            Stopped::NoReply(line) => write!(f, "line {line}: no reply"),
+        }
+    }
+}
+
+impl From<Fault> for Stopped {
+    fn from(fault: Fault) -> Stopped {
+        Stopped::Fault(fault)
+    }
+}
+
+impl From<io::Error> for Stopped {
+    fn from(error: io::Error) -> Stopped {
+        if error.kind() == io::ErrorKind::OutOfMemory {
+            return Stopped::Fault(Fault::OutOfMemory);
+        }
+        Stopped::Fault(Fault::InputOutput)
+    }
+}
+
+impl From<AllocError> for Stopped {
+    fn from(_error: AllocError) -> Stopped {
+        Stopped::Fault(Fault::OutOfMemory)
+    }
+}
+
+impl From<Unchecked> for Stopped {
+    fn from(unchecked: Unchecked) -> Stopped {
+        match unchecked {
+            Unchecked::NoReply(line) => Stopped::NoReply(line),
+            Unchecked::Script(fault) => Stopped::Fault(fault),
+        }
+    }
+}

@@ -1,0 +1,318 @@
+//! What each command of the tool does.
+use crate::Streams;
+use crate::inputs::{hint, read_all, reasoned, status, text_of, with_reason};
+use crate::source::Keeping;
+use crate::stopped::Stopped;
+use clap::ArgMatches;
+use esync_check::{Verdict, check_script, print_verdict};
+use esync_ends::try_ends;
+use esync_forms::form::{Door, Doors};
+use esync_script::{play_buffered, play_script};
+use esync_shared::compare::compare;
+use esync_shared::play::play;
+use esync_words::diagram::{Diagram, Pages};
+use esync_words::explain::Explained;
+use esync_words::play::{Replies, Telling};
+use std::alloc::Global;
+use std::fmt::{self, Display, Formatter};
+use std::fs::{File, Files};
+use std::io::{self, Read, Write};
+use std::sync::Wait;
+
+/// Does what the command of this name asks for.
+pub fn perform<R, I, O, N, E>(
+    rt: &R,
+    alloc: Global,
+    name: &str,
+    matches: &ArgMatches<'_>,
+    streams: &mut Streams<I, O, N, E>,
+) -> Result<u8, Stopped>
+where
+    R: Files + Wait,
+    I: Read + Drop,
+    O: Write + Drop,
+    N: Write + Drop,
+    E: Write + Drop,
+{
+    let file = matches.get_str("FILE").unwrap_or("-");
+    match name {
+        "run" => tell(rt, alloc, &mut Replies {}, file, streams),
+        "draw" if matches.get_str("format") == Some("markdown") => {
+            tell(rt, alloc, &mut Pages {}, file, streams)
+        }
+        "draw" => tell(rt, alloc, &mut Diagram {}, file, streams),
+        "explain" => explain(rt, alloc, file, streams),
+        "check" => with_files(rt, alloc, Work::Check, matches, streams),
+        "ends" => with_files(rt, alloc, Work::Ends, matches, streams),
+        _ if matches.get_flag("compare") => with_files(rt, alloc, Work::Compare, matches, streams),
+        _ => with_files(rt, alloc, Work::Shared, matches, streams),
+    }
+}
+
+// Plays a script, and writes what is told of it.
+fn tell<T, R, I, O, N, E>(
+    rt: &R,
+    alloc: Global,
+    telling: &mut T,
+    name: &str,
+    streams: &mut Streams<I, O, N, E>,
+) -> Result<u8, Stopped>
+where
+    T: Telling,
+    R: Files,
+    I: Read + Drop,
+    O: Write + Drop,
+    N: Drop,
+    E: Write + Drop,
+{
+    hint(name, streams);
+    let Streams {
+        input,
+        output,
+        errors,
+        ..
+    } = streams;
+    let outcome = told(rt, alloc, telling, name, input, output);
+    Ok(status(name, outcome.map(|()| true), errors))
+}
+
+// Plays the script of this name.
+fn told<T: Telling, R: Files, I: Read + Drop, O: Write + Drop>(
+    rt: &R,
+    alloc: Global,
+    telling: &mut T,
+    name: &str,
+    input: &mut I,
+    output: &mut O,
+) -> Result<(), Stopped> {
+    if name == "-" {
+        return told_of(alloc, telling, input, output);
+    }
+    let file = File::open(rt, name).map_err(Stopped::Unopened)?;
+    told_of(alloc, telling, file, output)
+}
+
+fn told_of<T: Telling, S: Read + Drop, O: Write + Drop>(
+    alloc: Global,
+    telling: &mut T,
+    source: S,
+    output: &mut O,
+) -> Result<(), Stopped> {
+    let mut kept = Keeping::new(alloc, source);
+    let outcome = play_buffered(alloc, telling, &mut kept, output);
+    with_reason(alloc, outcome, &kept)
+}
+
+// Plays a script, and writes each answer, and behind it why each waker was handed out.
+fn explain<R, I, O, N, E>(
+    rt: &R,
+    alloc: Global,
+    name: &str,
+    streams: &mut Streams<I, O, N, E>,
+) -> Result<u8, Stopped>
+where
+    R: Files,
+    I: Read + Drop,
+    O: Write + Drop,
+    N: Write + Drop,
+    E: Write + Drop,
+{
+    hint(name, streams);
+    let Streams {
+        input,
+        output,
+        notes,
+        errors,
+        ..
+    } = streams;
+    let outcome = explained(rt, alloc, name, input, output, notes);
+    Ok(status(name, outcome.map(|()| true), errors))
+}
+
+// Plays the script of this name.
+fn explained<R: Files, I: Read + Drop, O: Write + Drop, N: Write + Drop>(
+    rt: &R,
+    alloc: Global,
+    name: &str,
+    input: &mut I,
+    output: &mut O,
+    notes: &mut N,
+) -> Result<(), Stopped> {
+    if name == "-" {
+        return explained_of(alloc, input, output, notes);
+    }
+    let file = File::open(rt, name).map_err(Stopped::Unopened)?;
+    explained_of(alloc, file, output, notes)
+}
+
+fn explained_of<S: Read + Drop, O: Write + Drop, N: Write + Drop>(
+    alloc: Global,
+    source: S,
+    output: &mut O,
+    notes: &mut N,
+) -> Result<(), Stopped> {
+    let mut kept = Keeping::new(alloc, source);
+    let mut explained = Explained::new(alloc, notes);
+    let outcome = play_script(alloc, &mut explained, &mut kept, output);
+    with_reason(alloc, outcome, &kept)
+}
+
+/// What is done with each of several files.
+#[derive(Clone, Copy)]
+enum Work {
+    Check,
+    Ends,
+    Shared,
+    Compare,
+}
+
+// Does it with each file that is named, and counts them where there are several.
+fn with_files<R, I, O, N, E>(
+    rt: &R,
+    alloc: Global,
+    what: Work,
+    matches: &ArgMatches<'_>,
+    streams: &mut Streams<I, O, N, E>,
+) -> Result<u8, Stopped>
+where
+    R: Files + Wait,
+    I: Read + Drop,
+    O: Write + Drop,
+    N: Drop,
+    E: Write + Drop,
+{
+    let names = matches.get_strs("FILE").unwrap_or(&["-"]);
+    let are_several = names.len() > 1;
+    let mut greatest = 0;
+    let mut counts = Counts::default();
+    for name in names {
+        hint(name, streams);
+        let Streams {
+            input,
+            output,
+            errors,
+            ..
+        } = streams;
+        let heading = are_several.then_some(*name);
+        let outcome = with_text(rt, alloc, what, name, heading, input, output);
+        counts.count(&outcome);
+        greatest = status(name, outcome, errors).max(greatest);
+    }
+    if are_several {
+        writeln!(streams.output, "{} files: {counts}", names.len())?;
+        streams.output.flush()?;
+    }
+    Ok(greatest)
+}
+
+/// How many files hold, don't hold, and were not gone through.
+#[derive(Clone, Copy, Default)]
+struct Counts {
+    hold: u64,
+    fail: u64,
+    stopped: u64,
+}
+
+impl Counts {
+    fn count(&mut self, outcome: &Result<bool, Stopped>) {
+        let count = match outcome {
+            Ok(true) => &mut self.hold,
+            Ok(false) => &mut self.fail,
+            Err(_) => &mut self.stopped,
+        };
+        *count = count.saturating_add(1);
+    }
+}
+
+impl Display for Counts {
+    fn fmt<W: fmt::Write>(&self, f: &mut Formatter<W>) -> fmt::Result {
+        let Counts {
+            hold,
+            fail,
+            stopped,
+        } = self;
+        write!(
+            f,
+            "{hold} hold, {fail} don't hold, {stopped} were not gone through"
+        )
+    }
+}
+
+// Reads a whole file, and does it with its text: whether it holds.
+fn with_text<R, I, O>(
+    rt: &R,
+    alloc: Global,
+    what: Work,
+    name: &str,
+    heading: Option<&str>,
+    input: &mut I,
+    output: &mut O,
+) -> Result<bool, Stopped>
+where
+    R: Files + Wait,
+    I: Read + Drop,
+    O: Write,
+{
+    let bytes = read_all(rt, alloc, name, input)?;
+    let text = text_of(alloc, &bytes)?;
+    let behind = if matches!(what, Work::Shared) {
+        "\n"
+    } else {
+        " "
+    };
+    let mut told = Vec::new(alloc);
+    let holds = match what {
+        Work::Check => check(alloc, text, &mut told),
+        Work::Ends => try_ends(alloc, text, &mut told).map_err(Stopped::from),
+        Work::Shared => played(rt, alloc, text, &mut told),
+        Work::Compare => compared(rt, alloc, text, &mut told),
+    };
+    if !told.is_empty() {
+        write_told(heading, behind, &told, output)?;
+    }
+    holds.map_err(|stopped| reasoned(alloc, stopped, text))
+}
+
+// Writes what is told of a file, behind its name where there are several, and behind a space or the end of a line.
+fn write_told<O: Write>(
+    heading: Option<&str>,
+    behind: &str,
+    told: &[u8],
+    output: &mut O,
+) -> io::Result<()> {
+    if let Some(heading) = heading {
+        write!(output, "{heading}:{behind}")?;
+    }
+    output.write_all(told)?;
+    output.flush()
+}
+
+// Whether a recorded run is one, which is written.
+fn check<O: Write>(alloc: Global, text: &str, output: &mut O) -> Result<bool, Stopped> {
+    let verdict = check_script(alloc, text)?;
+    print_verdict(text, &verdict, output)?;
+    Ok(matches!(verdict, Verdict::Run(_)))
+}
+
+// Plays a script over a shared form, and writes its replies.
+fn played<R: Wait, O: Write>(
+    rt: &R,
+    alloc: Global,
+    text: &str,
+    output: &mut O,
+) -> Result<bool, Stopped> {
+    play(rt, alloc, Doors::from(Door::Own), text, output)?;
+    Ok(true)
+}
+
+// Whether a shared form answers as the machine does, by each way, which is written.
+fn compared<R: Wait, O: Write>(
+    rt: &R,
+    alloc: Global,
+    text: &str,
+    output: &mut O,
+) -> Result<bool, Stopped> {
+    let found = compare(rt, alloc, text)?;
+    writeln!(output, "{found}")?;
+    Ok(found.is_alike())
+}
