@@ -1,0 +1,98 @@
+//! What a recorded run can say, and why a recording stops where a program does more.
+use std::fmt;
+
+/// The capacities that a primitive can have.
+pub const CAPACITIES: [usize; 5] = [1, 2, 3, 4, 8];
+/// How many numbers there are for requests with guards and releasers, and for each kind of handle.
+pub const NUMBERS: usize = 16;
+/// How many bytes a call of a pipe can name.
+pub const ROW: usize = 16;
+// A longer buffer of a pipe is named by its first bytes: no more than these can go in or out.
+const _: () = assert!(CAPACITIES[CAPACITIES.len() - 1] <= ROW);
+/// How many subscribers, and how many publishers, a channel for them has.
+pub const HANDLES: usize = 4;
+/// The greatest number of a message.
+pub const GREATEST_MESSAGE: i128 = u32::MAX as i128;
+
+/// Why a recording stopped. The calls behind it are made, and aren't recorded.
+#[derive(Clone, Debug, PartialEq, Eq)]
+pub enum Stop {
+    /// The primitive has a capacity that no run can have.
+    Capacity(usize),
+    /// The channel has other numbers of subscribers and publishers than a run's.
+    Handles {
+        /// How many subscribers it can have.
+        subscribers: usize,
+        /// How many publishers it can have.
+        publishers: usize,
+    },
+    /// More requests, guards and releasers, or more handles of a kind, were there at a time than there are numbers.
+    Numbers,
+    /// A message has a number below 0 or above the greatest one.
+    Message(i128),
+    /// Some messages have numbers of their own, and others are named by a text.
+    MixedNames,
+    /// Messages of a priority channel are named by a text, which says nothing of their order.
+    NoOrder,
+    /// A call names more bytes than a run can.
+    Bytes(usize),
+    /// The primitive was called within one of its own calls, by a waker, a closure or a message.
+    Nested,
+    /// A future was polled after its answer.
+    PolledAgain,
+    /// A call has no counterpart in a run.
+    NoCounterpart(&'static str),
+}
+
+impl fmt::Display for Stop {
+    fn fmt(&self, f: &mut fmt::Formatter<'_>) -> fmt::Result {
+        match self {
+            Stop::Capacity(capacity) => {
+                write!(f, "a capacity of {capacity}, where one of {CAPACITIES:?} can be recorded")
+            }
+            Stop::Handles { subscribers, publishers } => {
+                write!(
+                    f,
+                    "{subscribers} subscribers and {publishers} publishers, where {HANDLES} of each can be recorded"
+                )
+            }
+            Stop::Numbers => write!(f, "more than {NUMBERS} requests, or handles of a kind, at a time"),
+            Stop::Message(number) => {
+                write!(f, "a message with the number {number}, which isn't in 0..={GREATEST_MESSAGE}")
+            }
+            Stop::MixedNames => write!(f, "messages with numbers of their own beside messages that a text names"),
+            Stop::NoOrder => write!(f, "messages of a priority channel that a text names"),
+            Stop::Bytes(count) => write!(f, "{count} bytes in a call, where {ROW} can be recorded"),
+            Stop::Nested => write!(f, "a call within a call of the same primitive"),
+            Stop::PolledAgain => write!(f, "a poll of a future after its answer"),
+            Stop::NoCounterpart(call) => write!(f, "a call that no run can have: {call}"),
+        }
+    }
+}
+
+impl std::error::Error for Stop {}
+
+/// Finds whether a run can have this capacity.
+pub fn capacity(capacity: usize) -> Result<(), Stop> {
+    match CAPACITIES.contains(&capacity) {
+        true => Ok(()),
+        false => Err(Stop::Capacity(capacity)),
+    }
+}
+
+/// Finds whether a run can have so many subscribers and publishers.
+#[allow(dead_code)]
+pub fn handles(subscribers: usize, publishers: usize) -> Result<(), Stop> {
+    match (subscribers, publishers) {
+        (HANDLES, HANDLES) => Ok(()),
+        _ => Err(Stop::Handles { subscribers, publishers }),
+    }
+}
+
+/// Finds whether a run can have a message of this number.
+pub fn message(number: i128) -> Result<(), Stop> {
+    match (0..=GREATEST_MESSAGE).contains(&number) {
+        true => Ok(()),
+        false => Err(Stop::Message(number)),
+    }
+}

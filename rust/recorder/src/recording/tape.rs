@@ -1,0 +1,316 @@
+//! The tape of one primitive: what was called, answered and woken, line for line.
+use std::fmt;
+use std::panic::Location;
+use std::sync::{Arc, Mutex, OnceLock};
+use std::task::{Context, Poll, Waker};
+
+use super::limits::{Stop, NUMBERS};
+use super::name::{phrase, Names, Phrase};
+use super::runs::{self, Run};
+use super::tasks::Tasks;
+use super::turn::{lock, Turn, Turns};
+
+/// What line 1 of a run says of the primitive, and whether it is within the limits.
+pub struct Head {
+    /// The primitive's name.
+    pub kind: &'static str,
+    /// What stands behind the name.
+    pub rest: Phrase,
+    /// Messages are compared by their numbers.
+    pub has_order: bool,
+    /// What no run can say of it.
+    pub limit: Result<(), Stop>,
+}
+
+impl Head {
+    /// Returns the head of a primitive of this name, behind which `rest` stands.
+    pub fn new(kind: &'static str, rest: impl fmt::Display) -> Self {
+        Head { kind, rest: phrase(rest), has_order: false, limit: Ok(()) }
+    }
+
+    /// Returns the head of a primitive of this name and capacity.
+    pub fn of_capacity(kind: &'static str, capacity: usize) -> Self {
+        Head { limit: super::limits::capacity(capacity), ..Self::new(kind, capacity) }
+    }
+
+    fn written(&self, names: &mut Names) -> Result<String, Stop> {
+        let rest = self.rest.written(names)?;
+        Ok(format!("{} {rest}", self.kind))
+    }
+}
+
+/// The place of a primitive's tape, which is made at its first call.
+pub struct Recording {
+    origin: &'static Location<'static>,
+    tape: OnceLock<Arc<Tape>>,
+}
+
+impl Recording {
+    /// Returns the place of a primitive that the caller of this call's caller makes.
+    #[track_caller]
+    pub const fn new() -> Self {
+        Recording { origin: Location::caller(), tape: OnceLock::new() }
+    }
+
+    /// Returns the tape, with this head where it isn't made yet.
+    pub fn tape(&self, head: impl FnOnce() -> Head) -> &Tape {
+        self.tape.get_or_init(|| runs::add(self.origin, head()))
+    }
+}
+
+impl Drop for Recording {
+    fn drop(&mut self) {
+        if let Some(tape) = self.tape.get() {
+            // (what a task's waker keeps alive may have requests at other tapes)
+            let wakers = lock(&tape.page).tasks.forget();
+            drop(wakers);
+        }
+    }
+}
+
+/// What has numbers of its own in a run.
+#[derive(Clone, Copy, Debug)]
+pub enum Table {
+    /// Requests, guards and releasers.
+    Requests,
+    /// Receivers of a watch.
+    Receivers,
+    /// Subscribers.
+    Subscribers,
+    /// Publishers.
+    Publishers,
+}
+
+/// A number that is in use.
+#[derive(Clone, Copy, Debug)]
+pub struct Number {
+    table: Table,
+    place: usize,
+}
+
+impl fmt::Display for Number {
+    fn fmt(&self, f: &mut fmt::Formatter<'_>) -> fmt::Result {
+        write!(f, "{}", self.place)
+    }
+}
+
+/// Writes a number that a recording may lack: then it has stopped, and nothing is written.
+pub struct Shown(pub Option<Number>);
+
+impl fmt::Display for Shown {
+    fn fmt(&self, f: &mut fmt::Formatter<'_>) -> fmt::Result {
+        self.0.map_or(Ok(()), |number| number.fmt(f))
+    }
+}
+
+/// The tape of one primitive.
+pub struct Tape {
+    name: String,
+    turns: Turns,
+    page: Mutex<Page>,
+}
+
+struct Page {
+    head: String,
+    lines: Vec<String>,
+    in_use: [[bool; NUMBERS]; 4],
+    tasks: Tasks,
+    names: Names,
+    stop: Option<Stop>,
+}
+
+impl Page {
+    fn take(&mut self, table: Table) -> Option<Number> {
+        if self.stop.is_some() {
+            return None;
+        }
+        let places = &mut self.in_use[table as usize];
+        let Some(place) = places.iter().position(|in_use| !in_use) else {
+            self.stop = Some(Stop::Numbers);
+            return None;
+        };
+        places[place] = true;
+        Some(Number { table, place })
+    }
+
+    fn free(&mut self, number: Option<Number>) {
+        if let Some(Number { table, place }) = number {
+            self.in_use[table as usize][place] = false;
+        }
+    }
+
+    fn write(&mut self, command: &Phrase, answer: &Phrase, woken: &[u64]) {
+        if self.stop.is_some() {
+            return;
+        }
+        match self.line(command, answer, woken) {
+            Ok(line) => self.lines.push(line),
+            Err(stop) => self.stop = Some(stop),
+        }
+    }
+
+    fn line(&mut self, command: &Phrase, answer: &Phrase, woken: &[u64]) -> Result<String, Stop> {
+        let command = command.written(&mut self.names)?;
+        let answer = answer.written(&mut self.names)?;
+        let woken: Vec<String> = woken.iter().map(u64::to_string).collect();
+        let wakers = if woken.is_empty() { "-".to_string() } else { woken.join(" ") };
+        Ok(format!("{command} => {answer} | {wakers}"))
+    }
+}
+
+impl Tape {
+    /// Returns a tape with line 1 alone.
+    pub fn new(name: String, head: Head) -> Self {
+        let mut names = Names::new(head.has_order);
+        let (text, unwritten) = match head.written(&mut names) {
+            Ok(text) => (text, None),
+            Err(stop) => (head.kind.to_string(), Some(stop)),
+        };
+        let stop = head.limit.err().or(unwritten);
+        let page =
+            Page { head: text, lines: Vec::new(), in_use: Default::default(), tasks: Tasks::default(), names, stop };
+        Tape { name, turns: Turns::default(), page: Mutex::new(page) }
+    }
+
+    /// Returns what was recorded so far.
+    pub fn run(&self) -> Run {
+        let page = lock(&self.page);
+        let mut text = format!("{}\n", page.head);
+        for line in &page.lines {
+            text += line;
+            text.push('\n');
+        }
+        if let Some(stop) = &page.stop {
+            text += &format!("# stopped at {stop}\n");
+        }
+        Run { name: self.name.clone(), text, stop: page.stop.clone() }
+    }
+
+    /// Stops the recording, where it hasn't stopped.
+    pub fn stop(&self, stop: Stop) {
+        lock(&self.page).stop.get_or_insert(stop);
+    }
+
+    /// Puts this in place of line 1: what it says is known now.
+    pub fn set_head(&self, head: &Head) {
+        let mut page = lock(&self.page);
+        match head.written(&mut page.names) {
+            Ok(text) => page.head = text,
+            Err(stop) => {
+                page.stop.get_or_insert(stop);
+            }
+        }
+    }
+
+    /// Takes the lowest number that is free. `None` where the recording has stopped, as it does where none is.
+    pub fn take(&self, table: Table) -> Option<Number> {
+        lock(&self.page).take(table)
+    }
+
+    /// Records that a request was made, and returns its number.
+    pub fn start(&self, ask: &Phrase) -> Option<Number> {
+        let mut page = lock(&self.page);
+        let number = page.take(Table::Requests)?;
+        let start = phrase(format_args!("start {number} ")).then(ask);
+        page.write(&start, &phrase("Ok"), &[]);
+        Some(number)
+    }
+
+    /// Returns the number of the task that has this waker, and the waker that upstream gets in its place.
+    pub fn task(&self, waker: &Waker) -> (u64, Waker) {
+        lock(&self.page).tasks.find(waker)
+    }
+
+    /// Begins a call: nobody else's is made until it is answered.
+    pub fn step(&self, command: Phrase) -> Step<'_> {
+        let mut step = Step { tape: self, command, turn: None };
+        if lock(&self.page).stop.is_none() {
+            step.turn = self.turns.take();
+            if step.turn.is_none() {
+                self.stop(Stop::Nested);
+            }
+        }
+        step
+    }
+
+    /// Makes a call and records it.
+    pub fn call<R>(&self, command: Phrase, act: impl FnOnce() -> R, answer: impl FnOnce(&R) -> Phrase) -> R {
+        let step = self.step(command);
+        let result = act();
+        step.end(answer(&result), None);
+        result
+    }
+
+    /// Makes a call and records that it is done.
+    pub fn done(&self, command: Phrase, act: impl FnOnce()) {
+        self.call(command, act, |()| phrase("Ok"));
+    }
+
+    /// Makes a poll outside of a future, and records it as the one poll of a request.
+    pub fn poll_once<R>(
+        &self,
+        ask: &Phrase,
+        cx: &mut Context<'_>,
+        act: impl FnOnce(&mut Context<'_>) -> Poll<R>,
+        answer: impl FnOnce(&R) -> Phrase,
+    ) -> Poll<R> {
+        let number = self.start(ask);
+        let polled = self.poll(number, cx, act, |value| (answer(value), number));
+        if polled.is_pending() {
+            self.step(phrase(format_args!("end {}", Shown(number)))).end(phrase("Ok"), number);
+        }
+        polled
+    }
+
+    /// Makes a poll of a request. `answer` says what is answered, and which number is free then.
+    pub fn poll<R>(
+        &self,
+        number: Option<Number>,
+        cx: &mut Context<'_>,
+        act: impl FnOnce(&mut Context<'_>) -> Poll<R>,
+        answer: impl FnOnce(&R) -> (Phrase, Option<Number>),
+    ) -> Poll<R> {
+        let (task, waker) = self.task(cx.waker());
+        let step = self.step(phrase(format_args!("poll {} {task}", Shown(number))));
+        let polled = act(&mut Context::from_waker(&waker));
+        match &polled {
+            Poll::Pending => step.end(phrase("Pending"), None),
+            Poll::Ready(value) => {
+                let (answer, frees) = answer(value);
+                step.end(answer, frees);
+            }
+        }
+        polled
+    }
+}
+
+/// A call that is being made. Dropped without an answer, it is recorded as one that panicked.
+pub struct Step<'a> {
+    tape: &'a Tape,
+    command: Phrase,
+    turn: Option<Turn<'a>>,
+}
+
+impl Step<'_> {
+    /// Ends the call: records its answer and who was woken, frees the number, and gives the turn to the next call.
+    pub fn end(mut self, answer: Phrase, frees: Option<Number>) {
+        self.write(&answer, frees);
+    }
+
+    fn write(&mut self, answer: &Phrase, frees: Option<Number>) {
+        if let Some(turn) = self.turn.take() {
+            let mut page = lock(&self.tape.page);
+            let woken = page.tasks.take_woken();
+            page.write(&self.command, answer, &woken);
+            page.free(frees);
+            drop(page);
+            drop(turn);
+        }
+    }
+}
+
+impl Drop for Step<'_> {
+    fn drop(&mut self) {
+        self.write(&phrase("Panic"), None);
+    }
+}
