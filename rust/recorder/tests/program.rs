@@ -9,10 +9,10 @@ use embassy_sync::blocking_mutex::raw::NoopRawMutex;
 use recorder::channel::{Channel, Receiver, Sender};
 use recorder::mutex::{Mutex, MutexGuard};
 use recorder::pipe::{Pipe, Reader, Writer};
-use recorder::{named_by_debug, Recorded, Run};
+use recorder::{Recorded, Run, named_by_debug};
 
 mod executor;
-use executor::{keep, pause, within, Executor};
+use executor::{Executor, keep, pause, within};
 
 /// How many messages the channel holds.
 const READINGS: usize = 2;

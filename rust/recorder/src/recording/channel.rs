@@ -186,6 +186,8 @@ macro_rules! sizes {
     };
 }
 
+pub(super) use sizes;
+
 /// A sender of a [`Channel`].
 pub struct Sender<'ch, M: RawMutex, T, const N: usize> {
     channel: &'ch Channel<M, T, N>,

@@ -81,7 +81,6 @@ pub fn capacity(capacity: usize) -> Result<(), Stop> {
 }
 
 /// Finds whether a run can have so many subscribers and publishers.
-#[allow(dead_code)]
 pub fn handles(subscribers: usize, publishers: usize) -> Result<(), Stop> {
     match (subscribers, publishers) {
         (HANDLES, HANDLES) => Ok(()),

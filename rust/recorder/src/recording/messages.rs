@@ -4,7 +4,7 @@ use std::task::{Context, Poll};
 
 use embassy_sync::channel::{TryReceiveError, TrySendError};
 
-use super::name::{phrase, Name, Phrase};
+use super::name::{Name, Phrase, phrase};
 use super::request::{Ready, ReadyWith, Request};
 use super::tape::Tape;
 

@@ -118,6 +118,8 @@ pub struct Phrase(Vec<Piece>);
 enum Piece {
     Text(String),
     Message(Name),
+    Above(Name),
+    Change(Name, Name),
     Bytes(Vec<u8>),
 }
 
@@ -136,6 +138,18 @@ impl Phrase {
     /// Appends a message.
     pub fn message(mut self, name: Name) -> Self {
         self.0.push(Piece::Message(name));
+        self
+    }
+
+    /// Appends the number above a message's.
+    pub fn above(mut self, name: Name) -> Self {
+        self.0.push(Piece::Above(name));
+        self
+    }
+
+    /// Appends what has to be added to one message's number, modulo 2^32, for another's.
+    pub fn change(mut self, from: Name, to: Name) -> Self {
+        self.0.push(Piece::Change(from, to));
         self
     }
 
@@ -162,6 +176,14 @@ impl Piece {
         match self {
             Piece::Text(text) => Ok(text.clone()),
             Piece::Message(name) => Ok(names.number(name)?.to_string()),
+            Piece::Above(name) => {
+                let above = i128::from(names.number(name)?) + 1;
+                limits::message(above).map(|()| above.to_string())
+            }
+            Piece::Change(from, to) => {
+                let from = names.number(from)?;
+                Ok(names.number(to)?.wrapping_sub(from).to_string())
+            }
             Piece::Bytes(bytes) if bytes.len() > limits::ROW => Err(Stop::Bytes(bytes.len())),
             Piece::Bytes(bytes) if bytes.is_empty() => Ok("-".to_string()),
             Piece::Bytes(bytes) => Ok(bytes.iter().map(u8::to_string).collect::<Vec<_>>().join(",")),

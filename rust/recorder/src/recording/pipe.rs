@@ -1,6 +1,6 @@
 //! `embassy_sync::pipe`, recorded.
 use std::future::Future;
-use std::pin::{pin, Pin};
+use std::pin::{Pin, pin};
 use std::task::{Context, Poll};
 
 use embassy_sync::blocking_mutex::raw::RawMutex;
@@ -8,7 +8,7 @@ use embassy_sync::pipe as upstream;
 pub use embassy_sync::pipe::{TryReadError, TryWriteError};
 
 use super::limits::ROW;
-use super::name::{phrase, Phrase};
+use super::name::{Phrase, phrase};
 use super::request::{Answer, Held, Outcome, Ready, Request};
 use super::runs::{Recorded, Run};
 use super::tape::{Head, Recording, Tape};

@@ -4,7 +4,7 @@ use std::pin::Pin;
 use std::task::{Context, Poll};
 
 use super::limits::Stop;
-use super::name::{phrase, Name, Phrase};
+use super::name::{Name, Phrase, phrase};
 use super::tape::{Number, Shown, Tape};
 
 /// What a Ready poll says in a run.
@@ -146,6 +146,18 @@ impl Outcome<'_, ()> for Ready {
 
 /// The answer of a request that gives a message, and what a run calls that.
 pub struct ReadyWith<T>(pub fn(&T) -> Name);
+
+impl<'v, T> Outcome<'_, &'v T> for ReadyWith<T> {
+    type Output = &'v T;
+
+    fn answer(&self, value: &&'v T) -> Answer {
+        Answer::Over(phrase("Ready(").message((self.0)(value)).text(")"))
+    }
+
+    fn hand_over(&self, value: &'v T, _held: Held<'_>) -> &'v T {
+        value
+    }
+}
 
 impl<T> Outcome<'_, T> for ReadyWith<T> {
     type Output = T;

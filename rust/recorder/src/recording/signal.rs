@@ -4,7 +4,7 @@ use std::future::Future;
 use embassy_sync::blocking_mutex::raw::RawMutex;
 use embassy_sync::signal as upstream;
 
-use super::name::{phrase, Name, Named, Phrase};
+use super::name::{Name, Named, Phrase, phrase};
 use super::request::{ReadyWith, Request};
 use super::runs::{Recorded, Run};
 use super::tape::{Head, Recording, Tape};

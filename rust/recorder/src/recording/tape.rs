@@ -4,11 +4,11 @@ use std::panic::Location;
 use std::sync::{Arc, Mutex, OnceLock};
 use std::task::{Context, Poll, Waker};
 
-use super::limits::{Stop, NUMBERS};
-use super::name::{phrase, Names, Phrase};
+use super::limits::{NUMBERS, Stop};
+use super::name::{Names, Phrase, phrase};
 use super::runs::{self, Run};
 use super::tasks::Tasks;
-use super::turn::{lock, Turn, Turns};
+use super::turn::{Turn, Turns, lock};
 
 /// What line 1 of a run says of the primitive, and whether it is within the limits.
 pub struct Head {
@@ -202,6 +202,11 @@ impl Tape {
         }
     }
 
+    /// Frees a number.
+    pub fn free(&self, number: Option<Number>) {
+        lock(&self.page).free(number);
+    }
+
     /// Takes the lowest number that is free. `None` where the recording has stopped, as it does where none is.
     pub fn take(&self, table: Table) -> Option<Number> {
         lock(&self.page).take(table)
@@ -219,6 +224,11 @@ impl Tape {
     /// Returns the number of the task that has this waker, and the waker that upstream gets in its place.
     pub fn task(&self, waker: &Waker) -> (u64, Waker) {
         lock(&self.page).tasks.find(waker)
+    }
+
+    /// Records a call that wakes nobody, and was made in this turn or changes nothing.
+    pub fn note(&self, command: &Phrase, answer: &Phrase) {
+        lock(&self.page).write(command, answer, &[]);
     }
 
     /// Begins a call: nobody else's is made until it is answered.
@@ -295,6 +305,12 @@ impl Step<'_> {
     /// Ends the call: records its answer and who was woken, frees the number, and gives the turn to the next call.
     pub fn end(mut self, answer: Phrase, frees: Option<Number>) {
         self.write(&answer, frees);
+    }
+
+    /// Ends a call whose command is known only now.
+    pub fn end_as(mut self, command: Phrase, answer: Phrase) {
+        self.command = command;
+        self.write(&answer, None);
     }
 
     fn write(&mut self, answer: &Phrase, frees: Option<Number>) {

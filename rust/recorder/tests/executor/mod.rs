@@ -1,11 +1,11 @@
 //! An executor by hand: tasks whose wakers count how often they were woken, polled in turn while one was woken.
 use std::cell::Cell;
 use std::fs;
-use std::future::{poll_fn, Future};
+use std::future::{Future, poll_fn};
 use std::path::Path;
-use std::pin::{pin, Pin};
-use std::sync::atomic::{AtomicUsize, Ordering::Relaxed};
+use std::pin::{Pin, pin};
 use std::sync::Arc;
+use std::sync::atomic::{AtomicUsize, Ordering::Relaxed};
 use std::task::{Context, Poll, Wake, Waker};
 
 use recorder::Run;
