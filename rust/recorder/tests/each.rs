@@ -1,0 +1,1025 @@
+//! One run a primitive that has each call, against the text that the documentation makes of it.
+#![cfg(feature = "record")]
+use std::task::Poll::{Pending, Ready};
+
+use critical_section as _;
+use embassy_sync::blocking_mutex::raw::NoopRawMutex;
+use recorder::channel::{self, Channel, TryReceiveError, TrySendError};
+use recorder::lazy_lock::LazyLock;
+use recorder::mutex::{MappedMutexGuard, Mutex, MutexGuard};
+use recorder::once_lock::OnceLock;
+use recorder::pipe::{self, Pipe, TryReadError, TryWriteError};
+use recorder::priority_channel::{Max, Min, PriorityChannel};
+use recorder::pubsub::{Error, PubSubChannel, WaitResult};
+use recorder::semaphore::{FairSemaphore, GreedySemaphore, Semaphore, WaitQueueFull};
+use recorder::signal::Signal;
+use recorder::watch::{self, Watch};
+use recorder::{Recorded, Run, zerocopy_channel};
+
+mod executor;
+use executor::{Task, keep};
+
+/// Compares a run with a text, and keeps it for the judge.
+#[track_caller]
+fn expect(name: &str, run: &Run, text: &str) {
+    assert_eq!(run.stop, None);
+    for (number, (recorded, expected)) in run.text.lines().zip(text.lines()).enumerate() {
+        assert_eq!(recorded, expected, "line {}", number + 1);
+    }
+    assert_eq!(run.text, text);
+    keep(name, run);
+}
+
+#[test]
+fn a_channel() {
+    let channel: Channel<NoopRawMutex, u8, 2> = Channel::new();
+    let (sender, receiver) = (channel.sender(), channel.receiver());
+    let (one, two) = (Task::new(), Task::new());
+    assert_eq!((channel.capacity(), sender.capacity(), receiver.capacity()), (2, 2, 2));
+    channel.clear();
+    assert!(channel.is_empty());
+
+    let mut receive = channel.receive();
+    assert_eq!(one.poll(&mut receive), Pending);
+    assert_eq!(channel.try_send(7), Ok(()));
+    assert_eq!(one.take_wakes(), 1);
+    assert_eq!(one.poll(&mut receive), Ready(7));
+    let mut ready = channel.ready_to_receive();
+    assert_eq!(two.poll(&mut ready), Pending);
+    assert_eq!(channel.try_send(1), Ok(()));
+    assert_eq!(two.poll(&mut ready), Ready(()));
+    // (a poll for readiness registers whatever it answers)
+    assert_eq!(channel.try_send(2), Ok(()));
+    assert!(channel.is_full());
+    assert_eq!(channel.try_send(3), Err(TrySendError::Full(3)));
+    let mut send = channel.send(4);
+    assert_eq!(one.poll(&mut send), Pending);
+    assert_eq!((channel.free_capacity(), channel.len()), (0, 2));
+    assert_eq!(channel.poll_receive(&mut two.context()), Ready(1));
+    assert_eq!(one.poll(&mut send), Ready(()));
+    assert_eq!(channel.poll_ready_to_send(&mut one.context()), Pending);
+    assert_eq!(channel.poll_ready_to_receive(&mut two.context()), Ready(()));
+    assert_eq!(channel.try_receive(), Ok(2));
+    assert_eq!(channel.try_receive(), Ok(4));
+    assert_eq!(channel.try_receive(), Err(TryReceiveError::Empty));
+    let text = "\
+channel 2
+clear => Ok | -
+len => 0 | -
+start 0 receive => Ok | -
+poll 0 0 => Pending | -
+try-send 7 => Ok | 0
+poll 0 0 => Ready(7) | -
+start 0 receive-ready => Ok | -
+poll 0 1 => Pending | -
+try-send 1 => Ok | 1
+poll 0 1 => Ready | -
+try-send 2 => Ok | 1
+free => 0 | -
+try-send 3 => Err(Full(3)) | -
+start 0 send 4 => Ok | -
+poll 0 0 => Pending | -
+free => 0 | -
+len => 2 | -
+start 1 receive => Ok | -
+poll 1 1 => Ready(1) | 0
+poll 0 0 => Ready | -
+start 0 send-ready => Ok | -
+poll 0 0 => Pending | -
+end 0 => Ok | -
+start 0 receive-ready => Ok | -
+poll 0 1 => Ready | -
+try-receive => Ok(2) | 0
+try-receive => Ok(4) | -
+try-receive => Err(Empty) | -
+";
+    expect("each_channel", &channel.run(), text);
+}
+
+#[test]
+fn the_handles_of_a_channel() {
+    let channel: Channel<NoopRawMutex, u8, 1> = Channel::new();
+    let (sender, receiver) = (channel.sender(), channel.receiver());
+    let (one, two) = (Task::new(), Task::new());
+    sender.clear();
+    receiver.clear();
+    assert_eq!(sender.try_send(1), Ok(()));
+    assert_eq!((sender.len(), receiver.len()), (1, 1));
+    assert_eq!((sender.free_capacity(), receiver.free_capacity()), (0, 0));
+    assert_eq!((sender.is_full(), receiver.is_full()), (true, true));
+    assert_eq!((sender.is_empty(), receiver.is_empty()), (false, false));
+    let mut send = sender.send(2);
+    assert_eq!(one.poll(&mut send), Pending);
+    assert_eq!(sender.poll_ready_to_send(&mut two.context()), Pending);
+    assert_eq!(receiver.poll_ready_to_receive(&mut one.context()), Ready(()));
+    let mut ready = receiver.ready_to_receive();
+    assert_eq!(one.poll(&mut ready), Ready(()));
+    assert_eq!(receiver.poll_receive(&mut one.context()), Ready(1));
+    assert_eq!(one.poll(&mut send), Ready(()));
+    assert_eq!(receiver.try_receive(), Ok(2));
+    let mut receive = receiver.receive();
+    assert_eq!(two.poll(&mut receive), Pending);
+    drop(receive);
+
+    let (sender, receiver) = (channel::DynamicSender::from(sender), channel::DynamicReceiver::from(receiver));
+    assert_eq!(sender.try_send(3), Ok(()));
+    let mut send = sender.send(4);
+    assert_eq!(one.poll(&mut send), Pending);
+    drop(send);
+    assert_eq!(sender.poll_ready_to_send(&mut one.context()), Pending);
+    assert_eq!(receiver.poll_ready_to_receive(&mut one.context()), Ready(()));
+    assert_eq!(receiver.poll_receive(&mut one.context()), Ready(3));
+    assert_eq!(receiver.try_receive(), Err(TryReceiveError::Empty));
+    let mut receive = receiver.receive();
+    assert_eq!(two.poll(&mut receive), Pending);
+    assert_eq!(channel.dyn_sender().try_send(5), Ok(()));
+    assert_eq!(two.poll(&mut receive), Ready(5));
+    assert_eq!(channel.dyn_receiver().try_receive(), Err(TryReceiveError::Empty));
+    let text = "\
+channel 1
+clear => Ok | -
+clear => Ok | -
+try-send 1 => Ok | -
+len => 1 | -
+len => 1 | -
+free => 0 | -
+free => 0 | -
+free => 0 | -
+free => 0 | -
+len => 1 | -
+len => 1 | -
+start 0 send 2 => Ok | -
+poll 0 0 => Pending | -
+start 1 send-ready => Ok | -
+poll 1 1 => Pending | 0
+end 1 => Ok | -
+start 1 receive-ready => Ok | -
+poll 1 0 => Ready | -
+start 1 receive-ready => Ok | -
+poll 1 0 => Ready | -
+start 1 receive => Ok | -
+poll 1 0 => Ready(1) | 1
+poll 0 0 => Ready | 0
+try-receive => Ok(2) | -
+start 0 receive => Ok | -
+poll 0 1 => Pending | -
+end 0 => Ok | -
+try-send 3 => Ok | 1
+start 0 send 4 => Ok | -
+poll 0 0 => Pending | -
+end 0 => Ok | -
+start 0 send-ready => Ok | -
+poll 0 0 => Pending | -
+end 0 => Ok | -
+start 0 receive-ready => Ok | -
+poll 0 0 => Ready | -
+start 0 receive => Ok | -
+poll 0 0 => Ready(3) | 0
+try-receive => Err(Empty) | -
+start 0 receive => Ok | -
+poll 0 1 => Pending | 0
+try-send 5 => Ok | 1
+poll 0 1 => Ready(5) | -
+try-receive => Err(Empty) | -
+";
+    expect("each_channel_handle", &channel.run(), text);
+}
+
+#[test]
+fn a_priority_channel() {
+    let channel: PriorityChannel<NoopRawMutex, u8, Max, 2> = PriorityChannel::new();
+    let (one, two) = (Task::new(), Task::new());
+    channel.clear();
+    assert!(channel.is_empty());
+    let mut receive = channel.receive();
+    assert_eq!(one.poll(&mut receive), Pending);
+    assert_eq!(channel.try_send(3), Ok(()));
+    assert_eq!(one.poll(&mut receive), Ready(3));
+    assert_eq!(channel.try_send(4), Ok(()));
+    assert_eq!(channel.try_send(9), Ok(()));
+    assert!(channel.is_full());
+    assert_eq!(channel.try_send(5), Err(TrySendError::Full(5)));
+    let mut send = channel.send(6);
+    assert_eq!(one.poll(&mut send), Pending);
+    assert_eq!((channel.free_capacity(), channel.len()), (0, 2));
+    assert_eq!(channel.poll_receive(&mut two.context()), Ready(9));
+    assert_eq!(one.poll(&mut send), Ready(()));
+    assert_eq!(channel.poll_ready_to_send(&mut one.context()), Pending);
+    assert_eq!(channel.poll_ready_to_receive(&mut two.context()), Ready(()));
+    assert_eq!(channel.try_receive(), Ok(6));
+    assert_eq!(channel.try_receive(), Ok(4));
+    assert_eq!(channel.try_receive(), Err(TryReceiveError::Empty));
+    let text = "\
+max 2
+clear => Ok | -
+len => 0 | -
+start 0 receive => Ok | -
+poll 0 0 => Pending | -
+try-send 3 => Ok | 0
+poll 0 0 => Ready(3) | -
+try-send 4 => Ok | -
+try-send 9 => Ok | -
+free => 0 | -
+try-send 5 => Err(Full(5)) | -
+start 0 send 6 => Ok | -
+poll 0 0 => Pending | -
+free => 0 | -
+len => 2 | -
+start 1 receive => Ok | -
+poll 1 1 => Ready(9) | 0
+poll 0 0 => Ready | -
+start 0 send-ready => Ok | -
+poll 0 0 => Pending | -
+end 0 => Ok | -
+start 0 receive-ready => Ok | -
+poll 0 1 => Ready | -
+try-receive => Ok(6) | 0
+try-receive => Ok(4) | -
+try-receive => Err(Empty) | -
+";
+    expect("each_priority", &channel.run(), text);
+}
+
+#[test]
+fn the_handles_of_a_priority_channel() {
+    let channel: PriorityChannel<NoopRawMutex, i8, Min, 2> = PriorityChannel::new();
+    let (sender, receiver) = (channel.sender(), channel.receiver());
+    let one = Task::new();
+    sender.clear();
+    receiver.clear();
+    assert_eq!(sender.try_send(1), Ok(()));
+    assert_eq!(one.poll(&mut sender.send(-1)), Ready(()));
+    assert_eq!((sender.len(), receiver.len()), (2, 2));
+    assert_eq!((sender.free_capacity(), receiver.free_capacity()), (0, 0));
+    assert_eq!((sender.is_full(), receiver.is_full()), (true, true));
+    assert_eq!((sender.is_empty(), receiver.is_empty()), (false, false));
+    assert_eq!(sender.poll_ready_to_send(&mut one.context()), Pending);
+    assert_eq!(receiver.poll_ready_to_receive(&mut one.context()), Ready(()));
+    assert_eq!(receiver.poll_receive(&mut one.context()), Ready(-1));
+    assert_eq!(receiver.try_receive(), Ok(1));
+    let mut receive = receiver.receive();
+    assert_eq!(one.poll(&mut receive), Pending);
+    assert_eq!(channel::DynamicSender::from(sender).try_send(2), Ok(()));
+    assert_eq!(channel::DynamicReceiver::from(receiver).try_receive(), Ok(2));
+    drop(receive);
+    // (a number with a sign goes by its number plus 2^31)
+    let text = "\
+min 2
+clear => Ok | -
+clear => Ok | -
+try-send 2147483649 => Ok | -
+start 0 send 2147483647 => Ok | -
+poll 0 0 => Ready | -
+len => 2 | -
+len => 2 | -
+free => 0 | -
+free => 0 | -
+free => 0 | -
+free => 0 | -
+len => 2 | -
+len => 2 | -
+start 0 send-ready => Ok | -
+poll 0 0 => Pending | -
+end 0 => Ok | -
+start 0 receive-ready => Ok | -
+poll 0 0 => Ready | -
+start 0 receive => Ok | -
+poll 0 0 => Ready(2147483647) | 0
+try-receive => Ok(2147483649) | -
+start 0 receive => Ok | -
+poll 0 0 => Pending | -
+try-send 2147483650 => Ok | 0
+try-receive => Ok(2147483650) | -
+end 0 => Ok | -
+";
+    expect("each_priority_handle", &channel.run(), text);
+}
+
+#[test]
+fn a_pipe() {
+    let pipe: Pipe<NoopRawMutex, 4> = Pipe::new();
+    let one = Task::new();
+    let mut buf = [0; 64];
+    assert_eq!(pipe.capacity(), 4);
+    pipe.clear();
+    assert!(pipe.is_empty());
+    let mut read = pipe.read(&mut buf);
+    assert_eq!(one.poll(&mut read), Pending);
+    assert_eq!(pipe.try_write(&[1, 2]), Ok(2));
+    assert_eq!(one.poll(&mut read), Ready(2));
+    drop(read);
+    assert_eq!(buf[..2], [1, 2]);
+    assert_eq!(pipe.try_write(&[3, 4]), Ok(2));
+    assert_eq!(pipe.try_read(&mut buf[..2]), Ok(2));
+    assert_eq!(one.poll(&mut pipe.write(&[5, 6, 7, 8])), Ready(4));
+    assert!(pipe.is_full());
+    assert_eq!((pipe.free_capacity(), pipe.len()), (0, 4));
+    assert_eq!(pipe.try_write(&[9]), Err(TryWriteError::Full));
+    let mut write = Box::pin(pipe.write_all(&[9, 10]));
+    assert_eq!(one.poll(&mut write), Pending);
+    assert_eq!(pipe.try_read(&mut buf), Ok(4));
+    assert_eq!(one.poll(&mut write), Ready(()));
+    assert_eq!(pipe.try_read(&mut []), Ok(0));
+    assert_eq!(pipe.try_read(&mut buf), Ok(2));
+    assert_eq!(pipe.try_read(&mut buf), Err(TryReadError::Empty));
+    let text = "\
+pipe 4
+clear => Ok | -
+len => 0 | -
+start 0 read 16 => Ok | -
+poll 0 0 => Pending | -
+try-write 1,2 => Ok(2) | 0
+poll 0 0 => Ready(1,2) | -
+try-write 3,4 => Ok(2) | -
+try-read 2 => Ok(3,4) | -
+start 0 write 5,6,7,8 => Ok | -
+poll 0 0 => Ready(4) | -
+free => 0 | -
+free => 0 | -
+len => 4 | -
+try-write 9 => Err(Full) | -
+start 0 write-all 9,10 => Ok | -
+poll 0 0 => Pending | -
+try-read 16 => Ok(5,6,7,8) | 0
+poll 0 0 => Ready | -
+try-read 0 => Ok(-) | -
+try-read 16 => Ok(9,10) | -
+try-read 16 => Err(Empty) | -
+";
+    expect("each_pipe", &pipe.run(), text);
+}
+
+#[test]
+fn the_ends_of_a_pipe() {
+    let mut pipe: Pipe<NoopRawMutex, 4> = Pipe::new();
+    let (one, two) = (Task::new(), Task::new());
+    let mut buf = [0; 4];
+    {
+        let (mut reader, writer) = pipe.split();
+        assert_eq!(reader.try_read(&mut buf), Err(TryReadError::Empty));
+        assert_eq!(reader.try_fill_buf(), Err(TryReadError::Empty));
+        let mut fill = reader.fill_buf();
+        assert_eq!(two.poll(&mut fill), Pending);
+        assert_eq!(writer.try_write(&[1, 2, 3]), Ok(3));
+        assert_eq!(two.poll(&mut fill), Ready(&[1, 2, 3][..]));
+        drop(fill);
+        reader.consume(2);
+        assert_eq!(one.poll(&mut writer.write(&[4])), Ready(1));
+        assert_eq!(reader.try_fill_buf(), Ok(&[3, 4][..]));
+        assert_eq!(one.poll(&mut reader.read(&mut buf)), Ready(2));
+
+        let (mut reader, writer) = (pipe::DynamicReader::from(reader), pipe::DynamicWriter::from(writer));
+        let mut fill = reader.fill_buf();
+        assert_eq!(one.poll(&mut fill), Pending);
+        assert_eq!(one.poll(&mut writer.write(&[5, 6])), Ready(2));
+        assert_eq!(one.poll(&mut fill), Ready(&[5, 6][..]));
+        drop(fill);
+        reader.consume(1);
+        assert_eq!(writer.try_write(&[7]), Ok(1));
+        assert_eq!(reader.try_read(&mut buf[..1]), Ok(1));
+        assert_eq!(reader.try_fill_buf(), Ok(&[7][..]));
+        assert_eq!(one.poll(&mut reader.read(&mut buf)), Ready(1));
+    }
+    let text = "\
+pipe 4
+try-read 4 => Err(Empty) | -
+try-fill => Err(Empty) | -
+start 0 fill => Ok | -
+poll 0 0 => Pending | -
+try-write 1,2,3 => Ok(3) | 0
+poll 0 0 => Ready(1,2,3) | -
+consume 2 => Ok | -
+start 0 write 4 => Ok | -
+poll 0 1 => Ready(1) | -
+try-fill => Ok(3,4) | -
+start 0 read 4 => Ok | -
+poll 0 1 => Ready(3,4) | -
+start 0 fill => Ok | -
+poll 0 1 => Pending | -
+start 1 write 5,6 => Ok | -
+poll 1 1 => Ready(2) | 1
+poll 0 1 => Ready(5,6) | -
+consume 1 => Ok | -
+try-write 7 => Ok(1) | -
+try-read 1 => Ok(6) | -
+try-fill => Ok(7) | -
+start 0 read 4 => Ok | -
+poll 0 1 => Ready(7) | -
+";
+    expect("each_pipe_end", &pipe.run(), text);
+}
+
+#[test]
+fn a_signal() {
+    let signal: Signal<NoopRawMutex, u8> = Signal::default();
+    let (one, two) = (Task::new(), Task::new());
+    assert!(!signal.signaled());
+    signal.reset();
+    let mut first = Box::pin(signal.wait());
+    assert_eq!(one.poll(&mut first), Pending);
+    let mut second = Box::pin(signal.wait());
+    assert_eq!(two.poll(&mut second), Pending);
+    signal.signal(5);
+    assert!(signal.signaled());
+    assert_eq!(one.poll(&mut first), Ready(5));
+    drop(second);
+    signal.signal(6);
+    signal.signal(7);
+    assert_eq!(signal.try_take(), Some(7));
+    assert_eq!(signal.try_take(), None);
+    let text = "\
+signal 1
+signaled => false | -
+reset => Ok | -
+start 0 wait => Ok | -
+poll 0 0 => Pending | -
+start 1 wait => Ok | -
+poll 1 1 => Pending | 0
+signal 5 => Ok | 1
+signaled => true | -
+poll 0 0 => Ready(5) | -
+end 1 => Ok | -
+signal 6 => Ok | -
+signal 7 => Ok | -
+try-take => Some(7) | -
+try-take => None | -
+";
+    expect("each_signal", &signal.run(), text);
+}
+
+#[test]
+fn a_mutex() {
+    let mut mutex: Mutex<NoopRawMutex, [u8; 2]> = Mutex::from([1, 2]);
+    let (one, two) = (Task::new(), Task::new());
+    *mutex.get_mut() = [3, 4];
+    let Ready(mut guard) = one.poll(&mut Box::pin(mutex.lock())) else { panic!("the mutex is free") };
+    assert!(mutex.try_lock().is_err());
+    guard[0] = 5;
+    let mut lock = Box::pin(mutex.lock());
+    assert!(two.poll(&mut lock).is_pending());
+    let part = MutexGuard::map(guard, |pair| &mut pair[0]);
+    let mut part = MappedMutexGuard::map(part, |byte| byte);
+    *part += 1;
+    assert_eq!(format!("{part} {part:?} {mutex:?}"), "6 6 Mutex { inner: <locked>, .. }");
+    drop(part);
+    let Ready(guard) = two.poll(&mut lock) else { panic!("the mutex is free") };
+    assert_eq!(*guard, [6, 4]);
+    drop(guard);
+    let guard = mutex.try_lock().unwrap();
+    assert_eq!(format!("{guard:?}"), "[6, 4]");
+    drop(guard);
+    assert_eq!(format!("{mutex:?}"), "Mutex { inner: [6, 4], .. }");
+    drop(lock);
+    let run = mutex.run();
+    assert_eq!(mutex.into_inner(), [6, 4]);
+    let text = "\
+mutex 1 0 0
+start 0 lock => Ok | -
+poll 0 0 => Ready | -
+try-lock 1 => Err(TryLockError) | -
+start 1 lock => Ok | -
+poll 1 1 => Pending | -
+map 0 => Ok | -
+try-lock 2 => Err(TryLockError) | -
+end 0 => Ok | 1
+poll 1 1 => Ready | -
+end 1 => Ok | -
+try-lock 0 => Ok | -
+end 0 => Ok | -
+try-lock 0 => Ok | -
+end 0 => Ok | -
+";
+    expect("each_mutex", &run, text);
+}
+
+#[test]
+fn a_greedy_semaphore() {
+    let semaphore: GreedySemaphore<NoopRawMutex> = GreedySemaphore::new(2);
+    let (one, two) = (Task::new(), Task::new());
+    let mut acquire = Box::pin(semaphore.acquire(3));
+    assert!(one.poll(&mut acquire).is_pending());
+    semaphore.release(1);
+    let Ready(Ok(three)) = one.poll(&mut acquire) else { panic!("there are three permits") };
+    assert_eq!(three.permits(), 3);
+    assert!(semaphore.try_acquire(1).is_none());
+    assert!(semaphore.try_acquire_all(1).is_none());
+    drop(three);
+    let first = semaphore.try_acquire(1).unwrap();
+    let others = semaphore.try_acquire_all(0).unwrap();
+    assert_eq!(first.disarm(), 1);
+    drop(others);
+    let mut acquire = Box::pin(semaphore.acquire_all(3));
+    assert!(two.poll(&mut acquire).is_pending());
+    semaphore.set(5);
+    let Ready(Ok(all)) = two.poll(&mut acquire) else { panic!("there are five permits") };
+    assert_eq!(all.disarm(), 5);
+    let text = "\
+greedy 1 2
+start 0 acquire 3 => Ok | -
+poll 0 0 => Pending | -
+release 1 => Ok | 0
+poll 0 0 => Ready(3) | -
+try 1 1 => None | -
+try-all 1 1 => None | -
+end 0 => Ok | -
+try 0 1 => Some(1) | -
+try-all 1 0 => Some(2) | -
+disarm 0 => 1 | -
+end 1 => Ok | -
+start 0 acquire-all 3 => Ok | -
+poll 0 1 => Pending | -
+set 5 => Ok | 1
+poll 0 1 => Ready(5) | -
+disarm 0 => 5 | -
+";
+    expect("each_greedy", &semaphore.run(), text);
+}
+
+#[test]
+fn a_fair_semaphore() {
+    let semaphore: FairSemaphore<NoopRawMutex, 2> = FairSemaphore::default();
+    let (one, two, three) = (Task::new(), Task::new(), Task::new());
+    let mut first = Box::pin(semaphore.acquire(2));
+    assert!(one.poll(&mut first).is_pending());
+    let mut second = Box::pin(semaphore.acquire_all(1));
+    assert!(two.poll(&mut second).is_pending());
+    let mut third = Box::pin(semaphore.acquire(1));
+    let Ready(Err(WaitQueueFull)) = three.poll(&mut third) else { panic!("two wait") };
+    semaphore.release(3);
+    let Ready(Ok(pair)) = one.poll(&mut first) else { panic!("there are three permits") };
+    let Ready(Ok(rest)) = two.poll(&mut second) else { panic!("there is one permit") };
+    assert!(semaphore.try_acquire(1).is_none());
+    drop(pair);
+    assert!(semaphore.try_acquire_all(3).is_none());
+    let one_of_two = semaphore.try_acquire(1).unwrap();
+    let other = semaphore.try_acquire_all(1).unwrap();
+    assert_eq!((rest.permits(), other.disarm()), (1, 1));
+    let mut fourth = Box::pin(semaphore.acquire(2));
+    assert!(three.poll(&mut fourth).is_pending());
+    semaphore.set(1);
+    drop((one_of_two, rest));
+    let Ready(Ok(granted)) = three.poll(&mut fourth) else { panic!("there are three permits") };
+    assert_eq!(granted.disarm(), 2);
+    let text = "\
+fair 2 0
+start 0 acquire 2 => Ok | -
+poll 0 0 => Pending | -
+start 1 acquire-all 1 => Ok | -
+poll 1 1 => Pending | -
+start 2 acquire 1 => Ok | -
+poll 2 2 => Ready(Err(WaitQueueFull)) | -
+release 3 => Ok | 0
+poll 0 0 => Ready(2) | 1
+poll 1 1 => Ready(1) | -
+try 2 1 => None | -
+end 0 => Ok | -
+try-all 0 3 => None | -
+try 0 1 => Some(1) | -
+try-all 2 1 => Some(1) | -
+disarm 2 => 1 | -
+start 2 acquire 2 => Ok | -
+poll 2 2 => Pending | -
+set 1 => Ok | 2
+end 0 => Ok | 2
+end 1 => Ok | 2
+poll 2 2 => Ready(2) | -
+disarm 2 => 2 | -
+";
+    expect("each_fair", &semaphore.run(), text);
+}
+
+#[test]
+fn a_once_lock() {
+    let mut lock: OnceLock<u8> = OnceLock::new();
+    let one = Task::new();
+    assert!(!lock.is_set());
+    assert_eq!(lock.try_get(), None);
+    {
+        let mut get = Box::pin(lock.get());
+        assert_eq!(one.poll(&mut get), Pending);
+        assert_eq!(one.take_wakes(), 1);
+        assert_eq!(lock.init(4), Ok(()));
+        assert_eq!(lock.init(5), Err(5));
+        assert_eq!(one.poll(&mut get), Ready(&4));
+    }
+    assert!(lock.is_set());
+    assert_eq!(lock.get_or_init(|| 6), &4);
+    assert_eq!(lock.take(), Some(4));
+    assert_eq!(lock.get_or_init(|| 6), &6);
+    assert_eq!(lock.try_get(), Some(&6));
+    let text = "\
+once 1
+is-set => false | -
+try-get => None | -
+start 0 get => Ok | -
+poll 0 0 => Pending | 0
+init 4 => Ok | -
+init 5 => Err(Set(5)) | -
+poll 0 0 => Ready(4) | -
+is-set => true | -
+get-or-init 4 => 4 | -
+take => Some(4) | -
+get-or-init 6 => 6 | -
+try-get => Some(6) | -
+";
+    expect("each_once", &lock.run(), text);
+    assert_eq!(lock.into_inner(), Some(6));
+}
+
+#[test]
+fn a_lazy_lock() {
+    let lock = LazyLock::new(|| 7_u8);
+    assert_eq!(lock.run().text, "lazy 1 0\n");
+    assert_eq!((lock.get(), lock.get()), (&7, &7));
+    expect("each_lazy", &lock.run(), "lazy 1 7\nget => 7 | -\nget => 7 | -\n");
+    assert_eq!(lock.into_inner(), 7);
+}
+
+#[test]
+fn what_ends_a_lock_is_recorded() {
+    let once: OnceLock<u8> = OnceLock::new();
+    assert_eq!(once.init(1), Ok(()));
+    assert_eq!(once.into_inner(), Some(1));
+    assert_eq!(LazyLock::<u8>::new(|| 2).into_inner(), 2);
+    let runs = recorder::take();
+    let text = |kind: &str| runs.iter().rev().find(|run| run.name.starts_with(kind)).map(|run| run.text.as_str());
+    assert_eq!(text("once-each"), Some("once 1\ninit 1 => Ok | -\ntake => Some(1) | -\n"));
+    assert_eq!(text("lazy-each"), Some("lazy 1 2\ninto => 2 | -\n"));
+}
+
+#[test]
+fn a_watch() {
+    let watch: Watch<NoopRawMutex, u8, 2> = Watch::new();
+    let sender = watch.sender();
+    let (one, two) = (Task::new(), Task::new());
+    assert!(!sender.contains_value());
+    assert_eq!((watch.try_get(), sender.try_get()), (None, None));
+    let mut first = watch.receiver().unwrap();
+    let mut second = watch.receiver().unwrap();
+    assert!(watch.receiver().is_none());
+    let mut get = Box::pin(first.get());
+    assert_eq!(one.poll(&mut get), Pending);
+    sender.send(3);
+    assert_eq!(one.poll(&mut get), Ready(3));
+    drop(get);
+    assert_eq!((first.try_changed(), second.try_changed()), (None, Some(3)));
+    let mut changed = Box::pin(first.changed());
+    assert_eq!(one.poll(&mut changed), Pending);
+    sender.send_modify(|value| *value = value.map(|value| value + 4));
+    assert_eq!(one.poll(&mut changed), Ready(7));
+    drop(changed);
+    assert_eq!(first.try_get_and(|value| *value > 5), Some(7));
+    assert_eq!(first.try_get_and(|value| *value > 9), None);
+    assert_eq!(second.try_changed_and(|value| *value > 9), None);
+    assert_eq!(second.try_changed_and(|value| *value > 5), Some(7));
+    sender.send_if_modified(|_| false);
+    sender.send_if_modified(|value| value.replace(8).is_some());
+    assert_eq!((watch.get_msg_id(), first.contains_value()), (3, true));
+    assert_eq!(one.poll(&mut Box::pin(first.get_and(|value| *value > 5))), Ready(8));
+    let mut changed = Box::pin(second.changed_and(|value| *value > 8));
+    assert_eq!(two.poll(&mut changed), Pending);
+    sender.clone().send(9);
+    assert_eq!(two.poll(&mut changed), Ready(9));
+    drop(changed);
+    assert_eq!((watch.try_get_and(|value| *value > 5), sender.try_get_and(|value| *value > 9)), (Some(9), None));
+    drop(first);
+    sender.clear();
+    assert_eq!(second.try_get(), None);
+    let text = "\
+watch 2
+contains => false | -
+try-get => None | -
+try-get => None | -
+receiver 0 => Ok | -
+receiver 1 => Ok | -
+receiver 2 => None | -
+start 0 get 0 => Ok | -
+poll 0 0 => Pending | -
+send 3 => Ok | 0
+poll 0 0 => Ready(3) | -
+changed 0 => None | -
+changed 1 => Some(3) | -
+start 0 changed 0 => Ok | -
+poll 0 0 => Pending | -
+modify 4 => Ok | 0
+poll 0 0 => Ready(7) | -
+get-below 0 8 => Some(7) | -
+get-below 0 0 => None | -
+changed-below 1 0 => None | -
+changed-below 1 8 => Some(7) | -
+modify-if 0 => Ok | -
+modify 1 => Ok | -
+id => 3 | -
+contains => true | -
+start 0 get-below 0 9 => Ok | -
+poll 0 0 => Ready(8) | -
+start 0 changed-below 1 0 => Ok | -
+poll 0 1 => Pending | -
+end 0 => Ok | -
+send 9 => Ok | 1
+start 0 changed-below 1 10 => Ok | -
+poll 0 1 => Ready(9) | -
+try-get => Some(9) | -
+leave 0 => Ok | -
+clear => Ok | -
+get 1 => None | -
+";
+    expect("each_watch", &watch.run(), text);
+}
+
+#[test]
+fn the_handles_of_a_watch() {
+    let watch: Watch<NoopRawMutex, u8, 1> = Watch::new_with(1);
+    let one = Task::new();
+    let sender: watch::DynSender<u8> = watch.sender().into();
+    let mut anonymous = watch.anon_receiver();
+    assert_eq!((anonymous.try_get(), anonymous.try_changed()), (Some(1), None));
+    sender.send(2);
+    assert_eq!(anonymous.try_changed_and(|value| *value == 2), Some(2));
+    assert_eq!((anonymous.try_get_and(|value| *value == 1), anonymous.contains_value()), (None, true));
+    let mut anonymous: watch::DynAnonReceiver<u8> = anonymous.into();
+    watch.dyn_sender().clone().send_modify(|value| *value = Some(3));
+    assert_eq!(anonymous.try_changed(), Some(3));
+    drop(anonymous);
+    assert!(watch.dyn_anon_receiver().contains_value());
+
+    let mut receiver: watch::DynReceiver<u8> = watch.receiver().unwrap().into();
+    assert!(watch.dyn_receiver().is_none());
+    assert_eq!(one.poll(&mut Box::pin(receiver.changed())), Ready(3));
+    let mut changed = Box::pin(receiver.changed());
+    assert_eq!(one.poll(&mut changed), Pending);
+    drop(changed);
+    sender.clear();
+    assert_eq!((receiver.try_get(), receiver.try_get_and(|_| true)), (None, None));
+    assert_eq!(one.poll(&mut Box::pin(receiver.get_and(|_| true))), Pending);
+    sender.send_if_modified(|value| value.replace(4).is_none());
+    assert_eq!(one.poll(&mut Box::pin(receiver.get())), Ready(4));
+    assert_eq!(one.poll(&mut Box::pin(receiver.changed_and(|_| true))), Pending);
+    drop(receiver);
+    assert_eq!(watch.dyn_receiver().unwrap().try_changed_and(|value| *value == 4), Some(4));
+    let text = "\
+watch 1 1
+anon 0 => Ok | -
+get 0 => Some(1) | -
+changed 0 => None | -
+send 2 => Ok | -
+changed-below 0 3 => Some(2) | -
+get-below 0 0 => None | -
+contains => true | -
+modify 1 => Ok | -
+changed 0 => Some(3) | -
+leave 0 => Ok | -
+anon 0 => Ok | -
+contains => true | -
+leave 0 => Ok | -
+receiver 0 => Ok | -
+receiver 1 => None | -
+start 0 changed 0 => Ok | -
+poll 0 0 => Ready(3) | -
+start 0 changed 0 => Ok | -
+poll 0 0 => Pending | -
+end 0 => Ok | -
+clear => Ok | -
+get 0 => None | -
+get-below 0 0 => None | -
+start 0 get-below 0 0 => Ok | -
+poll 0 0 => Pending | -
+end 0 => Ok | -
+send 4 => Ok | 0
+start 0 get 0 => Ok | -
+poll 0 0 => Ready(4) | -
+start 0 changed-below 0 0 => Ok | -
+poll 0 0 => Pending | -
+end 0 => Ok | -
+leave 0 => Ok | -
+receiver 0 => Ok | -
+changed-below 0 5 => Some(4) | -
+leave 0 => Ok | -
+";
+    expect("each_watch_handle", &watch.run(), text);
+}
+
+#[test]
+fn a_pubsub_channel() {
+    let channel: PubSubChannel<NoopRawMutex, u8, 2, 4, 4> = PubSubChannel::new();
+    let (one, two) = (Task::new(), Task::new());
+    assert_eq!(channel.capacity(), 2);
+    channel.clear();
+    assert!(channel.is_empty());
+    let mut fast = channel.subscriber().unwrap();
+    let mut slow = channel.dyn_subscriber().unwrap();
+    let others = [channel.subscriber().unwrap(), channel.subscriber().unwrap()];
+    assert_eq!(channel.subscriber().err(), Some(Error::MaximumSubscribersReached));
+    drop(others);
+    let publisher = channel.publisher().unwrap();
+
+    let mut next = fast.next_message();
+    assert_eq!(one.poll(&mut next), Pending);
+    assert_eq!(publisher.try_publish(5), Ok(()));
+    assert_eq!(one.poll(&mut next), Ready(WaitResult::Message(5)));
+    drop(next);
+    assert_eq!(one.poll(&mut Box::pin(publisher.publish(6))), Ready(()));
+    assert!(channel.is_full());
+    assert_eq!(publisher.try_publish(7), Err(7));
+    let mut publish = Box::pin(publisher.publish(7));
+    assert_eq!(two.poll(&mut publish), Pending);
+    assert_eq!((slow.available(), channel.len(), channel.free_capacity()), (2, 2, 0));
+    assert_eq!(slow.try_next_message(), Some(WaitResult::Message(5)));
+    assert_eq!(two.poll(&mut publish), Ready(()));
+    publisher.publish_immediate(8);
+    assert_eq!(slow.try_next_message(), Some(WaitResult::Lagged(1)));
+    assert_eq!(slow.try_next_message_pure(), Some(7));
+    assert_eq!(one.poll(&mut Box::pin(slow.next_message_pure())), Ready(8));
+    let mut next = slow.next_message();
+    assert_eq!(two.poll(&mut next), Pending);
+    drop(next);
+    assert_eq!(one.poll(&mut fast.next_message()), Ready(WaitResult::Lagged(1)));
+    assert_eq!(fast.try_next_message_pure(), Some(7));
+    assert_eq!(fast.try_next_message_pure(), Some(8));
+    assert_eq!((fast.try_next_message_pure(), fast.try_next_message()), (None, None));
+    channel.immediate_publisher().publish_immediate(9);
+    let text = "\
+pubsub 2
+clear => Ok | -
+len => 0 | -
+join 0 => Ok | -
+join 1 => Ok | -
+join 2 => Ok | -
+join 3 => Ok | -
+join 4 => Err(MaximumSubscribersReached) | -
+leave 2 => Ok | -
+leave 3 => Ok | -
+publisher 0 => Ok | -
+start 0 message 0 => Ok | -
+poll 0 0 => Pending | -
+try-publish 0 5 => Ok | 0
+poll 0 0 => Ready(Message(5)) | -
+start 0 publish 0 6 => Ok | -
+poll 0 0 => Ready | -
+free => 0 | -
+try-publish 0 7 => Err(Full(7)) | -
+start 0 publish 0 7 => Ok | -
+poll 0 1 => Pending | -
+available 1 => 2 | -
+len => 2 | -
+free => 0 | -
+next 1 => Message(5) | 1
+poll 0 1 => Ready | -
+immediate 8 => Ok | -
+next 1 => Lagged(1) | -
+next-pure 1 => Some(7) | -
+start 0 message-pure 1 => Ok | -
+poll 0 0 => Ready(8) | -
+start 0 message 1 => Ok | -
+poll 0 1 => Pending | -
+end 0 => Ok | -
+start 0 message 0 => Ok | -
+poll 0 0 => Ready(Lagged(1)) | -
+next-pure 0 => Some(7) | -
+next-pure 0 => Some(8) | -
+next-pure 0 => None | -
+next 0 => None | -
+immediate 9 => Ok | 1
+";
+    expect("each_pubsub", &channel.run(), text);
+}
+
+#[test]
+fn the_handles_of_a_pubsub_channel() {
+    let channel: PubSubChannel<NoopRawMutex, u8, 1, 4, 4> = PubSubChannel::new();
+    let one = Task::new();
+    let subscriber = channel.subscriber().unwrap();
+    let publisher = channel.dyn_publisher().unwrap();
+    let others = [channel.publisher().unwrap(), channel.publisher().unwrap(), channel.publisher().unwrap()];
+    assert_eq!(channel.publisher().err(), Some(Error::MaximumPublishersReached));
+    drop(others);
+    let immediate = channel.dyn_immediate_publisher();
+    immediate.publish_immediate(1);
+    publisher.publish_immediate(2);
+    assert_eq!((subscriber.capacity(), publisher.capacity(), immediate.capacity()), (1, 1, 1));
+    assert_eq!((subscriber.len(), publisher.len(), immediate.len()), (1, 1, 1));
+    assert_eq!((subscriber.free_capacity(), publisher.free_capacity(), immediate.free_capacity()), (0, 0, 0));
+    assert!(subscriber.is_full() && publisher.is_full() && immediate.is_full());
+    assert!(!subscriber.is_empty() && !publisher.is_empty() && !immediate.is_empty());
+    subscriber.clear();
+    publisher.clear();
+    immediate.clear();
+    assert_eq!(one.poll(&mut Box::pin(publisher.publish(3))), Ready(()));
+    assert_eq!(publisher.try_publish(4), Err(4));
+    drop((publisher, subscriber));
+    channel.immediate_publisher().publish_immediate(5);
+    let text = "\
+pubsub 1
+join 0 => Ok | -
+publisher 0 => Ok | -
+publisher 1 => Ok | -
+publisher 2 => Ok | -
+publisher 3 => Ok | -
+publisher 4 => Err(MaximumPublishersReached) | -
+retire 1 => Ok | -
+retire 2 => Ok | -
+retire 3 => Ok | -
+immediate 1 => Ok | -
+immediate 2 => Ok | -
+len => 1 | -
+len => 1 | -
+len => 1 | -
+free => 0 | -
+free => 0 | -
+free => 0 | -
+free => 0 | -
+free => 0 | -
+free => 0 | -
+len => 1 | -
+len => 1 | -
+len => 1 | -
+clear => Ok | -
+clear => Ok | -
+clear => Ok | -
+start 0 publish 0 3 => Ok | -
+poll 0 0 => Ready | -
+try-publish 0 4 => Err(Full(4)) | -
+retire 0 => Ok | -
+leave 0 => Ok | -
+immediate 5 => Ok | -
+";
+    expect("each_pubsub_handle", &channel.run(), text);
+}
+
+#[test]
+fn a_zero_copy_channel() {
+    let mut slots = [10_u32, 11];
+    let mut channel = zerocopy_channel::Channel::<NoopRawMutex, _>::new(&mut slots);
+    let (one, two) = (Task::new(), Task::new());
+    channel.clear();
+    assert!(channel.is_empty());
+    {
+        let (mut sender, mut receiver) = channel.split();
+        assert!(receiver.try_receive().is_none());
+        let mut receive = Box::pin(receiver.receive());
+        assert!(one.poll(&mut receive).is_pending());
+        *sender.try_send().unwrap() = 5;
+        sender.send_done();
+        let Ready(slot) = one.poll(&mut receive) else { panic!("a slot is sent") };
+        assert_eq!(*slot, 5);
+        drop(receive);
+        receiver.receive_done();
+        let Ready(slot) = two.poll(&mut Box::pin(sender.send())) else { panic!("both slots are free") };
+        *slot = 6;
+        sender.send_done();
+        // (one that is done without a loan sends what the slot has)
+        sender.send_done();
+        assert!((sender.is_full(), sender.len(), sender.is_empty()) == (true, 2, false));
+        assert!((receiver.is_full(), receiver.len(), receiver.is_empty()) == (true, 2, false));
+        assert!(sender.poll_send(&mut two.context()).is_pending());
+        assert!(receiver.poll_receive(&mut one.context()).is_ready());
+        assert_eq!(receiver.borrow().try_receive(), Some(&mut 6));
+        receiver.receive_done();
+        assert!(sender.borrow().poll_send(&mut two.context()).is_ready());
+        sender.clear();
+        receiver.clear();
+    }
+    assert_eq!((channel.len(), channel.is_full()), (0, false));
+    let text = "\
+zerocopy 2
+clear-send => Ok | -
+len => 0 | -
+try-receive => None | -
+start 0 receive => Ok | -
+poll 0 0 => Pending | -
+try-send => Some(0) | -
+write 5 => Ok | -
+done-send => Ok | 0
+poll 0 0 => Ready(0,5) | -
+done-receive => Ok | -
+start 0 send => Ok | -
+poll 0 1 => Ready(1) | -
+write 6 => Ok | -
+done-send => Ok | -
+try-send => Some(0) | -
+write 5 => Ok | -
+done-send => Ok | -
+free => 0 | -
+len => 2 | -
+len => 2 | -
+free => 0 | -
+len => 2 | -
+len => 2 | -
+start 0 send => Ok | -
+poll 0 1 => Pending | -
+end 0 => Ok | -
+start 0 receive => Ok | -
+poll 0 0 => Ready(1,6) | -
+end-receive => Ok | -
+try-receive => Some(1,6) | -
+done-receive => Ok | 1
+start 0 send => Ok | -
+poll 0 1 => Ready(1) | -
+end-send => Ok | -
+clear-send => Ok | -
+clear-receive => Ok | -
+len => 0 | -
+free => 2 | -
+";
+    expect("each_zerocopy", &channel.run(), text);
+}
