@@ -17,7 +17,9 @@ use recorder::watch::{self, Watch};
 use recorder::{Recorded, Run, zerocopy_channel};
 
 mod executor;
-use executor::{Task, keep};
+use executor::Task;
+mod keep;
+use keep::keep;
 
 /// Compares a run with a text, and keeps it for the judge.
 #[track_caller]

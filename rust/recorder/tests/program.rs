@@ -12,7 +12,9 @@ use recorder::pipe::{Pipe, Reader, Writer};
 use recorder::{Recorded, Run, named_by_debug};
 
 mod executor;
-use executor::{Executor, keep, pause, within};
+use executor::{Executor, pause, within};
+mod keep;
+use keep::keep;
 
 /// How many messages the channel holds.
 const READINGS: usize = 2;

@@ -1,14 +1,11 @@
 //! An executor by hand: tasks whose wakers count how often they were woken, polled in turn while one was woken.
+#![allow(dead_code)]
 use std::cell::Cell;
-use std::fs;
 use std::future::{Future, poll_fn};
-use std::path::Path;
 use std::pin::{Pin, pin};
 use std::sync::Arc;
 use std::sync::atomic::{AtomicUsize, Ordering::Relaxed};
 use std::task::{Context, Poll, Wake, Waker};
-
-use recorder::Run;
 
 /// A task's waker, which counts the wakes that no poll has followed.
 #[derive(Default)]
@@ -34,7 +31,6 @@ impl Wake for Count {
 /// A task that is polled by hand.
 pub struct Task(Arc<Count>, Waker);
 
-#[allow(dead_code)]
 impl Task {
     /// Returns a task that nobody has woken.
     pub fn new() -> Self {
@@ -65,7 +61,6 @@ type Job<'a> = Pin<Box<dyn Future<Output = ()> + 'a>>;
 #[derive(Default)]
 pub struct Executor<'a>(Vec<(Option<Job<'a>>, Arc<Count>)>);
 
-#[allow(dead_code)]
 impl<'a> Executor<'a> {
     /// Adds a task, which is polled from the next run on.
     pub fn spawn(&mut self, job: impl Future<Output = ()> + 'a) {
@@ -94,7 +89,6 @@ fn poll_woken(job: &mut Option<Job<'_>>, count: &Arc<Count>) -> bool {
 }
 
 /// Lets the other tasks go first.
-#[allow(dead_code)]
 pub async fn pause() {
     let is_over = Cell::new(false);
     poll_fn(|cx| match is_over.replace(true) {
@@ -108,7 +102,6 @@ pub async fn pause() {
 }
 
 /// Polls a future so often at most, each time after a pause, and drops it where it isn't Ready by then.
-#[allow(dead_code)]
 pub async fn within<F: Future>(polls: usize, future: F) -> Option<F::Output> {
     let mut future = pin!(future);
     let mut left = polls;
@@ -124,12 +117,4 @@ pub async fn within<F: Future>(polls: usize, future: F) -> Option<F::Output> {
         }
     })
     .await
-}
-
-/// Keeps a run for the judge, under this name.
-#[allow(dead_code)]
-pub fn keep(name: &str, run: &Run) {
-    let folder = Path::new(env!("CARGO_TARGET_TMPDIR")).join("runs");
-    fs::create_dir_all(&folder).unwrap();
-    fs::write(folder.join(name).with_extension("run"), &run.text).unwrap();
 }

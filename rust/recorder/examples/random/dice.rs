@@ -1,0 +1,106 @@
+//! Chance, and the futures and tasks of a random program.
+use std::future::Future;
+use std::pin::Pin;
+use std::task::{Context, Poll};
+
+use crate::executor::Task;
+
+/// How many futures a program has at a time: with what they leave no more than a run has numbers for.
+const FUTURES: usize = 7;
+
+/// Numbers that a seed determines, and the tasks that poll.
+pub struct Dice {
+    state: u64,
+    tasks: [Task; 3],
+    /// Whether the program keeps off all that upstream does otherwise.
+    pub is_plain: bool,
+}
+
+impl Dice {
+    /// Returns the dice of this seed.
+    pub fn new(seed: u64, is_plain: bool) -> Self {
+        Dice { state: seed, tasks: [Task::new(), Task::new(), Task::new()], is_plain }
+    }
+
+    /// Returns a number below this one.
+    pub fn below(&mut self, limit: u64) -> u64 {
+        // (the steps and the mix of splitmix64)
+        self.state = self.state.wrapping_add(0x9e37_79b9_7f4a_7c15);
+        let mixed = (self.state ^ (self.state >> 30)).wrapping_mul(0xbf58_476d_1ce4_e5b9);
+        let mixed = (mixed ^ (mixed >> 27)).wrapping_mul(0x94d0_49bb_1331_11eb);
+        (mixed ^ (mixed >> 31)) % limit
+    }
+
+    /// Returns a place below this number.
+    pub fn place(&mut self, limit: usize) -> usize {
+        self.below(limit as u64) as usize
+    }
+
+    /// Returns a message.
+    pub fn message(&mut self) -> u8 {
+        self.below(5) as u8
+    }
+
+    /// Returns up to three bytes.
+    pub fn bytes(&mut self) -> Vec<u8> {
+        (0..self.below(4)).map(|_| self.message()).collect()
+    }
+
+    /// Returns whether a coin shows heads.
+    pub fn coin(&mut self) -> bool {
+        self.below(2) == 0
+    }
+
+    /// Returns a task's context.
+    pub fn context(&mut self) -> Context<'_> {
+        let place = self.place(self.tasks.len());
+        self.tasks[place].context()
+    }
+}
+
+type Kept<'a, K> = Pin<Box<dyn Future<Output = K> + 'a>>;
+
+/// Futures that were made and haven't ended, and what they leave.
+pub struct Futures<'a, K>(Vec<Kept<'a, K>>);
+
+impl<'a, K> Futures<'a, K> {
+    /// Returns no futures.
+    pub fn new() -> Self {
+        Futures(Vec::new())
+    }
+
+    /// Returns how many there are.
+    pub fn count(&self) -> usize {
+        self.0.len()
+    }
+
+    /// Adds the future that this makes, where there is room.
+    pub fn add<F: Future<Output = K> + 'a>(&mut self, make: impl FnOnce() -> F) {
+        if self.0.len() < FUTURES {
+            self.0.push(Box::pin(make()));
+        }
+    }
+
+    /// Polls one of the futures, and returns what it leaves.
+    pub fn poll(&mut self, dice: &mut Dice) -> Option<K> {
+        if self.0.is_empty() {
+            return None;
+        }
+        let place = dice.place(self.0.len());
+        match self.0[place].as_mut().poll(&mut dice.context()) {
+            Poll::Pending => None,
+            Poll::Ready(left) => {
+                drop(self.0.swap_remove(place));
+                Some(left)
+            }
+        }
+    }
+
+    /// Drops one of the futures.
+    pub fn end(&mut self, dice: &mut Dice) {
+        if !self.0.is_empty() {
+            let place = dice.place(self.0.len());
+            drop(self.0.swap_remove(place));
+        }
+    }
+}
