@@ -8,13 +8,17 @@
 set -eu
 top=$(cd "$(dirname "$0")/../.." && pwd)
 synccheck=${SYNCCHECK:-$top/crates/synccheck/out/synccheck}
-for run; do
-    shift
-    set -- "$@" "$(realpath "$run")"
-done
 if [ ! -x "$synccheck" ]; then
+    case "$*" in
+    [!/]* | *" "[!/]*)
+        for run; do
+            shift
+            set -- "$@" "$(realpath "$run")"
+        done
+        ;;
+    esac
     cd "$top/crates/synccheck_cases"
-    exec rt try -- "$@"
+    exec rt try --seconds 3600 -- "$@"
 fi
 for run; do
     status=0

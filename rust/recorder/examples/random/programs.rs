@@ -1,4 +1,6 @@
 //! A random program for each primitive. A plain one keeps off the calls that upstream answers otherwise.
+use std::future::Future;
+
 use embassy_sync::blocking_mutex::raw::NoopRawMutex;
 use recorder::channel::Channel;
 use recorder::lazy_lock::LazyLock;
@@ -139,43 +141,50 @@ fn pipe_ends<const N: usize>(dice: &mut Dice) -> Run {
     let rows: Vec<Vec<u8>> = (0..steps(dice)).map(|_| dice.bytes()).collect();
     {
         let (reader, writer) = pipe.split();
-        let mut reader = Some(reader);
+        let (mut reader, mut shown) = (Some(reader), 0);
         let mut futures = Futures::new();
         for row in &rows {
-            match (dice.below(8), reader.take()) {
-                (0, Some(reader)) => futures.add(|| read(reader, 1 + row.len(), !dice.is_plain && dice.coin())),
-                (1, Some(mut filled)) if !dice.is_plain => {
-                    let shown = filled.try_fill_buf().map_or(0, <[u8]>::len);
-                    filled.consume(dice.place(shown + 1));
-                    reader = Some(filled);
+            match dice.below(9) {
+                0 if reader.is_some() && futures.count() < 5 => {
+                    let (polls, fills) = (1 + row.len(), !dice.is_plain && dice.coin());
+                    futures.add(|| read(reader.take(), polls, fills));
+                    shown = 0;
                 }
-                (other, kept) => {
-                    reader = kept;
-                    match other {
-                        2 => _ = writer.try_write(row),
-                        3 => futures.add(|| {
-                            let write = writer.write(row);
-                            async {
-                                _ = write.await;
-                                None
-                            }
-                        }),
-                        4 => _ = reader.as_ref().map(|reader| reader.try_read(&mut vec![0; row.len()])),
-                        _ => reader = reader.or(futures.poll(dice).flatten()),
-                    }
+                1 if !dice.is_plain => {
+                    let filled = reader.as_mut().and_then(|reader| reader.try_fill_buf().ok());
+                    shown = filled.map_or(0, <[u8]>::len);
                 }
+                2 if shown > 0 => {
+                    let amount = dice.place(shown + 1);
+                    shown -= amount;
+                    _ = reader.as_mut().map(|reader| reader.consume(amount));
+                }
+                3 | 4 => _ = writer.try_write(row),
+                5 => futures.add(|| read_nothing(writer.write(row))),
+                6 => {
+                    _ = reader.as_ref().map(|reader| reader.try_read(&mut vec![0; row.len()]));
+                    shown = 0;
+                }
+                _ => reader = reader.or(futures.poll(dice).flatten()),
             }
         }
     }
     pipe.run()
 }
 
+/// Waits for a write, and gives no reader back.
+async fn read_nothing<R>(write: impl Future<Output = usize>) -> Option<R> {
+    write.await;
+    None
+}
+
 /// Waits for bytes in so many polls at most, and gives the reader back.
 async fn read<const N: usize>(
-    mut reader: Reader<'_, NoopRawMutex, N>,
+    reader: Option<Reader<'_, NoopRawMutex, N>>,
     polls: usize,
     fills: bool,
 ) -> Option<Reader<'_, NoopRawMutex, N>> {
+    let mut reader = reader?;
     match fills {
         true => _ = within(polls, reader.fill_buf()).await,
         false => _ = within(polls, reader.read(&mut [0; 2])).await,
@@ -346,6 +355,7 @@ async fn read_next<const N: usize>(
 fn pubsub<const N: usize>(dice: &mut Dice) -> Run {
     let channel: Channels<N> = PubSubChannel::new();
     let publishers = [channel.publisher().unwrap(), channel.publisher().unwrap()];
+    let clears = dice.coin();
     let mut futures = Futures::new();
     let mut subscribers: Vec<Subscriber<'_, N>> = Vec::new();
     for _ in 0..steps(dice) {
@@ -371,8 +381,8 @@ fn pubsub<const N: usize>(dice: &mut Dice) -> Run {
                 }
             }
             11 => _ = (channel.len(), channel.is_full(), channel.is_empty(), channel.free_capacity()),
-            12 if !dice.is_plain => _ = subscribers.pop(),
-            13 if !dice.is_plain => channel.clear(),
+            12 if !clears && !dice.is_plain => _ = subscribers.pop(),
+            12 if clears && !dice.is_plain => channel.clear(),
             _ => subscribers.extend(futures.poll(dice).flatten()),
         }
     }

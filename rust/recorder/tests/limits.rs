@@ -1,0 +1,227 @@
+//! Where a program does what no run can have: the recording stops and says why, and the program goes on.
+#![cfg(feature = "record")]
+use std::panic::{AssertUnwindSafe, catch_unwind};
+use std::task::Poll::{Pending, Ready};
+use std::thread;
+
+use critical_section as _;
+use embassy_sync::blocking_mutex::raw::{CriticalSectionRawMutex, NoopRawMutex};
+use recorder::channel::Channel;
+use recorder::once_lock::OnceLock;
+use recorder::pipe::Pipe;
+use recorder::priority_channel::{Max, PriorityChannel};
+use recorder::pubsub::PubSubChannel;
+use recorder::semaphore::{GreedySemaphore, Semaphore};
+use recorder::signal::Signal;
+use recorder::watch::Watch;
+use recorder::{Name, Recorded, Run, Stop, Unsaved, named_by_debug, zerocopy_channel};
+
+mod executor;
+use executor::Task;
+mod keep;
+use keep::keep;
+
+/// Compares a run that has stopped with a text, and with the reason that it gives.
+#[track_caller]
+fn expect_stop(run: &Run, stop: Stop, text: &str) {
+    assert_eq!(run.text, text);
+    assert_eq!(run.stop, Some(stop));
+}
+
+/// A message without a number of its own.
+#[derive(Clone, Debug, PartialEq, Eq, PartialOrd, Ord)]
+enum Word {
+    Yes,
+    No(u8),
+}
+
+named_by_debug!(Word);
+
+#[test]
+fn equal_debug_is_an_equal_number() {
+    let signal: Signal<NoopRawMutex, Word> = Signal::new();
+    for word in [Word::No(3), Word::Yes, Word::No(3), Word::No(4)] {
+        signal.signal(word);
+    }
+    assert_eq!(signal.try_take(), Some(Word::No(4)));
+    let text = "\
+signal 1
+signal 0 => Ok | -
+signal 1 => Ok | -
+signal 0 => Ok | -
+signal 2 => Ok | -
+try-take => Some(2) | -
+";
+    assert_eq!(signal.run().text, text);
+    keep("each_signal_by_debug", &signal.run());
+}
+
+#[test]
+fn a_closure_names_messages() {
+    let channel: Channel<NoopRawMutex, f32, 1> = Channel::named(|celsius| Name::number((celsius * 10.0) as u32));
+    assert_eq!(channel.try_send(21.5), Ok(()));
+    assert_eq!(channel.run().text, "channel 1\ntry-send 215 => Ok | -\n");
+}
+
+#[test]
+fn a_capacity_that_no_run_has() {
+    let channel: Channel<NoopRawMutex, u8, 5> = Channel::new();
+    assert_eq!((channel.try_send(1), channel.try_receive()), (Ok(()), Ok(1)));
+    let text = "channel 5\n# stopped at a capacity of 5, where one of [1, 2, 3, 4, 8] can be recorded\n";
+    expect_stop(&channel.run(), Stop::Capacity(5), text);
+    let pubsub: PubSubChannel<NoopRawMutex, u8, 2, 2, 1> = PubSubChannel::new();
+    pubsub.clear();
+    let text = "pubsub 2\n# stopped at 2 subscribers and 1 publishers, where 4 of each can be recorded\n";
+    expect_stop(&pubsub.run(), Stop::Handles { subscribers: 2, publishers: 1 }, text);
+}
+
+#[test]
+fn more_requests_than_numbers() {
+    let channel: Channel<NoopRawMutex, u8, 1> = Channel::new();
+    let one = Task::new();
+    let mut receives: Vec<_> = (0..17).map(|_| channel.receive()).collect();
+    assert_eq!(one.poll(&mut receives[16]), Pending);
+    assert_eq!(channel.try_send(1), Ok(()));
+    assert_eq!((one.take_wakes(), one.poll(&mut receives[16])), (1, Ready(1)));
+    let starts: String = (0..16).map(|number| format!("start {number} receive => Ok | -\n")).collect();
+    let text = format!("channel 1\n{starts}# stopped at more than 16 requests, or handles of a kind, at a time\n");
+    expect_stop(&channel.run(), Stop::Numbers, &text);
+}
+
+#[test]
+fn a_message_above_the_greatest_number() {
+    let channel: Channel<NoopRawMutex, u64, 2> = Channel::new();
+    assert_eq!((channel.try_send(u32::MAX.into()), channel.try_send(1 << 32)), (Ok(()), Ok(())));
+    let text = "\
+channel 2
+try-send 4294967295 => Ok | -
+# stopped at a message with the number 4294967296, which isn't in 0..=4294967295
+";
+    expect_stop(&channel.run(), Stop::Message(1 << 32), text);
+    keep("stop_at_a_message", &channel.run());
+}
+
+#[test]
+fn texts_have_no_order() {
+    let channel: PriorityChannel<NoopRawMutex, Word, Max, 2> = PriorityChannel::new();
+    assert_eq!(channel.try_send(Word::Yes), Ok(()));
+    let text = "max 2\n# stopped at messages of a priority channel that a text names\n";
+    expect_stop(&channel.run(), Stop::NoOrder, text);
+}
+
+#[test]
+fn numbers_beside_texts() {
+    let naming = |word: &Word| if *word == Word::Yes { Name::number(7) } else { Name::by_debug(word) };
+    let channel: Channel<NoopRawMutex, Word, 2> = Channel::named(naming);
+    assert_eq!((channel.try_send(Word::Yes), channel.try_send(Word::No(1))), (Ok(()), Ok(())));
+    assert_eq!(channel.run().stop, Some(Stop::MixedNames));
+}
+
+#[test]
+fn a_row_that_is_too_long() {
+    let pipe: Pipe<NoopRawMutex, 8> = Pipe::new();
+    // (of a call that writes what goes in, the first sixteen bytes say all)
+    assert_eq!(pipe.try_write(&[7; 40]), Ok(8));
+    drop(pipe.write_all(&[7; 17]));
+    let text = "\
+pipe 8
+try-write 7,7,7,7,7,7,7,7,7,7,7,7,7,7,7,7 => Ok(8) | -
+# stopped at 17 bytes in a call, where 16 can be recorded
+";
+    expect_stop(&pipe.run(), Stop::Bytes(17), text);
+    keep("stop_at_a_row", &pipe.run());
+}
+
+#[test]
+fn a_call_within_a_call() {
+    let lock: OnceLock<u8> = OnceLock::new();
+    assert_eq!(lock.get_or_init(|| u8::from(lock.is_set())), &0);
+    let text = "once 1\n# stopped at a call within a call of the same primitive\n";
+    expect_stop(&lock.run(), Stop::Nested, text);
+}
+
+#[test]
+fn a_poll_after_the_answer() {
+    let channel: Channel<NoopRawMutex, u8, 2> = Channel::new();
+    let one = Task::new();
+    assert_eq!((channel.try_send(1), channel.try_send(2)), (Ok(()), Ok(())));
+    let mut receive = channel.receive();
+    assert_eq!((one.poll(&mut receive), one.poll(&mut receive)), (Ready(1), Ready(2)));
+    assert_eq!(channel.run().stop, Some(Stop::PolledAgain));
+}
+
+#[test]
+fn calls_without_a_counterpart() {
+    let watch: Watch<NoopRawMutex, u8, 1> = Watch::new_with(1);
+    watch.sender().send_modify(|value| *value = None);
+    assert!(matches!(watch.run().stop, Some(Stop::NoCounterpart(_))));
+    let watch: Watch<NoopRawMutex, u8, 1> = Watch::new_with(1);
+    watch.sender().send_if_modified(|value| value.replace(2).is_none());
+    assert!(matches!(watch.run().stop, Some(Stop::NoCounterpart(_))));
+    assert_eq!(watch.try_get(), Some(2));
+    let pubsub: PubSubChannel<NoopRawMutex, u8, 2, 4, 4> = PubSubChannel::new();
+    assert_eq!(pubsub.immediate_publisher().try_publish(1), Ok(()));
+    assert!(matches!(pubsub.run().stop, Some(Stop::NoCounterpart(_))));
+
+    let mut slots = [1_u8];
+    let mut channel = zerocopy_channel::Channel::<NoopRawMutex, _>::new(&mut slots);
+    let (mut sender, mut receiver) = channel.split();
+    let slot = sender.try_send().unwrap();
+    receiver.clear();
+    *slot = 2;
+    assert!(matches!(channel.run().stop, Some(Stop::NoCounterpart(_))));
+}
+
+#[test]
+fn a_panic_is_recorded() {
+    let mut pipe: Pipe<NoopRawMutex, 2> = Pipe::new();
+    assert_eq!(pipe.try_write(&[1]), Ok(1));
+    let (mut reader, _) = pipe.split();
+    assert!(catch_unwind(AssertUnwindSafe(|| reader.consume(2))).is_err());
+    let semaphore: GreedySemaphore<NoopRawMutex> = GreedySemaphore::new(1);
+    // (where sums are checked, as they are in a test)
+    assert!(catch_unwind(AssertUnwindSafe(|| semaphore.release(usize::MAX))).is_err());
+    assert_eq!(pipe.run().text, "pipe 2\ntry-write 1 => Ok(1) | -\nconsume 2 => Panic | -\n");
+    assert_eq!(semaphore.run().text, format!("greedy 1 1\nrelease {} => Panic | -\n", usize::MAX));
+    keep("free_consume_too_many", &pipe.run());
+    keep("free_release_too_many", &semaphore.run());
+}
+
+#[test]
+fn a_static_that_two_threads_call() {
+    static CHANNEL: Channel<CriticalSectionRawMutex, u32, 4> = Channel::new();
+    let sender = thread::spawn(|| {
+        let task = Task::new();
+        for number in 0..40 {
+            let mut send = CHANNEL.send(number);
+            while task.poll(&mut send) == Pending {
+                thread::yield_now();
+            }
+        }
+    });
+    let task = Task::new();
+    for number in 0..40 {
+        let mut receive = CHANNEL.receive();
+        while task.poll(&mut receive) != Ready(number) {
+            thread::yield_now();
+        }
+    }
+    sender.join().unwrap();
+    assert_eq!(CHANNEL.run().stop, None);
+    keep("threads", &CHANNEL.run());
+}
+
+#[test]
+fn what_is_saved() {
+    let folder = std::path::Path::new(env!("CARGO_TARGET_TMPDIR")).join("saved");
+    let signal: Signal<NoopRawMutex, u8> = Signal::new();
+    signal.signal(1);
+    let channel: Channel<NoopRawMutex, u8, 9> = Channel::new();
+    channel.clear();
+    let Err(Unsaved::Stopped(stopped)) = recorder::save(&folder) else { panic!("a capacity of 9 stops a recording") };
+    assert!(stopped.iter().any(|run| run.name == channel.run().name && run.stop == Some(Stop::Capacity(9))));
+    let run = signal.run();
+    assert!(run.name.starts_with("signal-limits-"), "{}", run.name);
+    let saved = std::fs::read_to_string(folder.join(&run.name).with_extension("run")).unwrap();
+    assert_eq!(saved, "signal 1\nsignal 1 => Ok | -\n");
+}
