@@ -6,7 +6,7 @@
 #![forbid(unsafe_code)]
 #![cfg_attr(not(feature = "record"), no_std)]
 
-pub use embassy_sync::blocking_mutex;
+pub use embassy_sync::{blocking_mutex, waitqueue};
 
 #[cfg(feature = "record")]
 mod recording;

@@ -12,6 +12,11 @@ impl Name {
         Name
     }
 
+    /// Would return the name that this text gives.
+    pub fn text<T>(_text: T) -> Self {
+        Name
+    }
+
     /// Would return the name that the message's `Debug` gives.
     pub fn by_debug(_message: &impl core::fmt::Debug) -> Self {
         Name

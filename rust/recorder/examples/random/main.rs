@@ -27,7 +27,7 @@ fn main() -> Result<(), Box<dyn Error>> {
     fs::create_dir_all(&folder)?;
     let mut stopped = 0;
     for number in 0..count {
-        let is_plain = (number / PROGRAMS.len()).is_multiple_of(2);
+        let is_plain = number / PROGRAMS.len() % 2 == 0;
         let mut dice = Dice::new(seed.wrapping_add(number as u64).wrapping_mul(0x2545_f491_4f6c_dd1d), is_plain);
         let run = PROGRAMS[number % PROGRAMS.len()](&mut dice);
         let name = format!("{}_{number:05}.run", if is_plain { "plain" } else { "free" });

@@ -168,7 +168,7 @@ impl Tape {
         };
         let stop = head.limit.err().or(unwritten);
         let page =
-            Page { head: text, lines: Vec::new(), in_use: Default::default(), tasks: Tasks::default(), names, stop };
+            Page { head: text, lines: Vec::new(), in_use: [[false; NUMBERS]; 4], tasks: Tasks::default(), names, stop };
         Tape { name, turns: Turns::default(), page: Mutex::new(page) }
     }
 
@@ -200,11 +200,6 @@ impl Tape {
                 page.stop.get_or_insert(stop);
             }
         }
-    }
-
-    /// Frees a number.
-    pub fn free(&self, number: Option<Number>) {
-        lock(&self.page).free(number);
     }
 
     /// Takes the lowest number that is free. `None` where the recording has stopped, as it does where none is.

@@ -204,10 +204,8 @@ impl<'a, T> Side<'a, T> {
         if !self.has_one().load(Relaxed) {
             self.try_lend(|| lend(inner));
         }
-        if self.end == End::Send
-            && self.has_one().load(Relaxed)
-            && let Some(slot) = lend(inner)
-        {
+        let is_sent = self.end == End::Send && self.has_one().load(Relaxed);
+        if let Some(slot) = is_sent.then(|| lend(inner)).flatten() {
             let write = phrase("write ").message((self.slots.naming)(slot));
             self.tape.done(write, || ());
         }
