@@ -1,14 +1,14 @@
 #!/bin/sh
-# Says of each recorded run what synccheck finds:
+# Says of each recorded run what `esync check` finds:
 #
 #     rust/recorder/judge.sh RUN..
 #
 # For each file it prints its name behind ==, the verdict, and the status: 0 a run, 1 none, 2 a recording that stopped.
-# The program is crates/synccheck/out/synccheck or what SYNCCHECK names; where there is none, one rt try judges all.
+# The program is crates/esync/out/esync or what ESYNC names; where there is none, one rt try judges all.
 set -eu
 top=$(cd "$(dirname "$0")/../.." && pwd)
-synccheck=${SYNCCHECK:-$top/crates/synccheck/out/synccheck}
-if [ ! -x "$synccheck" ]; then
+esync=${ESYNC:-$top/crates/esync/out/esync}
+if [ ! -x "$esync" ]; then
     case "$*" in
     [!/]* | *" "[!/]*)
         for run; do
@@ -22,6 +22,8 @@ if [ ! -x "$synccheck" ]; then
 fi
 for run; do
     status=0
-    verdict=$("$synccheck" <"$run" 2>&1) || status=$?
+    verdict=$("$esync" check <"$run" 2>&1) || status=$?
+    # (without the name of the input, and the column, which the other program doesn't say)
+    verdict=$(printf '%s' "$verdict" | sed 's/^esync: standard input: //; s/^\(line [0-9]*\), column .*/\1: not a command/')
     printf '== %s\n%s\nstatus %s\n' "$run" "$verdict" "$status"
 done

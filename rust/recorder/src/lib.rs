@@ -1,4 +1,4 @@
-//! Records what a program does with `embassy-sync`, as runs that `synccheck` judges.
+//! Records what a program does with `embassy-sync`, as runs that `esync check` judges.
 //!
 //! `recorder::channel::Channel` stands for `embassy_sync::channel::Channel`, and so for each primitive. With the
 //! feature `record` each call, its answer and the tasks that it woke become a line of a run; without it these modules

@@ -16,7 +16,7 @@ use super::turn::lock;
 pub struct Run {
     /// The primitive, and the file and the line where it was made: `channel-main-12`.
     pub name: String,
-    /// The run, as `synccheck` reads it. Where the recording stopped, the last line says why.
+    /// The run, as `esync check` reads it. Where the recording stopped, the last line says why.
     pub text: String,
     /// Why the recording stopped, if it did.
     pub stop: Option<Stop>,
