@@ -18,7 +18,7 @@ impl Name {
     }
 
     /// Would return the name that the message's `Debug` gives.
-    pub fn by_debug(_message: &impl core::fmt::Debug) -> Self {
+    pub fn by_debug<T: core::fmt::Debug + ?Sized>(_message: &T) -> Self {
         Name
     }
 }
@@ -27,4 +27,22 @@ impl Name {
 pub trait Named {
     /// Would return what a run calls the message.
     fn name(&self) -> Name;
+}
+
+macro_rules! named {
+    ($($message:ty),+) => {
+        $(impl Named for $message {
+            fn name(&self) -> Name {
+                Name
+            }
+        })+
+    };
+}
+
+named!(u8, u16, u32, u64, usize, i8, i16, i32, i64, isize, bool, char, (), str);
+
+impl<T: Named + ?Sized> Named for &T {
+    fn name(&self) -> Name {
+        Name
+    }
 }

@@ -69,10 +69,12 @@ fn a_capacity_that_no_run_has() {
     assert_eq!((channel.try_send(1), channel.try_receive()), (Ok(()), Ok(1)));
     let text = "channel 5\n# stopped at a capacity of 5, where one of [1, 2, 3, 4, 8] can be recorded\n";
     expect_stop(&channel.run(), Stop::Capacity(5), text);
+    keep("stop_at_a_capacity", &channel.run());
     let pubsub: PubSubChannel<NoopRawMutex, u8, 2, 2, 1> = PubSubChannel::new();
     pubsub.clear();
     let text = "pubsub 2\n# stopped at 2 subscribers and 1 publishers, where 4 of each can be recorded\n";
     expect_stop(&pubsub.run(), Stop::Handles { subscribers: 2, publishers: 1 }, text);
+    keep("stop_at_handles", &pubsub.run());
 }
 
 #[test]
@@ -86,6 +88,7 @@ fn more_requests_than_numbers() {
     let starts: String = (0..16).map(|number| format!("start {number} receive => Ok | -\n")).collect();
     let text = format!("channel 1\n{starts}# stopped at more than 16 requests, or handles of a kind, at a time\n");
     expect_stop(&channel.run(), Stop::Numbers, &text);
+    keep("stop_at_requests", &channel.run());
 }
 
 #[test]

@@ -26,7 +26,7 @@ impl Name {
     }
 
     /// Returns the name that the message's `Debug` gives.
-    pub fn by_debug(message: &impl Debug) -> Self {
+    pub fn by_debug<T: Debug + ?Sized>(message: &T) -> Self {
         Self::text(format!("{message:?}"))
     }
 
@@ -66,7 +66,13 @@ impl Named for char {
     }
 }
 
-crate::named_by_debug!(&str, String);
+crate::named_by_debug!(str, String);
+
+impl<T: Named + ?Sized> Named for &T {
+    fn name(&self) -> Name {
+        T::name(self)
+    }
+}
 
 /// The numbers of a run's messages.
 pub struct Names {
