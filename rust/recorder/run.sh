@@ -38,4 +38,4 @@ with_upstream test --quiet
 with_upstream test --quiet --features record
 example random "$runs" "$count" "$seed"
 ./judge.sh "$runs"/*.run >"$target/tmp/verdicts"
-example verdicts verdicts <"$target/tmp/verdicts"
+example verdicts verdicts "$runs" <"$target/tmp/verdicts"

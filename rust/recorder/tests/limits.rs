@@ -222,7 +222,9 @@ fn what_is_saved() {
     let channel: Channel<NoopRawMutex, u8, 9> = Channel::new();
     channel.clear();
     let Err(Unsaved::Stopped(stopped)) = recorder::save(&folder) else { panic!("a capacity of 9 stops a recording") };
-    assert!(stopped.iter().any(|run| run.name == channel.run().name && run.stop == Some(Stop::Capacity(9))));
+    let stopped: Vec<Run> = stopped.into_iter().filter(|run| run.name == channel.run().name).collect();
+    let reason = format!("{:?}", Unsaved::Stopped(stopped));
+    assert!(reason.ends_with("stopped at a capacity of 9, where one of [1, 2, 3, 4, 8] can be recorded"), "{reason}");
     let run = signal.run();
     assert!(run.name.starts_with("signal-limits-"), "{}", run.name);
     let saved = std::fs::read_to_string(folder.join(&run.name).with_extension("run")).unwrap();

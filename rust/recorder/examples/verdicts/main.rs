@@ -1,9 +1,10 @@
 //! Reads the verdicts that `judge.sh` prints, and says whether they are those that the runs should have:
 //!
-//!     rust/recorder/judge.sh RUN.. | cargo run --example verdicts -- VERDICTS
+//!     rust/recorder/judge.sh RUNS/*.run | cargo run --example verdicts -- VERDICTS RUNS
 //!
 //! A run that is named in the folder VERDICTS has the verdict of that file. One of a free random program is a run, meets
-//! a corrected rule, or has a recording that stopped. Any other is a run. The status is 1 where one has another verdict.
+//! a corrected rule, or has a recording that stopped. Any other is a run. The status is 1 where one has another verdict,
+//! or none.
 use std::collections::BTreeMap;
 use std::error::Error;
 use std::io::Read;
@@ -29,12 +30,19 @@ enum Found {
 }
 
 fn main() -> Result<ExitCode, Box<dyn Error>> {
-    let kept = env::args().nth(1).ok_or("usage: verdicts VERDICTS")?;
+    let arguments: Vec<String> = env::args().skip(1).collect();
+    let [kept, runs] = &arguments[..] else {
+        return Err("usage: verdicts VERDICTS RUNS".into());
+    };
     let mut text = String::new();
     io::stdin().read_to_string(&mut text)?;
-    let (mut found, mut others) = (BTreeMap::new(), 0);
-    for entry in text.split("== ").filter(|entry| !entry.is_empty()) {
-        match judged(entry, Path::new(&kept)) {
+    let entries: Vec<&str> = text.split("== ").filter(|entry| !entry.is_empty()).collect();
+    let (mut found, mut others) = (BTreeMap::new(), fs::read_dir(runs)?.count().abs_diff(entries.len()));
+    if others > 0 {
+        println!("{others} runs have no verdict, or none of these");
+    }
+    for entry in entries {
+        match judged(entry, Path::new(kept)) {
             Some(what) => *found.entry(what).or_insert(0) += 1,
             None => {
                 println!("another verdict: {entry}");
