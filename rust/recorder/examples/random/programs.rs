@@ -381,7 +381,10 @@ fn pubsub<const N: usize>(dice: &mut Dice) -> Run {
                 }
             }
             11 => _ = (channel.len(), channel.is_full(), channel.is_empty(), channel.free_capacity()),
-            12 if !clears && !dice.is_plain => _ = subscribers.pop(),
+            12 if !clears && !dice.is_plain => {
+                // (what is available and isn't held was missed, so that the run shows whether this one lags)
+                _ = subscribers.pop().map(|subscriber| (subscriber.available(), channel.len()));
+            }
             12 if clears && !dice.is_plain => channel.clear(),
             _ => subscribers.extend(futures.poll(dice).flatten()),
         }

@@ -79,7 +79,7 @@ pub const RULES: [Rule; 12] = [
     },
     Rule {
         name: "a subscriber that leaves while it lags lets the messages go that it was the last to read",
-        makes: |it| it.is_of(&["pubsub"]) && it.command.starts_with("leave ") && it.wakes_more(),
+        makes: |it| it.is_of(&["pubsub"]) && it.has_lagging_leaver() && (it.wakes_more() || it.has_less_room()),
     },
     Rule {
         name: "`clear` of publishers and subscribers, and of a zero-copy channel, wakes who waits for room",
@@ -115,6 +115,39 @@ impl Difference<'_> {
     /// Whether upstream gives the right answer, and wakes where nobody has to be woken.
     fn wakes_less(&self) -> bool {
         self.recorded.answer == self.given.answer && self.recorded.wakers != "-" && self.given.wakers == "-"
+    }
+
+    /// Whether a subscriber that leaves, here or before, had more available than the channel held.
+    fn has_lagging_leaver(&self) -> bool {
+        let number = |line: &str, command: &str| {
+            let (asked, reply) = line.split_once(" => ")?;
+            asked.strip_prefix(command)?;
+            reply.split(' ').next()?.parse::<u64>().ok()
+        };
+        let lags = |lines: &[&str]| match lines {
+            [available, len, leave] if leave.starts_with("leave ") => {
+                number(available, "available ") > number(len, "len").or(Some(u64::MAX))
+            }
+            _ => false,
+        };
+        let leaves = [self.before, &[self.command]].concat();
+        leaves.windows(3).any(lags)
+    }
+
+    /// Whether upstream waits or refuses where the primitive has room.
+    fn has_less_room(&self) -> bool {
+        let refused = self.recorded.answer.starts_with("Err(Full(") && self.given.answer == "Ok";
+        refused || (self.command == "poll publish" && self.answers("Pending", "Ready")) || self.holds_more()
+    }
+
+    /// Whether upstream holds more messages.
+    fn holds_more(&self) -> bool {
+        let numbers = (self.recorded.answer.parse::<u64>(), self.given.answer.parse::<u64>());
+        match numbers {
+            (Ok(recorded), Ok(given)) if self.command == "len" => recorded > given,
+            (Ok(recorded), Ok(given)) if self.command == "free" => recorded < given,
+            _ => false,
+        }
     }
 
     /// Whether upstream reads the first of the bytes that the primitive reads, or writes fewer bytes.
