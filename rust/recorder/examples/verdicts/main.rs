@@ -61,7 +61,7 @@ fn print_found(found: &BTreeMap<Found, usize>, others: usize) {
     let met: usize = (0..RULES.len()).map(|number| count(found, Found::Meets(number))).sum();
     let (runs, stopped, kept) = (count(found, Found::Run), count(found, Found::Stopped), count(found, Found::Kept));
     println!(
-        "{} recorded: {runs} are runs, {met} meet a corrected rule, {stopped} stopped, {kept} are as kept, {others} aren't",
+        "{} recordings: {runs} runs, {met} meet a corrected rule, {stopped} stopped, {kept} as kept, {others} otherwise",
         runs + met + stopped + kept + others
     );
 }
