@@ -1,0 +1,5 @@
+pub mod Counted
+pub mod Joined
+pub mod Polled
+pub mod RunQueue
+pub mod Selected

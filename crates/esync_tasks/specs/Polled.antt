@@ -1,0 +1,14 @@
+-- What a poll answers.
+use Rattle.std.specs.Prelude.{⊤}
+use Rattle.esync_base.specs.declared.waitqueue.Poll.{Poll}
+use Rattle.esync_base.specs.declared.waitqueue.Poll.TheVariants.{Ready, Pending}
+
+-- a poll that is ready gave such an output
+abbrev pub IfReady : {A : Type 0} → Poll A → (A → Type 0) → Type 0
+IfReady (Ready x) P = P x
+IfReady Pending P = ⊤
+
+-- it holds after a poll that isn't ready
+abbrev pub OnPending : {A : Type 0} → Poll A → Type 0 → Type 0
+OnPending (Ready x) P = ⊤
+OnPending Pending P = P

@@ -1,0 +1,16 @@
+// A `&mut` to a future is a future, so that one can be polled and kept.
+
+use crate::future::Future;
+use esync_base::waitqueue::{Context, Poll};
+
+impl<W, F: Future<W>> Future<W> for &mut F {
+    type Output = F::Output;
+
+    ghost can_poll = { λ future. F.can_poll future.now };
+
+    ghost gives = { λ future. F.gives future.now };
+
+    fn poll(&mut self, cx: &Context<W>) -> Poll<F::Output> {
+        (**self).poll(cx)
+    }
+}
