@@ -8,4 +8,6 @@
 #![tactic(auto)]
 
 pub mod future;
+pub mod parking;
 pub mod run_queue;
+pub mod runtime;

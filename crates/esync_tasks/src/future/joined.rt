@@ -1,5 +1,5 @@
 // Two futures of which both are waited for.
-ghost use Rattle.std.specs.Prelude.{◌≡◌, MatchBool};
+ghost use Rattle.std.specs.Prelude.{◌≡◌, ◌↔◌, IsTrue};
 ghost use Rattle.esync_tasks.specs.Joined.{CanAdvance, MayGive, IsReady};
 
 use crate::future::Future;
@@ -17,14 +17,14 @@ pub enum Half<A, X> {
 
 impl<A, X> Half<A, X> {
     // Polls the future, unless its output is there. Says whether it is now.
-    fn advance<W>(&mut self, cx: &Context<W>) -> bool
+    pub(crate) fn advance<W>(&mut self, cx: &Context<W>) -> bool
     where
         A: Future<W, Output = X>,
         X: Drop,
         requires { CanAdvance A.can_poll self.old }
         ensures again { CanAdvance A.can_poll self.new }
         ensures same { (output : _) → MayGive A.gives self.new output → MayGive A.gives self.old output }
-        ensures ready { MatchBool result (IsReady self.new) (Unit {0}) }
+        ensures ready { IsTrue result ↔ IsReady self.new }
     {
         let Half::Waits(future) = self else {
             return true;
@@ -41,7 +41,7 @@ impl<A, X> Half<A, X> {
 
 impl<A: Drop, X: Drop> Half<A, X> {
     // The output, which is there.
-    fn take(&mut self) -> X
+    pub(crate) fn take(&mut self) -> X
         requires { IsReady self.old }
         ensures output { self.old ≡ Half.Ready result }
         ensures taken { self.new ≡ Half.Taken }

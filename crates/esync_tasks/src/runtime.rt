@@ -1,0 +1,296 @@
+//! Tasks that are polled when they were woken, on one thread or on several.
+ghost use Rattle.std.specs.Prelude.{◌≡◌, ◌+◌, ◌<◌, ◌≤◌, ◌^◌, [], All, IfOk, IfErr, IfSome, vec_len, vec_capacity};
+ghost use Rattle.esync_tasks.specs.Refused.{tasks_of};
+ghost use Rattle.esync_base.specs.Room.{WakesFitInMemory};
+
+mod slot;
+
+use crate::future::Future;
+use crate::run_queue::RunQueue;
+use esync_base::waitqueue::{Context, Hand, TaskId};
+use slot::{Slot, slots_of};
+use std::alloc::Global;
+use std::fmt::Debug;
+use std::marker::Model;
+use std::sync::{Condvar, Mutex, Wait};
+use std::thread::{self, Threads};
+use thiserror::Error;
+
+/// Why tasks weren't run. They come back, and none of them was polled.
+#[derive(Clone, Copy, Debug, PartialEq, Eq, Error)]
+#[error_bound(T: Debug)]
+pub enum RunError<T> {
+    /// Another run of this runtime isn't over.
+    #[error("the runtime runs other tasks")]
+    Busy(T),
+    /// There was no memory for what the tasks give.
+    #[error("there was no memory for the tasks")]
+    NoMemory(T),
+}
+
+impl<T> RunError<T> {
+    /// The tasks that came back.
+    pub fn into_tasks(self) -> T
+        ensures { result ≡ tasks_of self }
+    {
+        match self {
+            RunError::Busy(tasks) | RunError::NoMemory(tasks) => tasks,
+        }
+    }
+}
+
+// Where the tasks of a run stand, and whether there is a run.
+#[derive(Drop)]
+struct Board<const N: usize> {
+    queue: RunQueue<N>,
+    is_busy: bool,
+}
+
+impl<const N: usize> Board<N> {
+    // Begins a run, unless there is one.
+    fn begin(&mut self) -> bool {
+        if self.is_busy {
+            return false;
+        }
+        self.queue = RunQueue::new();
+        self.is_busy = true;
+        true
+    }
+
+    // Ends the turn of a task, and the task if it is over. Says whether it was the last.
+    fn settle(&mut self, task: usize, is_over: bool) -> bool {
+        // Another thread might have had the board meanwhile, so that no clause says that the task still has its turn.
+        if !self.queue.is_running(task) {
+            return false;
+        }
+        if !is_over {
+            self.queue.rest(task);
+            return false;
+        }
+        self.queue.end(task);
+        self.queue.is_over()
+    }
+}
+
+/// Runs `N` tasks at a time. Task `k` of a run polls with the waker `TaskId(k)`, or `TaskId(at + k)` behind other tasks.
+///
+/// A reference to it is the hand of the shared forms that the tasks use. A waker that names no task wakes nobody, and so does
+/// one of an earlier run.
+#[derive(Drop)]
+pub struct Runtime<'a, R, const N: usize> {
+    rt: &'a R,
+    at: u64,
+    board: Mutex<Board<N>>,
+    ring: Condvar,
+}
+
+impl<'a, R, const N: usize> Model for Runtime<'a, R, N> {
+    ghost use Rattle.std.specs.Prelude.{ℕ, ◌+◌, ◌<◌, ◌^◌};
+    ghost use Rattle.std.specs.Coded.{coded_ℕ};
+
+    ghost Value = { ℕ };
+
+    ghost coded = { coded_ℕ };
+
+    ghost view = { λ a. a.at };
+
+    ghost invariant = { λ a. a.at + N < 2 ^ 64 };
+}
+
+impl<'a, R, const N: usize> Runtime<'a, R, N> {
+    /// It runs nothing yet.
+    pub fn new(rt: &'a R) -> Self
+        ensures { result ≡ 0 }
+    {
+        Runtime::behind(rt, 0)
+    }
+
+    /// Its tasks stand behind `at` others, as the second of a `Split`: task `k` polls with the waker `TaskId(at + k)`.
+    pub fn behind(rt: &'a R, at: u64) -> Self
+        requires { at + N < 2 ^ 64 }
+        ensures { result ≡ at }
+    {
+        Runtime {
+            rt,
+            at,
+            board: Mutex::new(Board {
+                queue: RunQueue::new(),
+                is_busy: false,
+            }),
+            ring: Condvar::new(),
+        }
+    }
+
+    // What a task of a run polls with.
+    fn context(&self, task: usize) -> Context<TaskId>
+        requires { task < N }
+        ensures { result ≡ record { 0 = self.now + task } }
+    {
+        Context::from_waker(TaskId(self.at + task as u64))
+    }
+}
+
+/// Wakes the task of this number. One that has its turn gets another.
+impl<R: Wait, const N: usize> Hand<TaskId> for &Runtime<'_, R, N> {
+    type Rt = R;
+
+    fn rt(&self) -> &R {
+        self.rt
+    }
+
+    fn wake(&self, task: TaskId) {
+        let is_queued = self.board.lock(self.rt).queue.wake(task.0 as usize);
+        if is_queued {
+            self.ring.notify_one();
+        }
+    }
+}
+
+impl<R: Wait, const N: usize> Runtime<'_, R, N> {
+    // The task that is first in the queue, or `None` once all are over. It sleeps while there is none.
+    fn next(&self) -> Option<usize>
+        ensures { IfSome result (λ task. task < N) }
+    {
+        let mut board = self.board.lock(self.rt);
+        for _ in self.rt.forever() {
+            if board.queue.is_over() {
+                return None;
+            }
+            let task = board.queue.take();
+            if task.is_some() {
+                return task;
+            }
+            board = self.ring.wait(self.rt, board);
+        }
+        unreachable!()
+    }
+
+    // A turn of this task.
+    fn turn<F: Future<TaskId, Output: Drop>>(&self, slot: &Mutex<Slot<F, F::Output>>, task: usize)
+        requires { task < N }
+    {
+        let is_over = slot.lock(self.rt).poll(&self.context(task));
+        let is_last = self.board.lock(self.rt).settle(task, is_over);
+        if is_last {
+            self.ring.notify_all();
+        }
+    }
+
+    // Gives turns until all tasks are over.
+    fn work<F: Future<TaskId, Output: Drop>>(&self, slots: &Vec<Mutex<Slot<F, F::Output>>>)
+        requires { vec_len slots.now ≡ N }
+    {
+        for _ in self.rt.forever() {
+            let Some(task) = self.next() else {
+                return;
+            };
+            self.turn(&slots[task], task);
+        }
+    }
+
+    // What the tasks gave, in order. All are over by now. No clause carries that out of the locks, so it polls one that isn't.
+    fn outputs<F: Future<TaskId, Output: Drop>>(
+        &self,
+        slots: Vec<Mutex<Slot<F, F::Output>>>,
+        room: Vec<F::Output>,
+    ) -> Vec<F::Output>
+        requires count { vec_len slots ≡ N }
+        requires empty { room.items ≡ [] }
+        requires room { N ≤ vec_capacity room }
+        ensures { vec_len result ≡ N }
+    {
+        let mut outputs = room;
+        for slot in slots {
+            let cx = self.context(outputs.len());
+            let _ = outputs.push(slot.into_inner().output(self.rt, &cx));
+        }
+        outputs
+    }
+
+    // Begins a run of these tasks, with room for what they give.
+    fn begin<F: Future<TaskId, Output: Drop>>(
+        &self,
+        alloc: Global,
+        tasks: [F; N],
+    ) -> Result<(Vec<Mutex<Slot<F, F::Output>>>, Vec<F::Output>), RunError<[F; N]>>
+        requires { All F.can_poll tasks }
+        ensures count { IfOk result (λ begun. vec_len begun.0 ≡ N) }
+        ensures empty { IfOk result (λ begun. begun.1.items ≡ []) }
+        ensures room { IfOk result (λ begun. N ≤ vec_capacity begun.1) }
+        ensures returned { IfErr result (λ error. tasks_of error ≡ tasks) }
+    {
+        if !self.board.lock(self.rt).begin() {
+            return Err(RunError::Busy(tasks));
+        }
+        let Ok(room) = Vec::with_capacity(alloc, N) else {
+            self.end();
+            return Err(RunError::NoMemory(tasks));
+        };
+        match slots_of(alloc, tasks) {
+            Ok(slots) => Ok((slots, room)),
+            Err(tasks) => {
+                self.end();
+                Err(RunError::NoMemory(tasks))
+            }
+        }
+    }
+
+    // Ends a run.
+    fn end(&self) {
+        self.board.lock(self.rt).is_busy = false;
+    }
+
+    /// Runs the tasks on this thread, until all are over, and gives what each of them gave, in order.
+    ///
+    /// A task is polled once at first, and then only when it was woken. The board's lock isn't held meanwhile.
+    ///
+    /// # Errors
+    ///
+    /// `Busy` where another run isn't over, and `NoMemory` where there is no memory: no task was polled, and all come back.
+    pub fn run<F: Future<TaskId, Output: Drop>>(
+        &self,
+        alloc: Global,
+        tasks: [F; N],
+    ) -> Result<Vec<F::Output>, RunError<[F; N]>>
+        requires { All F.can_poll tasks }
+        ensures count { IfOk result (λ outputs. vec_len outputs ≡ N) }
+        ensures returned { IfErr result (λ error. tasks_of error ≡ tasks) }
+    {
+        let (slots, room) = self.begin(alloc, tasks)?;
+        self.work(&slots);
+        let outputs = self.outputs(slots, room);
+        self.end();
+        Ok(outputs)
+    }
+}
+
+impl<R: Wait + Sync, const N: usize> Runtime<'_, R, N> {
+    /// Runs the tasks on so many threads, as `run` does on one. No two threads poll one task at a time.
+    ///
+    /// Where a thread can't be made, fewer threads run the tasks, and at least this one does.
+    ///
+    /// # Errors
+    ///
+    /// `Busy` where another run isn't over, and `NoMemory` where there is no memory: no task was polled, and all come back.
+    pub fn run_on<T: Threads + Sync, F: Future<TaskId, Output: Drop + Send> + Send>(
+        &self,
+        rt: &T,
+        alloc: Global,
+        threads: usize,
+        tasks: [F; N],
+    ) -> Result<Vec<F::Output>, RunError<[F; N]>>
+        requires { All F.can_poll tasks }
+        ensures count { IfOk result (λ outputs. vec_len outputs ≡ N) }
+        ensures returned { IfErr result (λ error. tasks_of error ≡ tasks) }
+    {
+        let (slots, room) = self.begin(alloc, tasks)?;
+        let work = |_thread: usize|
+            requires { vec_len slots ≡ N }
+        { self.work(&slots) };
+        let _ = thread::map_indices(rt, alloc, threads, &work);
+        self.work(&slots);
+        let outputs = self.outputs(slots, room);
+        self.end();
+        Ok(outputs)
+    }
+}

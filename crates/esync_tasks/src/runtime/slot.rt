@@ -1,0 +1,82 @@
+// A task of a run, and what it gave.
+ghost use Rattle.std.specs.Prelude.{◌≡◌, ◌↔◌, IsTrue, IfOk, IfErr, All, vec_len};
+ghost use Rattle.esync_tasks.specs.Joined.{IsReady, MayGive};
+
+use crate::future::{Future, Half};
+use esync_base::waitqueue::{Context, TaskId};
+use std::alloc::Global;
+use std::marker::Model;
+use std::sync::{Mutex, Wait};
+
+/// A task, or what it gave once it is over. It can always be polled.
+#[derive(Drop)]
+pub(crate) struct Slot<F: Future<TaskId>, X> {
+    half: Half<F, X>,
+}
+
+impl<F: Future<TaskId>, X> Model for Slot<F, X> {
+    ghost use Rattle.esync_tasks.specs.declared.future.joined.Half.{Half};
+    ghost use Rattle.esync_tasks.specs.Joined.{CanAdvance};
+
+    ghost Value = { Half F X };
+
+    ghost view = { λ a. a.half };
+
+    ghost invariant = { λ a. CanAdvance F.can_poll a.half };
+}
+
+impl<F: Future<TaskId, Output: Drop>> Slot<F, F::Output> {
+    /// The task is still to be polled.
+    pub(crate) fn new(task: F) -> Self
+        requires { F.can_poll task }
+        ensures { result ≡ Half.Waits task }
+    {
+        Slot {
+            half: Half::Waits(task),
+        }
+    }
+
+    /// Polls the task, unless it is over. Says whether it is now.
+    pub(crate) fn poll(&mut self, cx: &Context<TaskId>) -> bool
+        ensures ready { IsTrue result ↔ IsReady self.new }
+        ensures same { (output : _) → MayGive F.gives self.new output → MayGive F.gives self.old output }
+    {
+        self.half.advance(cx)
+    }
+
+    /// What the task gave. One that isn't over is polled until it is.
+    pub(crate) fn output<R: Wait>(self, rt: &R, cx: &Context<TaskId>) -> F::Output
+        ensures { MayGive F.gives self result }
+    {
+        let Slot { half } = self;
+        let mut half = half;
+        for _ in rt.forever() {
+            if half.advance(cx) {
+                return half.take();
+            }
+        }
+        unreachable!()
+    }
+}
+
+/// The tasks of a run, each under a lock of its own, or the tasks where there is no memory.
+pub(crate) fn slots_of<F: Future<TaskId, Output: Drop>, const N: usize>(
+    alloc: Global,
+    tasks: [F; N],
+) -> Result<Vec<Mutex<Slot<F, F::Output>>>, [F; N]>
+    requires { All F.can_poll tasks }
+    ensures count { IfOk result (λ slots. vec_len slots ≡ N) }
+    ensures returned { IfErr result (λ back. back ≡ tasks) }
+{
+    let Ok(mut slots) = Vec::with_capacity(alloc, N) else {
+        return Err(tasks);
+    };
+    let tasks = match Vec::from_array(alloc, tasks) {
+        Ok(tasks) => tasks,
+        Err(refused) => return Err(refused.value),
+    };
+    for task in tasks {
+        let _ = slots.push(Mutex::new(Slot::new(task)));
+    }
+    Ok(slots)
+}
