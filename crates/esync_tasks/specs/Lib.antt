@@ -1,3 +1,4 @@
+pub mod Answered
 pub mod Counted
 pub mod Joined
 pub mod Polled

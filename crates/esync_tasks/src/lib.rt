@@ -7,6 +7,7 @@
 //! only tested.
 #![tactic(auto)]
 
+pub mod forms;
 pub mod future;
 pub mod parking;
 pub mod run_queue;

@@ -1,15 +1,31 @@
-// Two futures of which one is waited for.
-ghost use Rattle.esync_tasks.specs.Selected.{Gives};
+// Two futures of which one is waited for, and a future of one of two kinds.
+ghost use Rattle.esync_tasks.specs.Selected.{Gives, IsEither, EitherGives};
 
 use crate::future::Future;
 use esync_base::waitqueue::{Context, Poll};
 use std::marker::Model;
 
-/// What one of two gave.
+/// One of two: what the one that was ready gave, or a task of one of two kinds.
 #[derive(Clone, Copy, Debug, PartialEq, Eq)]
 pub enum Either<A, B> {
     First(A),
     Second(B),
+}
+
+/// The future that it is.
+impl<W, X, A: Future<W, Output = X>, B: Future<W, Output = X>> Future<W> for Either<A, B> {
+    type Output = X;
+
+    ghost can_poll = { IsEither A.can_poll B.can_poll };
+
+    ghost gives = { EitherGives A.gives B.gives };
+
+    fn poll(&mut self, cx: &Context<W>) -> Poll<X> {
+        match self {
+            Either::First(future) => future.poll(cx),
+            Either::Second(future) => future.poll(cx),
+        }
+    }
 }
 
 /// Two futures as one, which gives the output that is there first: what `select` gives.

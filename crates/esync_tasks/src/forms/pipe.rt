@@ -1,0 +1,84 @@
+// The futures of pipes, and of what is used as any pipe.
+ghost use Rattle.std.specs.Prelude.{◌≤◌, IsSome, length};
+ghost use Rattle.esync_tasks.specs.Polled.{IfReady, OnPending};
+
+use crate::future::Future;
+use esync_base::waitqueue::{Context, Hand, Poll, TaskId};
+use esync_pipe::pipe::{
+    ByteState, DynamicFillBufFuture, DynamicPipe, DynamicReadFuture, DynamicWriteFuture,
+    FillBufFuture, ReadFuture, WriteAllFuture, WriteFuture,
+};
+
+/// Gives how many of the bytes were written.
+impl<S: ByteState<Waker = W>, W: Copy + Eq, H: Hand<W>> Future<W> for WriteFuture<'_, S, W, H> {
+    type Output = usize;
+
+    ghost gives = { λ from count. count ≤ length from };
+
+    fn poll(&mut self, cx: &Context<W>) -> Poll<usize> {
+        WriteFuture::poll(self, cx)
+    }
+}
+
+/// It may be polled until all bytes are written.
+impl<S: ByteState<Waker = W>, W: Copy + Eq, H: Hand<W>> Future<W> for WriteAllFuture<'_, S, W, H> {
+    type Output = ();
+
+    ghost can_poll = { λ rest. IsSome rest };
+
+    fn poll(&mut self, cx: &Context<W>) -> Poll<()> {
+        WriteAllFuture::poll(self, cx)
+    }
+}
+
+/// Gives how many bytes were read.
+impl<S: ByteState<Waker = W>, W: Copy + Eq, H: Hand<W>> Future<W> for ReadFuture<'_, '_, S, W, H> {
+    type Output = usize;
+
+    ghost gives = { λ to count. count ≤ length to };
+
+    fn poll(&mut self, cx: &Context<W>) -> Poll<usize> {
+        ReadFuture::poll(self, cx)
+    }
+}
+
+/// Gives nothing: the reader shows the bytes by `filled`.
+impl<S: ByteState<Waker = W>, W: Copy + Eq, H: Hand<W>> Future<W>
+    for FillBufFuture<'_, '_, S, W, H> {
+    type Output = ();
+
+    fn poll(&mut self, cx: &Context<W>) -> Poll<()> {
+        FillBufFuture::poll(self, cx)
+    }
+}
+
+/// Gives how many of the bytes were written.
+impl<P: DynamicPipe> Future<TaskId> for DynamicWriteFuture<'_, P> {
+    type Output = usize;
+
+    ghost gives = { λ from count. count ≤ length from };
+
+    fn poll(&mut self, cx: &Context<TaskId>) -> Poll<usize> {
+        DynamicWriteFuture::poll(self, cx)
+    }
+}
+
+/// Gives how many bytes were read.
+impl<P: DynamicPipe> Future<TaskId> for DynamicReadFuture<'_, '_, P> {
+    type Output = usize;
+
+    ghost gives = { λ to count. count ≤ length to };
+
+    fn poll(&mut self, cx: &Context<TaskId>) -> Poll<usize> {
+        DynamicReadFuture::poll(self, cx)
+    }
+}
+
+/// Gives nothing: the reader shows the bytes by `filled`.
+impl<P: DynamicPipe> Future<TaskId> for DynamicFillBufFuture<'_, P> {
+    type Output = ();
+
+    fn poll(&mut self, cx: &Context<TaskId>) -> Poll<()> {
+        DynamicFillBufFuture::poll(self, cx)
+    }
+}

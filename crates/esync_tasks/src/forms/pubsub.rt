@@ -1,0 +1,41 @@
+// The futures of publishers and subscribers.
+ghost use Rattle.std.specs.Prelude.{IsSome};
+ghost use Rattle.esync_tasks.specs.Polled.{IfReady, OnPending};
+
+use super::ready_or_refused;
+use crate::future::Future;
+use esync_base::waitqueue::{Context, Poll};
+use esync_pubsub::pubsub::{
+    Exhausted, NextMessagePure, PubSubBehavior, PublisherWaitFuture, SubscriberWaitFuture,
+    WaitResult,
+};
+use std::alloc::AllocError;
+
+/// It may be polled until the message is published, or comes back.
+impl<B: PubSubBehavior> Future<B::Waker> for PublisherWaitFuture<'_, B> {
+    type Output = Result<(), Exhausted<B::Message>>;
+
+    ghost can_poll = { λ message. IsSome message };
+
+    fn poll(&mut self, cx: &Context<B::Waker>) -> Poll<Result<(), Exhausted<B::Message>>> {
+        PublisherWaitFuture::poll(self, cx)
+    }
+}
+
+/// Gives what the subscriber reads next, or the error where there was no memory for a clone.
+impl<B: PubSubBehavior> Future<B::Waker> for SubscriberWaitFuture<'_, '_, B> {
+    type Output = Result<WaitResult<B::Message>, AllocError>;
+
+    fn poll(&mut self, cx: &Context<B::Waker>) -> Poll<Result<WaitResult<B::Message>, AllocError>> {
+        ready_or_refused(SubscriberWaitFuture::poll(self, cx))
+    }
+}
+
+/// Gives the message that the subscriber reads next, or the error where there was no memory for a clone.
+impl<B: PubSubBehavior> Future<B::Waker> for NextMessagePure<'_, '_, B> {
+    type Output = Result<B::Message, AllocError>;
+
+    fn poll(&mut self, cx: &Context<B::Waker>) -> Poll<Result<B::Message, AllocError>> {
+        ready_or_refused(NextMessagePure::poll(self, cx))
+    }
+}
