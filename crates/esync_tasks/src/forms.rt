@@ -13,6 +13,7 @@ mod pubsub;
 mod zerocopy;
 
 use esync_base::waitqueue::Poll;
+pub use permits::Permits;
 use std::alloc::AllocError;
 
 // A poll that may find no memory, as one that is ready with the error.
