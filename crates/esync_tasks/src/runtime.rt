@@ -1,6 +1,8 @@
 //! Tasks that are polled when they were woken, on one thread or on several.
-ghost use Rattle.std.specs.Prelude.{◌≡◌, ◌+◌, ◌<◌, ◌≤◌, ◌^◌, [], All, IfOk, IfErr, IfSome, vec_len, vec_capacity};
+ghost use Rattle.std.specs.Prelude.{◌≡◌, ◌↔◌, IsTrue, true, false, ◌+◌, ◌<◌, ◌≤◌, ◌^◌, [], All, IfOk, IfErr, IfSome, vec_len, vec_capacity};
+ghost use Rattle.std.specs.Bool.{OnTrue, OnFalse};
 ghost use Rattle.esync_tasks.specs.Refused.{tasks_of};
+ghost use Rattle.esync_tasks.specs.RunQueue.{all_queued, rested, ended, IsRunning, HasEnded};
 ghost use Rattle.esync_base.specs.Room.{WakesFitInMemory};
 
 mod slot;
@@ -48,7 +50,12 @@ struct Board<const N: usize> {
 
 impl<const N: usize> Board<N> {
     // Begins a run, unless there is one.
-    fn begin(&mut self) -> bool {
+    fn begin(&mut self) -> bool
+        ensures free { IsTrue result ↔ (self.old.is_busy ≡ false) }
+        ensures begun { OnTrue result (self.new.queue ≡ all_queued N) }
+        ensures busy { self.new.is_busy ≡ true }
+        ensures refused { OnFalse result (self.new.queue ≡ self.old.queue) }
+    {
         if self.is_busy {
             return false;
         }
@@ -58,7 +65,12 @@ impl<const N: usize> Board<N> {
     }
 
     // Ends the turn of a task, and the task if it is over. Says whether it was the last.
-    fn settle(&mut self, task: usize, is_over: bool) -> bool {
+    fn settle(&mut self, task: usize, is_over: bool) -> bool
+        ensures ended { IsRunning self.old.queue task → is_over ≡ true → self.new.queue ≡ ended self.old.queue task }
+        ensures rested { IsRunning self.old.queue task → is_over ≡ false → self.new.queue ≡ rested self.old.queue task }
+        ensures last { IsRunning self.old.queue task → is_over ≡ true → IsTrue result ↔ All HasEnded self.new.queue.states }
+        ensures busy { self.new.is_busy ≡ self.old.is_busy }
+    {
         // Another thread might have had the board meanwhile, so that no clause says that the task still has its turn.
         if !self.queue.is_running(task) {
             return false;
