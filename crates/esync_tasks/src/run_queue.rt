@@ -145,6 +145,13 @@ impl<const N: usize> RunQueue<N> {
         Some(task)
     }
 
+    /// How many tasks wait for their turn.
+    pub fn len(&self) -> usize
+        ensures { result ≡ length self.now.queue }
+    {
+        self.queue.len()
+    }
+
     /// The task has its turn.
     pub fn is_running(&self, task: usize) -> bool
         ensures { IsTrue result ↔ IsRunning self.now task }

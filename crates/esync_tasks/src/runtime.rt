@@ -1,14 +1,14 @@
 //! Tasks that are polled when they were woken, on one thread or on several.
-ghost use Rattle.std.specs.Prelude.{◌≡◌, ◌↔◌, IsTrue, true, false, ◌+◌, ◌<◌, ◌≤◌, ◌^◌, [], All, IfOk, IfErr, IfSome, vec_len, vec_capacity};
+ghost use Rattle.std.specs.Prelude.{◌≡◌, ◌↔◌, slice_get, Some, IsTrue, true, false, ◌+◌, ◌<◌, ◌≤◌, ◌^◌, [], All, IfOk, IfErr, IfSome, vec_len, vec_capacity};
 ghost use Rattle.std.specs.Bool.{OnTrue, OnFalse};
 ghost use Rattle.esync_tasks.specs.Refused.{tasks_of};
-ghost use Rattle.esync_tasks.specs.RunQueue.{all_queued, rested, ended, IsRunning, HasEnded};
+ghost use Rattle.esync_tasks.specs.RunQueue.{all_queued, woken, rested, ended, IsRunning, HasEnded};
 ghost use Rattle.esync_base.specs.Room.{WakesFitInMemory};
 
 mod slot;
 
 use crate::future::Future;
-use crate::run_queue::RunQueue;
+use crate::run_queue::{RunQueue, TaskState};
 use esync_base::waitqueue::{Context, Hand, TaskId};
 use slot::{Slot, slots_of};
 use std::alloc::Global;
@@ -46,6 +46,8 @@ impl<T> RunError<T> {
 struct Board<const N: usize> {
     queue: RunQueue<N>,
     is_busy: bool,
+    // How many of its threads aren't asleep. No clause speaks of it.
+    awake: usize,
 }
 
 impl<const N: usize> Board<N> {
@@ -61,7 +63,32 @@ impl<const N: usize> Board<N> {
         }
         self.queue = RunQueue::new();
         self.is_busy = true;
+        self.awake = 0;
         true
+    }
+
+    // Wakes a task. Says whether a thread that sleeps has to be called: a thread that is awake takes a task that is alone in the
+    // queue as soon as its own turn is over.
+    fn wake(&mut self, task: usize) -> bool
+        ensures woken { self.new.queue ≡ woken self.old.queue task }
+        ensures busy { self.new.is_busy ≡ self.old.is_busy }
+        ensures called { IsTrue result → slice_get self.old.queue.states task ≡ Some TaskState.Resting }
+        ensures alone { slice_get self.old.queue.states task ≡ Some TaskState.Resting → self.old.awake ≡ 0 → IsTrue result }
+    {
+        let is_queued = self.queue.wake(task);
+        is_queued && (self.awake == 0 || self.queue.len() > 1)
+    }
+
+    // A thread comes to be awake, or falls asleep.
+    fn count(&mut self, is_awake: bool)
+        ensures queue { self.new.queue ≡ self.old.queue }
+        ensures busy { self.new.is_busy ≡ self.old.is_busy }
+    {
+        self.awake = if is_awake {
+            self.awake.saturating_add(1)
+        } else {
+            self.awake.saturating_sub(1)
+        };
     }
 
     // Ends the turn of a task, and the task if it is over. Says whether it was the last.
@@ -128,6 +155,7 @@ impl<'a, R, const N: usize> Runtime<'a, R, N> {
             board: Mutex::new(Board {
                 queue: RunQueue::new(),
                 is_busy: false,
+                awake: 0,
             }),
             ring: Condvar::new(),
         }
@@ -151,8 +179,8 @@ impl<R: Wait, const N: usize> Hand<TaskId> for &Runtime<'_, R, N> {
     }
 
     fn wake(&self, task: TaskId) {
-        let is_queued = self.board.lock(self.rt).queue.wake(task.0 as usize);
-        if is_queued {
+        let is_called = self.board.lock(self.rt).wake(task.0 as usize);
+        if is_called {
             self.ring.notify_one();
         }
     }
@@ -166,13 +194,16 @@ impl<R: Wait, const N: usize> Runtime<'_, R, N> {
         let mut board = self.board.lock(self.rt);
         for _ in self.rt.forever() {
             if board.queue.is_over() {
+                board.count(false);
                 return None;
             }
             let task = board.queue.take();
             if task.is_some() {
                 return task;
             }
+            board.count(false);
             board = self.ring.wait(self.rt, board);
+            board.count(true);
         }
         unreachable!()
     }
@@ -192,6 +223,7 @@ impl<R: Wait, const N: usize> Runtime<'_, R, N> {
     fn work<F: Future<TaskId, Output: Drop>>(&self, slots: &Vec<Mutex<Slot<F, F::Output>>>)
         requires { vec_len slots.now ≡ N }
     {
+        self.board.lock(self.rt).count(true);
         for _ in self.rt.forever() {
             let Some(task) = self.next() else {
                 return;
@@ -278,6 +310,9 @@ impl<R: Wait, const N: usize> Runtime<'_, R, N> {
 
 impl<R: Wait + Sync, const N: usize> Runtime<'_, R, N> {
     /// Runs the tasks on so many threads, as `run` does on one. No two threads poll one task at a time.
+    ///
+    /// A thread that sleeps is called where two tasks wait for their turn, or where no thread is awake. So a poll that takes long
+    /// can keep one other task waiting that was woken meanwhile.
     ///
     /// Where a thread can't be made, fewer threads run the tasks, and at least this one does.
     ///
