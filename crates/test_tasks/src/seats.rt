@@ -7,6 +7,9 @@ use esync_permits::semaphore::FairSemaphore;
 use esync_tasks::future::{Either, Future, join, select};
 use esync_tasks::parking::{Parking, Seat, Split};
 use std::sync::Wait;
+use std::sync::atomic::{AtomicBool, Ordering};
+use std::thread;
+use std::time::{Clock, Duration};
 
 #[test]
 fn a_seat_is_taken_once(rt: HostRuntime) {
@@ -20,13 +23,42 @@ fn a_seat_is_taken_once(rt: HostRuntime) {
     holds!(rt; parking.seat(1).is_some());
 }
 
-// The thread would sleep for ever where one of the wakes were lost.
+// Blocks at seat 1 on a future that wakes the seat in each poll but the last, and says how often it was polled.
+fn yields_at<R: Wait>(parking: &Parking<'_, R, 2>, is_over: &AtomicBool) -> u64 {
+    let mut polls = 0;
+    if let Some(mut seat) = parking.seat(1) {
+        polls = seat.block_on(yielding(&parking, 100));
+    }
+    is_over.store(true, Ordering::SeqCst);
+    polls
+}
+
+// Looks for five seconds whether the other thread has ended, and wakes it from then on. Says whether it had to.
+fn rescues<R: Wait + Clock>(rt: &R, parking: &Parking<'_, R, 2>, is_over: &AtomicBool) -> bool {
+    for look in 0..10_000u32 {
+        if is_over.load(Ordering::SeqCst) {
+            return look > 5_000;
+        }
+        thread::sleep(rt, Duration::from_millis(1));
+        if look >= 5_000 {
+            parking.wake(TaskId(1));
+        }
+    }
+    true
+}
+
+// A thread that lost one of the wakes would sleep until another rescues it.
 #[test]
 fn a_wake_before_the_sleep_ends_it(rt: HostRuntime) {
     let parking: Parking<'_, HostRuntime, 2> = Parking::new(&rt);
-    let mut seat = parking.seat(1).expect(&rt, "the seat is free");
-    let hand = &parking;
-    same!(rt; seat.block_on(yielding(&hand, 100)), 101);
+    let is_over = AtomicBool::new(false);
+    let (polls, was_rescued) = thread::join(
+        &rt,
+        || yields_at(&parking, &is_over),
+        || rescues(&rt, &parking, &is_over),
+    );
+    same!(rt; polls, 101);
+    holds!(rt; !was_rescued);
 }
 
 #[test]
