@@ -60,7 +60,10 @@ struct Written {
 
 // What the tool writes, of a case whose first line has its words.
 fn written_by_tool<R: Files + Wait>(rt: &R, alloc: Global, case: &[u8]) -> anyhow::Result<Written> {
-    let at = case.iter().position(|byte| *byte == b'\n').unwrap_or(case.len());
+    let at = case
+        .iter()
+        .position(|byte| *byte == b'\n')
+        .unwrap_or(case.len());
     let (first, input) = case.split_at(at);
     let mut words = Vec::new(alloc);
     for word in str::from_utf8(first)?.split(' ') {
