@@ -46,7 +46,7 @@ impl<T> RunError<T> {
 struct Board<const N: usize> {
     queue: RunQueue<N>,
     is_busy: bool,
-    // How many of its threads aren't asleep. No clause speaks of it.
+    // How many of its threads aren't asleep. No clause says that the count is right.
     awake: usize,
 }
 
