@@ -5,7 +5,7 @@ ghost use Rattle.esync_base.specs.Registration.{registered, displaced};
 
 use crate::kept::Kept;
 pub use atomic_waker::{AtomicWaker, AtomicWakerState, GenericAtomicWaker};
-pub use multi_waker::MultiWakerRegistration;
+pub use multi_waker::{MultiWakerRegistration, WakerRegistrations};
 use std::alloc::AllocError;
 use std::fmt;
 use std::iter::FusedIterator;
@@ -282,6 +282,77 @@ impl<W: Copy, const K: usize> Wakes<W, K> {
         prove!(has_room);
         self.row.put(self.len, waker);
         self.len += 1;
+    }
+}
+
+/// A list of wakers with a fixed room, in which several tasks can be registered, whatever their number.
+pub trait WakerList: Copy {
+    type Waker: Copy + Eq;
+
+    ghost use Rattle.std.specs.Prelude.{ℕ, List};
+
+    /// How many wakers it has room for.
+    ghost room: { ℕ };
+
+    /// The wakers in it, in order.
+    ghost wakers: { Self → List Self.Waker };
+
+    /// An empty list.
+    fn new() -> Self
+        ensures { wakers result ≡ [] };
+
+    /// How many wakers it has room for.
+    fn room() -> usize
+        ensures { result ≡ room };
+
+    /// How many wakers are in it.
+    fn len(&self) -> usize
+        ensures value { result ≡ length (wakers self.now) }
+        ensures within { result ≤ room };
+
+    /// The waker behind the first `i` ones, if there is one.
+    fn get(&self, i: usize) -> Option<Self::Waker>
+        ensures { result ≡ slice_get (wakers self.now) i };
+
+    /// Appends a waker. There has to be room for it.
+    fn push(&mut self, waker: Self::Waker)
+        requires { length (wakers self.old) < room }
+        ensures { wakers self.new ≡ wakers self.old ++ waker ∷ [] };
+
+    /// Empties the list.
+    fn clear(&mut self)
+        ensures { wakers self.new ≡ [] };
+}
+
+impl<W: Copy + Eq, const N: usize> WakerList for Wakes<W, N> {
+    type Waker = W;
+
+    ghost room = { N };
+
+    ghost wakers = { λ list. list };
+
+    fn new() -> Self {
+        Wakes::new()
+    }
+
+    fn room() -> usize {
+        N
+    }
+
+    fn len(&self) -> usize {
+        Wakes::len(self)
+    }
+
+    fn get(&self, i: usize) -> Option<W> {
+        Wakes::get(self, i)
+    }
+
+    fn push(&mut self, waker: W) {
+        Wakes::push(self, waker)
+    }
+
+    fn clear(&mut self) {
+        Wakes::clear(self)
     }
 }
 

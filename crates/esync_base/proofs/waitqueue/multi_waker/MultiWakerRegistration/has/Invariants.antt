@@ -1,6 +1,0 @@
-use Rattle.std.proofs.Common.{◌≡◌, take, false}
-use Rattle.esync_base.specs.Registration.{among}
-use Rattle.esync_base.proofs.waitqueue.multi_waker.MultiWakerRegistration.has.Given as goal
-
-abbrev pub invariant-loop-i : goal.invariant-loop-i
-invariant-loop-i g l = among g.W.PartialEq.eq l.waker (take l.i l.self-inside.wakers) ≡ false

@@ -1,5 +1,0 @@
-use Rattle.std.proofs.Common.{◌≡◌, ◌++◌, take}
-use Rattle.esync_base.proofs.waitqueue.multi_waker.MultiWakerRegistration.wake.Given as goal
-
-abbrev pub invariant-loop-i : goal.invariant-loop-i
-invariant-loop-i g l = l.wakes ≡ l.initial.wakes ++ take l.i l.self-inside.wakers
