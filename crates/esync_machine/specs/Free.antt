@@ -1,7 +1,6 @@
 -- Which numbers of a table a start takes.
 use Rattle.std.specs.Prelude.{◌≡◌, ◌<◌, ℕ, Option, None}
 use Rattle.esync_machine.specs.declared.primitive.Answer.{Answer}
-use Rattle.esync_machine.specs.declared.primitive.Command.{Command}
 use Rattle.esync_machine.specs.declared.primitive.Command.TheVariants.{Start}
 use Rattle.esync_machine.specs.Numbers.{at_number}
 use Rattle.esync_machine.specs.Rules.{Rules}

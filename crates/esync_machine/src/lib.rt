@@ -5,3 +5,4 @@ pub mod names;
 pub mod primitive;
 pub mod requests;
 pub mod run;
+mod table;
