@@ -3,7 +3,7 @@ use Rattle.std.proofs.Common.{◌≡◌, ℕ, zero, suc, ◌+◌, ◌-◌, ◌<�
 use Rattle.std.specs.Prelude.{map, slice_get, ◌↔◌, IsTrue, IsSome}
 use Rattle.std.specs.List.{remove}
 use Rattle.std.proofs.Math.ListN.{replicate}
-use Rattle.std.proofs.lemmas.List.{length-replicate, append-nil, get_or-set_other, replicate_more, take-append-drop, drop-replicate, take-replicate, replicate-append-replicate}
+use Rattle.std.proofs.lemmas.List.{length-replicate, append-nil, get_or-set_other, set-set, replicate_more, take-append-drop, drop-replicate, take-replicate, replicate-append-replicate}
 use Rattle.std.proofs.Math.Seq.{take-append_seam, drop-append_seam}
 use Rattle.std.proofs.lemmas.List.Edits.{length-remove}
 use Rattle.std.proofs.lemmas.List.{length_push}
@@ -43,11 +43,6 @@ new_ring n start h =
 
 pub same_ring : {A : Type 0} (r s : Ringed A) → r.items ≡ s.items → r.front ≡ s.front → r ≡ s
 same_ring r s e f = λ i. record { items = e i; front = f i }
-
-set-set : {X : Type 0} (xs : List X) (i : ℕ) (v w : X) → set (set xs i v) i w ≡ set xs i w
-set-set [] i v w = refl
-set-set (x ∷ xs) zero v w = refl
-set-set (x ∷ xs) (suc i) v w = ap (λ t. x ∷ t) (set-set xs i v w)
 
 pub set_or_not : {X : Type 0} (xs : List (Option X)) (i j : ℕ) → get_or xs j None ≡ None → get_or (set xs i None) j None ≡ None
 set_or_not [] i j h = h
