@@ -7,6 +7,7 @@ ghost use Rattle.esync_base.specs.Ring.{slot};
 ghost use Rattle.esync_base.specs.RingBuffer.{filled_run, free_run, begins, written};
 
 use crate::kept::Kept;
+use crate::store::ByteStore;
 use std::alloc::AllocError;
 use std::marker::Model;
 use std::ops::Range;
@@ -410,6 +411,44 @@ impl<const N: usize> ByteRing<N> {
         ensures front { self.new.front ≡ 0 }
     {
         self.ring.clear();
+    }
+}
+
+impl<const N: usize> ByteStore for ByteRing<N> {
+    ghost capacity = { N };
+
+    ghost ring = { λ r. r };
+
+    fn new() -> Self {
+        ByteRing::new()
+    }
+
+    fn len(&self) -> usize {
+        ByteRing::len(self)
+    }
+
+    fn capacity() -> usize {
+        N
+    }
+
+    fn write(&mut self, from: &[u8]) -> usize {
+        ByteRing::write(self, from)
+    }
+
+    fn read(&mut self, to: &mut [u8]) -> usize {
+        ByteRing::read(self, to)
+    }
+
+    fn filled(&self) -> &[u8] {
+        ByteRing::filled(self)
+    }
+
+    fn consume(&mut self, n: usize) {
+        ByteRing::consume(self, n)
+    }
+
+    fn clear(&mut self) {
+        ByteRing::clear(self)
     }
 }
 

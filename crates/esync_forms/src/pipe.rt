@@ -3,13 +3,14 @@ ghost use Rattle.std.specs.Prelude.{◌≡◌, ◌≤◌, IfOk, OnErr, length};
 
 use crate::form::{Door, Doors, Form, over, sizes};
 use bumpalo::Bump;
+use esync_base::store::ByteStore;
 use esync_base::waitqueue::{Context, Hand, Poll, TaskId};
 use esync_machine::primitive::{Answer, Turn};
 use esync_pipe::bytes::Bytes;
 use esync_pipe::pipe::machine::{PipeAsk, PipeCall, PipeHeard};
 use esync_pipe::pipe::{
-    ByteState, DynamicPipe, DynamicReader, DynamicWriteFuture, DynamicWriter, SharedPipe,
-    TryReadError, TryWriteError, WriteAllFuture, WriteFuture,
+    DynamicPipe, DynamicReader, DynamicWriteFuture, DynamicWriter, SharedPipe, TryReadError,
+    TryWriteError, WriteAllFuture, WriteFuture,
 };
 
 // A row for the bytes of an answer.
@@ -20,12 +21,12 @@ type Few = Bytes<16>;
 
 /// A pipe that is split anew wherever one of its ends is called, and whose futures are made anew for each poll.
 #[derive(Drop)]
-pub struct Split<S, H> {
-    pipe: SharedPipe<S, u64, H>,
+pub struct Split<R: ByteStore, H> {
+    pipe: SharedPipe<R, u64, H>,
     doors: Doors,
 }
 
-impl<S: ByteState<Waker = u64>, H: Hand<u64> + Drop> Form for Split<S, H> {
+impl<R: ByteStore, H: Hand<u64> + Drop> Form for Split<R, H> {
     type Ask = PipeAsk<Few>;
 
     type Call = PipeCall<Few>;
@@ -81,9 +82,9 @@ impl<S: ByteState<Waker = u64>, H: Hand<u64> + Drop> Form for Split<S, H> {
     }
 }
 
-impl<S: ByteState<Waker = u64>, H: Hand<u64> + Drop> Split<S, H> {
+impl<R: ByteStore, H: Hand<u64> + Drop> Split<R, H> {
     /// This pipe, which is called by these ways.
-    pub fn new(pipe: SharedPipe<S, u64, H>, doors: Doors) -> Self {
+    pub fn new(pipe: SharedPipe<R, u64, H>, doors: Doors) -> Self {
         Split { pipe, doors }
     }
 
@@ -192,18 +193,18 @@ impl<S: ByteState<Waker = u64>, H: Hand<u64> + Drop> Split<S, H> {
 
 /// A pipe of tasks, as the ends of any pipe take it.
 #[derive_where(Clone, Copy)]
-pub struct Lent<'c, S, H> {
-    pipe: &'c SharedPipe<S, TaskId, H>,
+pub struct Lent<'c, R: ByteStore, H> {
+    pipe: &'c SharedPipe<R, TaskId, H>,
 }
 
-impl<'c, S: ByteState<Waker = TaskId>, H: Hand<TaskId>> Lent<'c, S, H> {
+impl<'c, R: ByteStore, H: Hand<TaskId>> Lent<'c, R, H> {
     /// This pipe.
-    pub fn new(pipe: &'c SharedPipe<S, TaskId, H>) -> Self {
+    pub fn new(pipe: &'c SharedPipe<R, TaskId, H>) -> Self {
         Lent { pipe }
     }
 }
 
-impl<S: ByteState<Waker = TaskId>, H: Hand<TaskId>> DynamicPipe for Lent<'_, S, H> {
+impl<R: ByteStore, H: Hand<TaskId>> DynamicPipe for Lent<'_, R, H> {
     fn capacity(&self) -> usize {
         DynamicPipe::capacity(self.pipe)
     }
@@ -234,33 +235,33 @@ impl<S: ByteState<Waker = TaskId>, H: Hand<TaskId>> DynamicPipe for Lent<'_, S, 
 
 /// A pipe whose futures that write stand at their numbers from poll to poll, and whose bytes are read by an end of any pipe.
 #[derive(Drop)]
-pub struct Lasting<'c, S, H> {
-    pipe: &'c SharedPipe<S, TaskId, H>,
+pub struct Lasting<'c, R: ByteStore, H> {
+    pipe: &'c SharedPipe<R, TaskId, H>,
     // The bytes that are to be written.
     written: &'c Bump,
-    writer: &'c DynamicWriter<Lent<'c, S, H>>,
-    reader: DynamicReader<Lent<'c, S, H>>,
+    writer: &'c DynamicWriter<Lent<'c, R, H>>,
+    reader: DynamicReader<Lent<'c, R, H>>,
     doors: Doors,
 }
 
 /// A future that writes, or what is read by a future that is made anew for each poll.
 #[derive(Drop)]
-pub enum Held<'c, S, H> {
-    Write(WriteFuture<'c, S, TaskId, H>),
-    DynWrite(DynamicWriteFuture<'c, Lent<'c, S, H>>),
-    WriteAll(WriteAllFuture<'c, S, TaskId, H>),
+pub enum Held<'c, R: ByteStore, H> {
+    Write(WriteFuture<'c, R, TaskId, H>),
+    DynWrite(DynamicWriteFuture<'c, Lent<'c, R, H>>),
+    WriteAll(WriteAllFuture<'c, R, TaskId, H>),
     Read(usize),
     Fill,
 }
 
-impl<'c, S: ByteState<Waker = TaskId>, H: Hand<TaskId>> Form for Lasting<'c, S, H> {
+impl<'c, R: ByteStore, H: Hand<TaskId>> Form for Lasting<'c, R, H> {
     type Ask = PipeAsk<Few>;
 
     type Call = PipeCall<Few>;
 
     type Heard = PipeHeard<Few>;
 
-    type Held = Held<'c, S, H>;
+    type Held = Held<'c, R, H>;
 
     fn begin(&mut self, ask: PipeAsk<Few>) -> Option<Self::Held> {
         match ask {
@@ -316,13 +317,13 @@ impl<'c, S: ByteState<Waker = TaskId>, H: Hand<TaskId>> Form for Lasting<'c, S, 
     }
 }
 
-impl<'c, S: ByteState<Waker = TaskId>, H: Hand<TaskId>> Lasting<'c, S, H> {
+impl<'c, R: ByteStore, H: Hand<TaskId>> Lasting<'c, R, H> {
     /// This pipe with these ends of it, which is called by these ways. The bytes that are to be written are kept here.
     pub fn new(
-        pipe: &'c SharedPipe<S, TaskId, H>,
+        pipe: &'c SharedPipe<R, TaskId, H>,
         written: &'c Bump,
-        writer: &'c DynamicWriter<Lent<'c, S, H>>,
-        reader: DynamicReader<Lent<'c, S, H>>,
+        writer: &'c DynamicWriter<Lent<'c, R, H>>,
+        reader: DynamicReader<Lent<'c, R, H>>,
         doors: Doors,
     ) -> Self {
         Lasting {
@@ -334,7 +335,7 @@ impl<'c, S: ByteState<Waker = TaskId>, H: Hand<TaskId>> Lasting<'c, S, H> {
         }
     }
 
-    fn write(&mut self, bytes: Few) -> Option<Held<'c, S, H>> {
+    fn write(&mut self, bytes: Few) -> Option<Held<'c, R, H>> {
         let from = kept(self.written, bytes)?;
         Some(match self.doors.next() {
             Door::Own => Held::Write(self.pipe.write(from)),
@@ -342,7 +343,7 @@ impl<'c, S: ByteState<Waker = TaskId>, H: Hand<TaskId>> Lasting<'c, S, H> {
         })
     }
 
-    fn write_all(&mut self, bytes: Few) -> Option<Held<'c, S, H>> {
+    fn write_all(&mut self, bytes: Few) -> Option<Held<'c, R, H>> {
         let from = kept(self.written, bytes)?;
         Some(Held::WriteAll(self.pipe.write_all(from)))
     }
@@ -403,26 +404,26 @@ impl<'c, S: ByteState<Waker = TaskId>, H: Hand<TaskId>> Lasting<'c, S, H> {
     }
 }
 
-fn write<'c, S: ByteState<Waker = TaskId>, H: Hand<TaskId>>(
-    mut future: WriteFuture<'c, S, TaskId, H>,
+fn write<'c, R: ByteStore, H: Hand<TaskId>>(
+    mut future: WriteFuture<'c, R, TaskId, H>,
     cx: &Context<TaskId>,
-) -> Turn<PipeHeard<Few>, Held<'c, S, H>> {
+) -> Turn<PipeHeard<Few>, Held<'c, R, H>> {
     let polled = future.poll(cx);
     is_written(polled, Held::Write(future))
 }
 
-fn dyn_write<'c, S: ByteState<Waker = TaskId>, H: Hand<TaskId>>(
-    mut future: DynamicWriteFuture<'c, Lent<'c, S, H>>,
+fn dyn_write<'c, R: ByteStore, H: Hand<TaskId>>(
+    mut future: DynamicWriteFuture<'c, Lent<'c, R, H>>,
     cx: &Context<TaskId>,
-) -> Turn<PipeHeard<Few>, Held<'c, S, H>> {
+) -> Turn<PipeHeard<Few>, Held<'c, R, H>> {
     let polled = future.poll(cx);
     is_written(polled, Held::DynWrite(future))
 }
 
-fn write_all<'c, S: ByteState<Waker = TaskId>, H: Hand<TaskId>>(
-    mut future: WriteAllFuture<'c, S, TaskId, H>,
+fn write_all<'c, R: ByteStore, H: Hand<TaskId>>(
+    mut future: WriteAllFuture<'c, R, TaskId, H>,
     cx: &Context<TaskId>,
-) -> Turn<PipeHeard<Few>, Held<'c, S, H>> {
+) -> Turn<PipeHeard<Few>, Held<'c, R, H>> {
     if future.is_finished() {
         return over();
     }
@@ -495,8 +496,8 @@ fn kept(written: &Bump, bytes: Few) -> Option<&[u8]> {
 }
 
 // How many bytes are held.
-fn len<S: ByteState<Waker = W>, W: Copy + Eq, H: Hand<W>>(
-    pipe: &SharedPipe<S, W, H>,
+fn len<R: ByteStore, W: Copy + Eq, H: Hand<W>>(
+    pipe: &SharedPipe<R, W, H>,
 ) -> Answer<PipeHeard<Few>> {
     let sizes = sizes!(pipe);
     sizes.checked(PipeHeard::Number(sizes.len))

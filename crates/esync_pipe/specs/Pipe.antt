@@ -123,21 +123,6 @@ module _ {W : Type 0} (eq : W → W → Bool) where
   abbrev pub wakes_of_write_all : Ringed ℕ → ℕ → ℕ → W → Slots W → List W
   wakes_of_write_all o k many w s = out_if (nat_lt 0 k && is_empty o) s.readers ++ displaced_if eq 1 s.writers (waker_if (nat_lt k many) w)
 
-  -- a write as one step: the bytes, who waits then, and the wakers that are handed out
-  abbrev pub Writing : ℕ → Piped W → List ℕ → Option W → Result ℕ TryWriteError → Piped W → List W → Type 0
-  Writing n p from w a p2 wakes =
-      Writes n p.ring from a p2.ring × (p2.slots ≡ slots_after_write p.ring w (is_ok a) p.slots) × (wakes ≡ wakes_of_write p.ring w (is_ok a) p.slots)
-
-  abbrev pub Reading : ℕ → Piped W → List ℕ → Option W → Result ℕ TryReadError → List ℕ → Piped W → List W → Type 0
-  Reading n p to w a to2 p2 wakes =
-      Reads n p.ring to a to2 p2.ring × (p2.slots ≡ slots_after_read n p.ring w (is_ok a) p.slots) × (wakes ≡ wakes_of_read n p.ring w (is_ok a) p.slots)
-
-  abbrev pub WritingAll : ℕ → Piped W → List ℕ → W → Poll (Unit {0}) → Piped W → Option (List ℕ) → List W → Type 0
-  WritingAll n p bytes w a p2 rest wakes =
-      WritesAll n p.ring bytes a p2.ring rest
-      × (p2.slots ≡ slots_after_write_all p.ring (puts n p.ring bytes) (length bytes) w p.slots)
-      × (wakes ≡ wakes_of_write_all p.ring (puts n p.ring bytes) (length bytes) w p.slots)
-
   -- a fill leaves the bytes
   abbrev pub Filling : Piped W → Option W → Bool → Piped W → List W → Type 0
   Filling p w ok p2 wakes = (p2 ≡ record { ring = p.ring; slots = slots_after_fill w ok p.slots }) × (wakes ≡ wakes_of_fill w ok p.slots)
@@ -148,7 +133,3 @@ Dropping n p k true p2 wakes =
     (p2 ≡ record { ring = without n p.ring k; slots = record p.slots { writers = left_if (nat_lt 0 k && is_full n p.ring) p.slots.writers } })
     × (wakes ≡ out_if (nat_lt 0 k && is_full n p.ring) p.slots.writers)
 Dropping n p k false p2 wakes = (p2 ≡ p) × (wakes ≡ [])
-
--- all bytes are dropped
-abbrev pub Clearing : {W : Type 0} → Piped W → Piped W → List W → Type 0
-Clearing p p2 wakes = (p2 ≡ record { ring = record { items = []; front = 0 }; slots = record p.slots { writers = [] } }) × (wakes ≡ p.slots.writers)

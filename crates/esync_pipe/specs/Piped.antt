@@ -21,7 +21,3 @@ piped_code {W} w =
     (λ p. (p.ring, (p.slots.readers, p.slots.writers)))
     (λ p. record { ring = p.0; slots = record { readers = p.1.0; writers = p.1.1 } })
     (λ _. refl)
-
--- no byte, and nobody who waits
-abbrev pub no_byte : {W : Type 0} → Piped W
-no_byte = record { ring = record { items = []; front = 0 }; slots = record { readers = []; writers = [] } }

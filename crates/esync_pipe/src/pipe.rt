@@ -13,9 +13,10 @@ pub use dynamic::{
 };
 use esync_base::kept::Kept;
 use esync_base::ring_buffer::ByteRing;
+use esync_base::store::ByteStore;
 use esync_base::waitqueue::{Context, Poll, Registered, WakerRegistration, Wakes};
 pub use shared::{
-    ByteState, Copied, FillBufFuture, Pipe, PipeReader, PipeWriter, ReadFuture, Reader, SharedPipe,
+    CopiedIn, FillBufFuture, Pipe, PipeReader, PipeWriter, ReadFuture, Reader, SharedPipe,
     WriteAllFuture, WriteFuture, Writer,
 };
 use std::alloc::AllocError;
@@ -42,28 +43,30 @@ pub enum TryWriteError {
     Full,
 }
 
-/// The state of a pipe of at most `N` bytes: the bytes, oldest first, and a waker each of who waits for bytes and of who waits for
-/// room.
+/// The state of a pipe of at most `N` bytes.
+pub type PipeState<W, const N: usize> = PipeOver<ByteRing<N>, W>;
+
+/// The state of a pipe: its bytes, oldest first, and a waker each of who waits for bytes and of who waits for room.
 #[derive(Debug, Drop)]
-pub struct PipeState<W, const N: usize> {
-    buffer: ByteRing<N>,
+pub struct PipeOver<R: ByteStore, W> {
+    buffer: R,
     read_waker: WakerRegistration<W>,
     write_waker: WakerRegistration<W>,
 }
 
-impl<W, const N: usize> Model for PipeState<W, N> {
+impl<R: ByteStore, W> Model for PipeOver<R, W> {
     ghost use Rattle.esync_pipe.specs.Piped.{Piped, piped_code};
 
     ghost Value = { Piped W };
 
     ghost coded = { piped_code W.code };
 
-    ghost view = { λ a. record { ring = a.buffer; slots = record { readers = a.read_waker; writers = a.write_waker } } };
+    ghost view = { λ a. record { ring = R.ring a.buffer; slots = record { readers = a.read_waker; writers = a.write_waker } } };
 }
 
-impl<W: Copy, const N: usize> Kept for PipeState<W, N> {
+impl<R: ByteStore + Kept, W: Copy> Kept for PipeOver<R, W> {
     fn kept(&self) -> Result<Self, AllocError> {
-        Ok(PipeState {
+        Ok(PipeOver {
             buffer: self.buffer.kept()?,
             read_waker: self.read_waker.kept()?,
             write_waker: self.write_waker.kept()?,
@@ -114,7 +117,7 @@ pub(crate) fn waker_of<W: Copy>(cx: Option<&Context<W>>) -> Option<W>
 }
 
 /// Who waits for bytes, and who waits for room.
-impl<W: Copy + Eq, const N: usize> Registered for PipeState<W, N> {
+impl<R: ByteStore, W: Copy + Eq> Registered for PipeOver<R, W> {
     type Waker = W;
 
     ghost use Rattle.esync_base.specs.Standing.{at_two};
@@ -130,12 +133,12 @@ impl<W: Copy + Eq, const N: usize> Registered for PipeState<W, N> {
     }
 }
 
-impl<W: Copy + Eq, const N: usize> PipeState<W, N> {
+impl<R: ByteStore, W: Copy + Eq> PipeOver<R, W> {
     ghost use Rattle.std.specs.Prelude.{◌≡◌, ◌<◌, ◌≤◌, ◌+◌, ◌++◌, [], Some, None, length, is_ok, IfOk, OnErr, ◌&&◌, nat_lt, take, ⊤, false};
     ghost use mathlib.Core.Option.{none};
     ghost use Rattle.std.specs.Borrow.{sem, follows_so};
     ghost use Rattle.esync_pipe.specs.Pipe.{Writes, Reads, shown, without, out_if, left_if, is_empty, is_full, slots_after_write, wakes_of_write, slots_after_read, wakes_of_read, slots_after_fill, wakes_of_fill, behind, puts, slots_after_write_all, wakes_of_write_all};
-    ghost use Rattle.esync_pipe.specs.contracts.pipe.PipeState.{the_row};
+    ghost use Rattle.esync_pipe.specs.contracts.pipe.PipeOver.{the_row};
 
     /// No byte, and nobody who waits.
     pub fn new() -> Self
@@ -144,8 +147,8 @@ impl<W: Copy + Eq, const N: usize> PipeState<W, N> {
         ensures readers { result.slots.readers ≡ [] }
         ensures writers { result.slots.writers ≡ [] }
     {
-        PipeState {
-            buffer: ByteRing::new(),
+        PipeOver {
+            buffer: R::new(),
             read_waker: WakerRegistration::new(),
             write_waker: WakerRegistration::new(),
         }
@@ -158,9 +161,9 @@ impl<W: Copy + Eq, const N: usize> PipeState<W, N> {
         wakes: &mut Wakes<W, K>,
     ) -> Result<usize, TryReadError>
         requires { length wakes.old < K }
-        ensures bytes { Reads N self.old.ring to.old result to.new self.new.ring }
-        ensures slots { self.new.slots ≡ slots_after_read W.eq N self.old.ring waker (is_ok result) self.old.slots }
-        ensures wakes { wakes.new ≡ wakes.old ++ wakes_of_read W.eq N self.old.ring waker (is_ok result) self.old.slots }
+        ensures bytes { Reads R.capacity self.old.ring to.old result to.new self.new.ring }
+        ensures slots { self.new.slots ≡ slots_after_read W.eq R.capacity self.old.ring waker (is_ok result) self.old.slots }
+        ensures wakes { wakes.new ≡ wakes.old ++ wakes_of_read W.eq R.capacity self.old.ring waker (is_ok result) self.old.slots }
     {
         if self.is_empty() {
             self.wait_for_bytes(waker, wakes);
@@ -180,9 +183,9 @@ impl<W: Copy + Eq, const N: usize> PipeState<W, N> {
         wakes: &mut Wakes<W, K>,
     ) -> Result<usize, TryReadError>
         requires { length wakes.old < K }
-        ensures bytes { Reads N self.old.ring to.old result to.new self.new.ring }
-        ensures slots { self.new.slots ≡ slots_after_read W.eq N self.old.ring None (is_ok result) self.old.slots }
-        ensures wakes { wakes.new ≡ wakes.old ++ wakes_of_read W.eq N self.old.ring None (is_ok result) self.old.slots }
+        ensures bytes { Reads R.capacity self.old.ring to.old result to.new self.new.ring }
+        ensures slots { self.new.slots ≡ slots_after_read W.eq R.capacity self.old.ring None (is_ok result) self.old.slots }
+        ensures wakes { wakes.new ≡ wakes.old ++ wakes_of_read W.eq R.capacity self.old.ring None (is_ok result) self.old.slots }
     {
         self.read(to, None, wakes)
     }
@@ -195,16 +198,16 @@ impl<W: Copy + Eq, const N: usize> PipeState<W, N> {
         wakes: &mut Wakes<W, K>,
     ) -> Result<usize, TryReadError>
         requires { length wakes.old < K }
-        ensures bytes { Reads N self.old.ring to.old result to.new self.new.ring }
-        ensures slots { self.new.slots ≡ slots_after_read W.eq N self.old.ring (option_copied cx.entry) (is_ok result) self.old.slots }
-        ensures wakes { wakes.new ≡ wakes.old ++ wakes_of_read W.eq N self.old.ring (option_copied cx.entry) (is_ok result) self.old.slots }
+        ensures bytes { Reads R.capacity self.old.ring to.old result to.new self.new.ring }
+        ensures slots { self.new.slots ≡ slots_after_read W.eq R.capacity self.old.ring (option_copied cx.entry) (is_ok result) self.old.slots }
+        ensures wakes { wakes.new ≡ wakes.old ++ wakes_of_read W.eq R.capacity self.old.ring (option_copied cx.entry) (is_ok result) self.old.slots }
     {
         self.read(to, waker_of(cx), wakes)
     }
 
     /// Shows the oldest bytes, as many as stand one behind the other. They stay, until `consume` drops them.
     pub fn try_fill_buf(&self) -> Result<&[u8], TryReadError>
-        ensures ok { IfOk result (λ bytes. (0 < length self.now.ring.items) × (bytes.now ≡ shown N self.now.ring)) }
+        ensures ok { IfOk result (λ bytes. (0 < length self.now.ring.items) × (bytes.now ≡ shown R.capacity self.now.ring)) }
         ensures some { IfOk result (λ bytes. 0 < length bytes.now) }
         ensures err { OnErr result (length self.now.ring.items ≡ 0) }
     {
@@ -221,8 +224,8 @@ impl<W: Copy + Eq, const N: usize> PipeState<W, N> {
         wakes: &mut Wakes<W, K>,
     ) -> Result<&[u8], TryReadError>
         requires { length wakes.old < K }
-        ensures* leaves { sem 𝓛 (follows_so (the_row W.row N.row) (the_row W.row N.row) self.entry.ghost_name none (λ _ _. ⊤) (λ v. v ≡ record { ring = self.old.ring; slots = slots_after_fill W.eq (option_copied cx.entry) (is_ok result) self.old.slots })) }
-        ensures ok { IfOk result (λ bytes. (0 < length self.old.ring.items) × (bytes.now ≡ shown N self.old.ring)) }
+        ensures* leaves { sem 𝓛 (follows_so (the_row R.row W.row R.ByteStore) (the_row R.row W.row R.ByteStore) self.entry.ghost_name none (λ _ _. ⊤) (λ v. v ≡ record { ring = self.old.ring; slots = slots_after_fill W.eq (option_copied cx.entry) (is_ok result) self.old.slots })) }
+        ensures ok { IfOk result (λ bytes. (0 < length self.old.ring.items) × (bytes.now ≡ shown R.capacity self.old.ring)) }
         ensures some { IfOk result (λ bytes. 0 < length bytes.now) }
         ensures err { OnErr result (length self.old.ring.items ≡ 0) }
         ensures wakes { wakes.new ≡ wakes.old ++ wakes_of_fill W.eq (option_copied cx.entry) (is_ok result) self.old.slots }
@@ -251,7 +254,7 @@ impl<W: Copy + Eq, const N: usize> PipeState<W, N> {
 
     // The oldest bytes, as many as stand one behind the other.
     pub(crate) fn shown(&self) -> &[u8]
-        ensures value { result.now ≡ shown N self.now.ring }
+        ensures value { result.now ≡ shown R.capacity self.now.ring }
         ensures some { 0 < length self.now.ring.items → 0 < length result.now }
     {
         self.buffer.filled()
@@ -261,10 +264,10 @@ impl<W: Copy + Eq, const N: usize> PipeState<W, N> {
     /// byte is dropped.
     pub fn consume<const K: usize>(&mut self, amt: usize, wakes: &mut Wakes<W, K>)
         requires room { length wakes.old < K }
-        requires shown { amt ≤ length (shown N self.old.ring) }
-        ensures bytes { self.new.ring ≡ without N self.old.ring amt }
-        ensures slots { self.new.slots ≡ record self.old.slots { writers = left_if (nat_lt 0 amt && is_full N self.old.ring) self.old.slots.writers } }
-        ensures wakes { wakes.new ≡ wakes.old ++ out_if (nat_lt 0 amt && is_full N self.old.ring) self.old.slots.writers }
+        requires shown { amt ≤ length (shown R.capacity self.old.ring) }
+        ensures bytes { self.new.ring ≡ without R.capacity self.old.ring amt }
+        ensures slots { self.new.slots ≡ record self.old.slots { writers = left_if (nat_lt 0 amt && is_full R.capacity self.old.ring) self.old.slots.writers } }
+        ensures wakes { wakes.new ≡ wakes.old ++ out_if (nat_lt 0 amt && is_full R.capacity self.old.ring) self.old.slots.writers }
     {
         let makes_room = amt > 0 && self.is_full();
         wake_if(makes_room, &mut self.write_waker, wakes);
@@ -278,11 +281,11 @@ impl<W: Copy + Eq, const N: usize> PipeState<W, N> {
         wakes: &mut Wakes<W, K>,
     ) -> Result<usize, TryWriteError>
         requires { length wakes.old < K }
-        ensures bytes { Writes N self.old.ring from.now result self.new.ring }
+        ensures bytes { Writes R.capacity self.old.ring from.now result self.new.ring }
         ensures slots { self.new.slots ≡ slots_after_write W.eq self.old.ring waker (is_ok result) self.old.slots }
         ensures wakes { wakes.new ≡ wakes.old ++ wakes_of_write W.eq self.old.ring waker (is_ok result) self.old.slots }
     {
-        if self.len() == N {
+        if self.len() == R::capacity() {
             if let Some(waker) = waker {
                 self.write_waker.register(waker, wakes);
             }
@@ -302,7 +305,7 @@ impl<W: Copy + Eq, const N: usize> PipeState<W, N> {
         wakes: &mut Wakes<W, K>,
     ) -> Result<usize, TryWriteError>
         requires { length wakes.old < K }
-        ensures bytes { Writes N self.old.ring from.now result self.new.ring }
+        ensures bytes { Writes R.capacity self.old.ring from.now result self.new.ring }
         ensures slots { self.new.slots ≡ slots_after_write W.eq self.old.ring None (is_ok result) self.old.slots }
         ensures wakes { wakes.new ≡ wakes.old ++ wakes_of_write W.eq self.old.ring None (is_ok result) self.old.slots }
     {
@@ -317,7 +320,7 @@ impl<W: Copy + Eq, const N: usize> PipeState<W, N> {
         wakes: &mut Wakes<W, K>,
     ) -> Result<usize, TryWriteError>
         requires { length wakes.old < K }
-        ensures bytes { Writes N self.old.ring from.now result self.new.ring }
+        ensures bytes { Writes R.capacity self.old.ring from.now result self.new.ring }
         ensures slots { self.new.slots ≡ slots_after_write W.eq self.old.ring (option_copied cx.entry) (is_ok result) self.old.slots }
         ensures wakes { wakes.new ≡ wakes.old ++ wakes_of_write W.eq self.old.ring (option_copied cx.entry) (is_ok result) self.old.slots }
     {
@@ -328,9 +331,9 @@ impl<W: Copy + Eq, const N: usize> PipeState<W, N> {
     // room.
     fn write_all<const K: usize>(&mut self, from: &[u8], waker: W, wakes: &mut Wakes<W, K>) -> usize
         requires { length wakes.old + 1 < K }
-        ensures count { result ≡ puts N self.old.ring from.now }
+        ensures count { result ≡ puts R.capacity self.old.ring from.now }
         ensures bytes { self.new.ring ≡ behind self.old.ring (take result from.now) }
-        ensures full { result < length from.now → length self.new.ring.items ≡ N }
+        ensures full { result < length from.now → length self.new.ring.items ≡ R.capacity }
         ensures slots { self.new.slots ≡ slots_after_write_all W.eq self.old.ring result (length from.now) waker self.old.slots }
         ensures wakes { wakes.new ≡ wakes.old ++ wakes_of_write_all W.eq self.old.ring result (length from.now) waker self.old.slots }
     {
@@ -356,9 +359,9 @@ impl<W: Copy + Eq, const N: usize> PipeState<W, N> {
 
     /// As many bytes are held as there is room for.
     pub fn is_full(&self) -> bool
-        ensures { result ≡ is_full N self.now.ring }
+        ensures { result ≡ is_full R.capacity self.now.ring }
     {
-        self.buffer.len() == N
+        self.buffer.len() == R::capacity()
     }
 
     /// No byte is held.
@@ -370,24 +373,24 @@ impl<W: Copy + Eq, const N: usize> PipeState<W, N> {
 
     /// How many bytes can be held.
     pub fn capacity(&self) -> usize
-        ensures { result ≡ N }
+        ensures { result ≡ R.capacity }
     {
-        N
+        R::capacity()
     }
 
     /// How many bytes are held.
     pub fn len(&self) -> usize
         ensures value { result ≡ length self.now.ring.items }
-        ensures within { result ≤ N }
+        ensures within { result ≤ R.capacity }
     {
         self.buffer.len()
     }
 
     /// How many bytes there is room for.
     pub fn free_capacity(&self) -> usize
-        ensures { result + length self.now.ring.items ≡ N }
+        ensures { result + length self.now.ring.items ≡ R.capacity }
     {
-        N - self.buffer.len()
+        R::capacity() - self.buffer.len()
     }
 }
 
@@ -438,17 +441,17 @@ impl<'a> WriteAllRequest<'a> {
     /// ready at once.
     ///
     /// A request that is finished is not polled.
-    pub fn poll_state<W: Copy + Eq, const N: usize, const K: usize>(
+    pub fn poll_state<R: ByteStore, W: Copy + Eq, const K: usize>(
         &mut self,
-        state: &mut PipeState<W, N>,
+        state: &mut PipeOver<R, W>,
         cx: &Context<W>,
         wakes: &mut Wakes<W, K>,
     ) -> Poll<()>
         requires room { length wakes.old + 1 < K }
         requires unfinished { IsSome self.old }
-        ensures bytes { IfSome self.old (λ rest. WritesAll N state.old.ring rest result state.new.ring self.new) }
-        ensures slots { IfSome self.old (λ rest. state.new.slots ≡ slots_after_write_all W.eq state.old.ring (puts N state.old.ring rest) (length rest) cx.now state.old.slots) }
-        ensures wakes { IfSome self.old (λ rest. wakes.new ≡ wakes.old ++ wakes_of_write_all W.eq state.old.ring (puts N state.old.ring rest) (length rest) cx.now state.old.slots) }
+        ensures bytes { IfSome self.old (λ rest. WritesAll R.capacity state.old.ring rest result state.new.ring self.new) }
+        ensures slots { IfSome self.old (λ rest. state.new.slots ≡ slots_after_write_all W.eq state.old.ring (puts R.capacity state.old.ring rest) (length rest) cx.now state.old.slots) }
+        ensures wakes { IfSome self.old (λ rest. wakes.new ≡ wakes.old ++ wakes_of_write_all W.eq state.old.ring (puts R.capacity state.old.ring rest) (length rest) cx.now state.old.slots) }
     {
         let Some(rest) = self.rest else {
             unreachable!()

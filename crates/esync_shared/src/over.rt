@@ -4,7 +4,8 @@ ghost use Rattle.std.specs.Prelude.{◌<◌, ◌≤◌, IfOk, length};
 use crate::play::{Script, Stage, serve};
 use bumpalo::Bump;
 use esync_base::deque::Deque;
-use esync_base::store::Store;
+use esync_base::ring_buffer::ByteRing;
+use esync_base::store::{ByteStore, Store};
 use esync_base::waitqueue::{Hand, TaskId};
 use esync_cells::signal::Signal;
 use esync_cells::watch::{SharedWatch, Watch, WatchValue};
@@ -23,7 +24,7 @@ use esync_guards::mutex::Mutex;
 use esync_notes::Notes;
 use esync_permits::semaphore::machine::{PermitCall, PermitHeard};
 use esync_permits::semaphore::{Amount, FairState, GreedyState, PermitState, SharedSemaphore};
-use esync_pipe::pipe::{ByteState, DynamicReader, DynamicWriter, PipeState, SharedPipe};
+use esync_pipe::pipe::{DynamicReader, DynamicWriter, SharedPipe};
 use esync_priority::prio::{Kind, PrioQueue};
 use esync_pubsub::pubsub::{LogState, PubSubChannel, SharedPubSub};
 use esync_script::channel::ChannelWords;
@@ -157,24 +158,24 @@ pub fn fair<R: Wait, W: Write>(
 }
 
 // Over a pipe that is split anew for each call.
-fn split<S: ByteState<Waker = u64>, R: Wait, W: Write>(
+fn split<B: ByteStore, R: Wait, W: Write>(
     stage: Stage<'_, '_, R>,
     script: &mut Script<'_>,
     output: &mut W,
 ) -> Result<(), Fault> {
-    let pipe: SharedPipe<S, u64, &Notes<'_, R>> = SharedPipe::new(stage.notes);
+    let pipe: SharedPipe<B, u64, &Notes<'_, R>> = SharedPipe::new(stage.notes);
     let form = Split::new(pipe, stage.doors);
     serve::<PipeWords, _, R, W>(stage, form, script, output)
 }
 
 // Over a pipe whose futures last.
-fn lasting<S: ByteState<Waker = TaskId>, R: Wait, W: Write>(
+fn lasting<B: ByteStore, R: Wait, W: Write>(
     stage: Stage<'_, '_, R>,
     script: &mut Script<'_>,
     output: &mut W,
 ) -> Result<(), Fault> {
     let hand = Tasks::new(stage.notes);
-    let pipe: SharedPipe<S, TaskId, Tasks<&Notes<'_, R>>> = SharedPipe::new(hand);
+    let pipe: SharedPipe<B, TaskId, Tasks<&Notes<'_, R>>> = SharedPipe::new(hand);
     let written = Bump::new(stage.alloc);
     let lent = Lent::new(&pipe);
     let writer = DynamicWriter::new(lent);
@@ -183,23 +184,18 @@ fn lasting<S: ByteState<Waker = TaskId>, R: Wait, W: Write>(
     serve::<PipeWords, _, R, W>(stage, form, script, output)
 }
 
-// Over a pipe of one of these states, as the first way says.
-fn bytes<S: ByteState<Waker = u64>, T: ByteState<Waker = TaskId>, R: Wait, W: Write>(
+// Over a pipe over such a ring, as the first way says.
+fn bytes<B: ByteStore, R: Wait, W: Write>(
     stage: Stage<'_, '_, R>,
     script: &mut Script<'_>,
     output: &mut W,
 ) -> Result<(), Fault> {
     let mut doors = stage.doors;
     match doors.next() {
-        Door::Handle => split::<S, R, W>(stage, script, output),
-        Door::Own | Door::Dynamic => lasting::<T, R, W>(stage, script, output),
+        Door::Handle => split::<B, R, W>(stage, script, output),
+        Door::Own | Door::Dynamic => lasting::<B, R, W>(stage, script, output),
     }
 }
-
-// A state of a pipe of so many bytes, and one whose wakers are tasks.
-type Of<const N: usize> = PipeState<u64, N>;
-
-type TasksOf<const N: usize> = PipeState<TaskId, N>;
 
 /// Over a pipe.
 pub fn pipe<R: Wait, W: Write>(
@@ -209,11 +205,11 @@ pub fn pipe<R: Wait, W: Write>(
     output: &mut W,
 ) -> Result<(), Fault> {
     match capacity {
-        Capacity::One => bytes::<Of<1>, TasksOf<1>, R, W>(stage, script, output),
-        Capacity::Two => bytes::<Of<2>, TasksOf<2>, R, W>(stage, script, output),
-        Capacity::Three => bytes::<Of<3>, TasksOf<3>, R, W>(stage, script, output),
-        Capacity::Four => bytes::<Of<4>, TasksOf<4>, R, W>(stage, script, output),
-        Capacity::Eight => bytes::<Of<8>, TasksOf<8>, R, W>(stage, script, output),
+        Capacity::One => bytes::<ByteRing<1>, R, W>(stage, script, output),
+        Capacity::Two => bytes::<ByteRing<2>, R, W>(stage, script, output),
+        Capacity::Three => bytes::<ByteRing<3>, R, W>(stage, script, output),
+        Capacity::Four => bytes::<ByteRing<4>, R, W>(stage, script, output),
+        Capacity::Eight => bytes::<ByteRing<8>, R, W>(stage, script, output),
     }
 }
 

@@ -2,7 +2,8 @@
 ghost use Rattle.std.specs.Prelude.{◌≡◌, ◌≤◌, IfOk, OnErr, length, drop};
 ghost use Rattle.esync_pipe.specs.Polls.{IfReady, KeepsCopy};
 
-use super::{ByteState, SharedPipe, TryReadError, TryWriteError};
+use super::{SharedPipe, TryReadError, TryWriteError};
+use esync_base::store::ByteStore;
 use esync_base::waitqueue::{Context, Hand, Poll, TaskId};
 use std::alloc::{AllocError, Global};
 use std::marker::Model;
@@ -32,7 +33,7 @@ pub trait DynamicPipe {
     fn consume(&self, amt: usize);
 }
 
-impl<S: ByteState<Waker = TaskId>, H: Hand<TaskId>> DynamicPipe for SharedPipe<S, TaskId, H> {
+impl<R: ByteStore, H: Hand<TaskId>> DynamicPipe for SharedPipe<R, TaskId, H> {
     fn capacity(&self) -> usize {
         SharedPipe::capacity(self)
     }

@@ -7,9 +7,11 @@ ghost use Rattle.esync_pipe.specs.PipeRules.{pipe_rules, pipe_wakings, poll_hand
 ghost use Rattle.esync_pipe.specs.PipeOrder.{InOrder, SizesAddUp};
 ghost use Rattle.esync_pipe.specs.Pipe.{slots_after_read, wakes_of_read};
 
-use super::{PipeState, TryReadError, TryWriteError, WriteAllRequest};
+use super::{PipeOver, TryReadError, TryWriteError, WriteAllRequest};
 use crate::bytes::Bytes;
 use esync_base::kept::Kept;
+use esync_base::ring_buffer::ByteRing;
+use esync_base::store::ByteStore;
 use esync_base::waitqueue::{Context, Poll, Registered, Wakes};
 use esync_machine::primitive::{Answer, Command, Primitive, Reach, Turn};
 use esync_machine::requests::Requests;
@@ -60,7 +62,7 @@ pub enum PipeHeard<B> {
 }
 
 // What a poll does, of each request.
-impl<W: Copy + Eq, const N: usize> PipeState<W, N> {
+impl<R: ByteStore, W: Copy + Eq> PipeOver<R, W> {
     fn turn_write<const L: usize, const K: usize>(
         &mut self,
         bytes: Bytes<L>,
@@ -69,8 +71,8 @@ impl<W: Copy + Eq, const N: usize> PipeState<W, N> {
     ) -> Turn<PipeHeard<Bytes<L>>, PipeAsk<Bytes<L>>>
         requires empty { wakes.old ≡ [] }
         requires room { 1 < K }
-        ensures allowed { Polls N self.old.ring (PipeAsk.Write bytes.entry) result.answer self.new.ring result.place }
-        ensures exact { IsHanded (poll_hands W.eq N self.old.ring self.old.slots (PipeAsk.Write bytes.entry) cx.now) wakes.new self.new.slots }
+        ensures allowed { Polls R.capacity self.old.ring (PipeAsk.Write bytes.entry) result.answer self.new.ring result.place }
+        ensures exact { IsHanded (poll_hands W.eq R.capacity self.old.ring self.old.slots (PipeAsk.Write bytes.entry) cx.now) wakes.new self.new.slots }
     {
         match self.try_write_with_context(Some(cx), bytes.as_slice(), wakes) {
             Ok(n) => Turn::over(PipeHeard::Wrote(n)),
@@ -86,8 +88,8 @@ impl<W: Copy + Eq, const N: usize> PipeState<W, N> {
     ) -> Turn<PipeHeard<Bytes<L>>, PipeAsk<Bytes<L>>>
         requires empty { wakes.old ≡ [] }
         requires room { 1 < K }
-        ensures allowed { Polls N self.old.ring (PipeAsk.WriteAll bytes.entry) result.answer self.new.ring result.place }
-        ensures exact { IsHanded (poll_hands W.eq N self.old.ring self.old.slots (PipeAsk.WriteAll bytes.entry) cx.now) wakes.new self.new.slots }
+        ensures allowed { Polls R.capacity self.old.ring (PipeAsk.WriteAll bytes.entry) result.answer self.new.ring result.place }
+        ensures exact { IsHanded (poll_hands W.eq R.capacity self.old.ring self.old.slots (PipeAsk.WriteAll bytes.entry) cx.now) wakes.new self.new.slots }
     {
         let mut request = WriteAllRequest::new(bytes.as_slice());
         match request.poll_state(self, cx, wakes) {
@@ -103,10 +105,10 @@ impl<W: Copy + Eq, const N: usize> PipeState<W, N> {
         wakes: &mut Wakes<W, K>,
     ) -> Turn<PipeHeard<Bytes<L>>, PipeAsk<Bytes<L>>>
         requires empty { wakes.old ≡ [] }
-        requires row { N ≤ L }
+        requires row { R.capacity ≤ L }
         requires room { 1 < K }
-        ensures allowed { Polls N self.old.ring (PipeAsk.Read count) result.answer self.new.ring result.place }
-        ensures exact { IsHanded (poll_hands W.eq N self.old.ring self.old.slots (PipeAsk.Read count) cx.now) wakes.new self.new.slots }
+        ensures allowed { Polls R.capacity self.old.ring (PipeAsk.Read count) result.answer self.new.ring result.place }
+        ensures exact { IsHanded (poll_hands W.eq R.capacity self.old.ring self.old.slots (PipeAsk.Read count) cx.now) wakes.new self.new.slots }
     {
         match self.read_row(count, Some(cx.waker()), wakes) {
             Ok(bytes) => Turn::over(PipeHeard::HasRead(bytes)),
@@ -120,10 +122,10 @@ impl<W: Copy + Eq, const N: usize> PipeState<W, N> {
         wakes: &mut Wakes<W, K>,
     ) -> Turn<PipeHeard<Bytes<L>>, PipeAsk<Bytes<L>>>
         requires empty { wakes.old ≡ [] }
-        requires row { N ≤ L }
+        requires row { R.capacity ≤ L }
         requires room { 1 < K }
-        ensures allowed { Polls N self.old.ring PipeAsk.Fill result.answer self.new.ring result.place }
-        ensures exact { IsHanded (poll_hands W.eq N self.old.ring self.old.slots PipeAsk.Fill cx.now) wakes.new self.new.slots }
+        ensures allowed { Polls R.capacity self.old.ring PipeAsk.Fill result.answer self.new.ring result.place }
+        ensures exact { IsHanded (poll_hands W.eq R.capacity self.old.ring self.old.slots PipeAsk.Fill cx.now) wakes.new self.new.slots }
     {
         match self.try_fill_buf_with_context(Some(cx), wakes) {
             Ok(bytes) => Turn::over(PipeHeard::Filled(Bytes::from_slice(bytes))),
@@ -138,11 +140,11 @@ impl<W: Copy + Eq, const N: usize> PipeState<W, N> {
         waker: Option<W>,
         wakes: &mut Wakes<W, K>,
     ) -> Result<Bytes<L>, TryReadError>
-        requires row { N ≤ L }
+        requires row { R.capacity ≤ L }
         requires room { length wakes.old < K }
-        ensures bytes { TakesOut N self.old.ring count result self.new.ring }
-        ensures slots { self.new.slots ≡ slots_after_read W.eq N self.old.ring waker (is_ok result) self.old.slots }
-        ensures wakes { wakes.new ≡ wakes.old ++ wakes_of_read W.eq N self.old.ring waker (is_ok result) self.old.slots }
+        ensures bytes { TakesOut R.capacity self.old.ring count result self.new.ring }
+        ensures slots { self.new.slots ≡ slots_after_read W.eq R.capacity self.old.ring waker (is_ok result) self.old.slots }
+        ensures wakes { wakes.new ≡ wakes.old ++ wakes_of_read W.eq R.capacity self.old.ring waker (is_ok result) self.old.slots }
     {
         let mut row = [0; L];
         let held = self.len();
@@ -160,10 +162,10 @@ impl<W: Copy + Eq, const N: usize> PipeState<W, N> {
         wakes: &mut Wakes<W, K>,
     ) -> Answer<PipeHeard<Bytes<L>>>
         requires empty { wakes.old ≡ [] }
-        requires row { N ≤ L }
+        requires row { R.capacity ≤ L }
         requires room { 1 < K }
-        ensures allowed { Calls N self.old.ring call.entry result self.new.ring }
-        ensures exact { IsHanded (called (pipe_wakings W.eq N) self.old.ring self.old.slots call.entry None result) wakes.new self.new.slots }
+        ensures allowed { Calls R.capacity self.old.ring call.entry result self.new.ring }
+        ensures exact { IsHanded (called (pipe_wakings W.eq R.capacity) self.old.ring self.old.slots call.entry None result) wakes.new self.new.slots }
     {
         match call {
             PipeCall::TryWrite(bytes) => {
@@ -185,8 +187,8 @@ impl<W: Copy + Eq, const N: usize> PipeState<W, N> {
 
     // Shows the bytes that `try_fill_buf` shows.
     fn shown_row<const L: usize>(&self) -> Result<Bytes<L>, TryReadError>
-        requires { N ≤ L }
-        ensures { Fills N self.now.ring result self.now.ring }
+        requires { R.capacity ≤ L }
+        ensures { Fills R.capacity self.now.ring result self.now.ring }
     {
         match self.try_fill_buf() {
             Ok(bytes) => Ok(Bytes::from_slice(bytes)),
@@ -202,8 +204,8 @@ impl<W: Copy + Eq, const N: usize> PipeState<W, N> {
     ) -> Answer<PipeHeard<Bytes<L>>>
         requires empty { wakes.old ≡ [] }
         requires room { 1 < K }
-        ensures allowed { Calls N self.old.ring (PipeCall.Consume count) result self.new.ring }
-        ensures exact { IsHanded (called (pipe_wakings W.eq N) self.old.ring self.old.slots (PipeCall.Consume count) None result) wakes.new self.new.slots }
+        ensures allowed { Calls R.capacity self.old.ring (PipeCall.Consume count) result self.new.ring }
+        ensures exact { IsHanded (called (pipe_wakings W.eq R.capacity) self.old.ring self.old.slots (PipeCall.Consume count) None result) wakes.new self.new.slots }
     {
         if count > self.shown().len() {
             return Answer::NoSuch;
@@ -214,17 +216,17 @@ impl<W: Copy + Eq, const N: usize> PipeState<W, N> {
 }
 
 // What a poll does.
-fn turn<W: Copy + Eq, const N: usize, const L: usize, const K: usize>(
-    state: &mut PipeState<W, N>,
+fn turn<R: ByteStore, W: Copy + Eq, const L: usize, const K: usize>(
+    state: &mut PipeOver<R, W>,
     held: PipeAsk<Bytes<L>>,
     cx: &Context<W>,
     wakes: &mut Wakes<W, K>,
 ) -> Turn<PipeHeard<Bytes<L>>, PipeAsk<Bytes<L>>>
     requires empty { wakes.old ≡ [] }
-    requires row { N ≤ L }
+    requires row { R.capacity ≤ L }
     requires room { 1 < K }
-    ensures allowed { Polls N state.old.ring held.entry result.answer state.new.ring result.place }
-    ensures exact { IsHanded (poll_hands W.eq N state.old.ring state.old.slots held.entry cx.now) wakes.new state.new.slots }
+    ensures allowed { Polls R.capacity state.old.ring held.entry result.answer state.new.ring result.place }
+    ensures exact { IsHanded (poll_hands W.eq R.capacity state.old.ring state.old.slots held.entry cx.now) wakes.new state.new.slots }
 {
     match held {
         PipeAsk::Write(bytes) => state.turn_write(bytes, cx, wakes),
@@ -234,15 +236,18 @@ fn turn<W: Copy + Eq, const N: usize, const L: usize, const K: usize>(
     }
 }
 
-/// The state of a pipe as its machine has it: commands and answers carry rows of at most `L` bytes. `L` is at least `N`, so that an
-/// answer has room for all bytes that the pipe holds.
+/// The state of a pipe of at most `N` bytes as its machine has it.
+pub type PipeRows<W, const N: usize, const L: usize> = PipeRowsOver<ByteRing<N>, W, L>;
+
+/// The state of a pipe as its machine has it: commands and answers carry rows of at most `L` bytes. `L` is at least the pipe's capacity,
+/// so that an answer has room for all bytes that the pipe holds.
 #[derive(Debug, Drop)]
-pub struct PipeRows<W, const N: usize, const L: usize> {
-    state: PipeState<W, N>,
-    ghost room: { N ≤ L },
+pub struct PipeRowsOver<R: ByteStore, W, const L: usize> {
+    state: PipeOver<R, W>,
+    ghost room: { R.capacity ≤ L },
 }
 
-impl<W, const N: usize, const L: usize> Model for PipeRows<W, N, L> {
+impl<R: ByteStore, W, const L: usize> Model for PipeRowsOver<R, W, L> {
     ghost use Rattle.esync_pipe.specs.Piped.{Piped, piped_code};
 
     ghost Value = { Piped W };
@@ -252,16 +257,16 @@ impl<W, const N: usize, const L: usize> Model for PipeRows<W, N, L> {
     ghost view = { λ a. a.state };
 }
 
-impl<W: Copy, const N: usize, const L: usize> Kept for PipeRows<W, N, L> {
+impl<R: ByteStore + Kept, W: Copy, const L: usize> Kept for PipeRowsOver<R, W, L> {
     fn kept(&self) -> Result<Self, AllocError> {
-        Ok(PipeRows {
+        Ok(PipeRowsOver {
             state: self.state.kept()?,
         })
     }
 }
 
 /// Shows at place 0 the waker of the task that waits for bytes, and at place 1 that of the task that waits for room.
-impl<W: Copy + Eq, const N: usize, const L: usize> Registered for PipeRows<W, N, L> {
+impl<R: ByteStore, W: Copy + Eq, const L: usize> Registered for PipeRowsOver<R, W, L> {
     type Waker = W;
 
     ghost use Rattle.esync_base.specs.Standing.{at_two};
@@ -273,41 +278,41 @@ impl<W: Copy + Eq, const N: usize, const L: usize> Registered for PipeRows<W, N,
     }
 }
 
-impl<W: Copy + Eq, const N: usize, const L: usize> PipeRows<W, N, L> {
+impl<R: ByteStore, W: Copy + Eq, const L: usize> PipeRowsOver<R, W, L> {
     /// Returns an empty pipe that no task waits on, with rows of at most `L` bytes.
     ///
-    /// `L` has to be at least `N`. A caller tests `N <= L`: both are numbers of the type, so that it compares two constants.
+    /// `L` has to be at least the pipe's capacity. A caller compares the two numbers of the type, as by `N <= L`.
     pub fn new() -> Self
-        requires { N ≤ L }
+        requires { R.capacity ≤ L }
         ensures items { result.ring.items ≡ [] }
         ensures front { result.ring.front ≡ 0 }
         ensures readers { result.slots.readers ≡ [] }
         ensures writers { result.slots.writers ≡ [] }
     {
-        PipeRows::from_state(PipeState::new())
+        PipeRowsOver::from_state(PipeOver::new())
     }
 
     /// Returns a pipe of this state, with its bytes and its wakers, and with rows of at most `L` bytes. So a run can begin at any
     /// state.
     ///
-    /// `L` has to be at least `N`. A caller tests `N <= L`: both are numbers of the type, so that it compares two constants.
-    pub fn from_state(state: PipeState<W, N>) -> Self
-        requires { N ≤ L }
+    /// `L` has to be at least the pipe's capacity. A caller compares the two numbers of the type, as by `N <= L`.
+    pub fn from_state(state: PipeOver<R, W>) -> Self
+        requires { R.capacity ≤ L }
         ensures { result ≡ state }
     {
-        PipeRows { state }
+        PipeRowsOver { state }
     }
 
     /// Lends the state.
-    pub fn state(&self) -> &PipeState<W, N>
+    pub fn state(&self) -> &PipeOver<R, W>
         ensures { result.now ≡ self.now }
     {
         &self.state
     }
 }
 
-impl<W: Copy + Eq, const N: usize, const L: usize, const K: usize> Primitive<K>
-    for PipeRows<W, N, L> {
+impl<R: ByteStore, W: Copy + Eq, const L: usize, const K: usize> Primitive<K>
+    for PipeRowsOver<R, W, L> {
     type Ask = PipeAsk<Bytes<L>>;
 
     type Held = PipeAsk<Bytes<L>>;
@@ -321,17 +326,17 @@ impl<W: Copy + Eq, const N: usize, const L: usize, const K: usize> Primitive<K>
     ghost use Rattle.esync_pipe.specs.PipeRules.{pipe_rules, pipe_wakings};
     ghost use Rattle.esync_pipe.specs.PipeLaws.{OwesFor};
 
-    ghost rules = { pipe_rules N };
+    ghost rules = { pipe_rules R.capacity };
 
     ghost core = { λ m. m.ring };
 
-    ghost wakings = { pipe_wakings W.eq N };
+    ghost wakings = { pipe_wakings W.eq R.capacity };
 
     ghost registrations = { λ m. m.slots };
 
     ghost most = { 2 };
 
-    ghost Owes = { λ m ask w. OwesFor W.eq N m.ring m.slots ask w };
+    ghost Owes = { λ m ask w. OwesFor W.eq R.capacity m.ring m.slots ask w };
 
     ghost Fits = { λ m ask. Unit };
 
@@ -371,9 +376,9 @@ impl<W: Copy + Eq, const N: usize, const L: usize, const K: usize> Primitive<K>
 
     ghost use Rattle.esync_pipe.specs.PipeLaws.{pipe_idle, pipe_pending};
 
-    ghost idle = { λ m ask w f h. pipe_idle W.eq N m.ring m.slots ask w h };
+    ghost idle = { λ m ask w f h. pipe_idle W.eq R.capacity m.ring m.slots ask w h };
 
-    ghost pending = { pipe_pending N };
+    ghost pending = { pipe_pending R.capacity };
 
     ghost no_such = { λ o h a o2 p n k. absurd (n tt) };
 
@@ -381,7 +386,7 @@ impl<W: Copy + Eq, const N: usize, const L: usize, const K: usize> Primitive<K>
 
     ghost use Rattle.esync_machine.specs.RulesLaws.{all_requests};
 
-    ghost no_requests = { all_requests (pipe_rules N) (λ h. tt) (λ o o2 call p p2 a c. c.1) };
+    ghost no_requests = { all_requests (pipe_rules R.capacity) (λ h. tt) (λ o o2 call p p2 a c. c.1) };
 }
 
 /// A pipe of at most `N` bytes as a machine, with rows of at most `L` bytes, at least `N`, and requests at the numbers below `REQS`.

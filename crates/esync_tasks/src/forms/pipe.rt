@@ -3,14 +3,15 @@ ghost use Rattle.std.specs.Prelude.{◌≤◌, IsSome, length};
 ghost use Rattle.esync_tasks.specs.Polled.{IfReady, OnPending};
 
 use crate::future::Future;
+use esync_base::store::ByteStore;
 use esync_base::waitqueue::{Context, Hand, Poll, TaskId};
 use esync_pipe::pipe::{
-    ByteState, DynamicFillBufFuture, DynamicPipe, DynamicReadFuture, DynamicWriteFuture,
-    FillBufFuture, ReadFuture, WriteAllFuture, WriteFuture,
+    DynamicFillBufFuture, DynamicPipe, DynamicReadFuture, DynamicWriteFuture, FillBufFuture,
+    ReadFuture, WriteAllFuture, WriteFuture,
 };
 
 /// Gives how many of the bytes were written.
-impl<S: ByteState<Waker = W>, W: Copy + Eq, H: Hand<W>> Future<W> for WriteFuture<'_, S, W, H> {
+impl<R: ByteStore, W: Copy + Eq, H: Hand<W>> Future<W> for WriteFuture<'_, R, W, H> {
     type Output = usize;
 
     ghost gives = { λ from count. count ≤ length from };
@@ -21,7 +22,7 @@ impl<S: ByteState<Waker = W>, W: Copy + Eq, H: Hand<W>> Future<W> for WriteFutur
 }
 
 /// It may be polled until all bytes are written.
-impl<S: ByteState<Waker = W>, W: Copy + Eq, H: Hand<W>> Future<W> for WriteAllFuture<'_, S, W, H> {
+impl<R: ByteStore, W: Copy + Eq, H: Hand<W>> Future<W> for WriteAllFuture<'_, R, W, H> {
     type Output = ();
 
     ghost can_poll = { λ rest. IsSome rest };
@@ -32,7 +33,7 @@ impl<S: ByteState<Waker = W>, W: Copy + Eq, H: Hand<W>> Future<W> for WriteAllFu
 }
 
 /// Gives how many bytes were read.
-impl<S: ByteState<Waker = W>, W: Copy + Eq, H: Hand<W>> Future<W> for ReadFuture<'_, '_, S, W, H> {
+impl<R: ByteStore, W: Copy + Eq, H: Hand<W>> Future<W> for ReadFuture<'_, '_, R, W, H> {
     type Output = usize;
 
     ghost gives = { λ to count. count ≤ length to };
@@ -43,8 +44,7 @@ impl<S: ByteState<Waker = W>, W: Copy + Eq, H: Hand<W>> Future<W> for ReadFuture
 }
 
 /// Gives nothing: the reader shows the bytes by `filled`.
-impl<S: ByteState<Waker = W>, W: Copy + Eq, H: Hand<W>> Future<W>
-    for FillBufFuture<'_, '_, S, W, H> {
+impl<R: ByteStore, W: Copy + Eq, H: Hand<W>> Future<W> for FillBufFuture<'_, '_, R, W, H> {
     type Output = ();
 
     fn poll(&mut self, cx: &Context<W>) -> Poll<()> {

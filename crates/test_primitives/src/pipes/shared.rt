@@ -1,7 +1,9 @@
 //! Futures of a shared pipe that are polled once more, a copied end, what a read forgets, and threads.
+use esync_base::ring_buffer::ByteRing;
+use esync_base::store::ByteStore;
 use esync_base::waitqueue::{Context, Hand, Poll};
 use esync_notes::{Notes, holds, same};
-use esync_pipe::pipe::{ByteState, FillBufFuture, Pipe, PipeState, Reader, SharedPipe, Writer};
+use esync_pipe::pipe::{FillBufFuture, Pipe, Reader, SharedPipe, Writer};
 use std::process::Abort;
 use std::sync::Wait;
 use std::thread;
@@ -74,7 +76,7 @@ fn a_read_forgets_what_was_filled(rt: HostRuntime) {
 // A poll of a future that fills.
 fn fill_polls<R: Wait + Abort>(
     rt: &R,
-    fill: &mut FillBufFuture<'_, '_, PipeState<u64, 3>, u64, Hears<'_, R>>,
+    fill: &mut FillBufFuture<'_, '_, ByteRing<3>, u64, Hears<'_, R>>,
     answer: Poll<()>,
 ) {
     holds!(*rt; fill.poll(&Context::from_waker(1)) == answer);
@@ -97,11 +99,7 @@ fn a_fill_acts_anew(rt: HostRuntime) {
 }
 
 // Polls of a future that reads: there is one byte for the first poll, and none for the second.
-fn reads_once<S: ByteState<Waker = u64>, H: Hand<u64>>(
-    rt: &impl Abort,
-    pipe: &SharedPipe<S, u64, H>,
-    byte: u8,
-) {
+fn reads_once<B: ByteStore, H: Hand<u64>>(rt: &impl Abort, pipe: &SharedPipe<B, u64, H>, byte: u8) {
     let mut to = [0; 16];
     let mut read = pipe.read(&mut to);
     holds!(rt; read.poll(&Context::from_waker(2)) == Poll::Ready(1));
@@ -141,12 +139,12 @@ impl<R: Wait> Hand<u64> for Nobody<'_, R> {
 }
 
 // How many of three bytes there was room for.
-fn writes<S: ByteState<Waker = u64>, H: Hand<u64>>(pipe: &SharedPipe<S, u64, H>) -> usize {
+fn writes<B: ByteStore, H: Hand<u64>>(pipe: &SharedPipe<B, u64, H>) -> usize {
     pipe.try_write(&[1, 2, 3]).unwrap_or(0)
 }
 
 // How many bytes there were.
-fn reads<S: ByteState<Waker = u64>, H: Hand<u64>>(pipe: &SharedPipe<S, u64, H>) -> usize {
+fn reads<B: ByteStore, H: Hand<u64>>(pipe: &SharedPipe<B, u64, H>) -> usize {
     let mut to = [0; 4];
     pipe.try_read(&mut to[..]).unwrap_or(0)
 }
