@@ -1,15 +1,17 @@
 //! The latest value, for several receivers: a new value overwrites the one before, and each receiver knows which version it has seen.
 ghost use Rattle.std.specs.Prelude.{◌≡◌, ℕ, Bool, Option, ◌+◌, ◌-◌, ◌<◌, ◌≤◌, ◌++◌, ◌&&◌, [], None, Some, true, false, length, is_some, nat_lt, OnOk, OnErr, IfErr};
+ghost use Rattle.std.specs.Fn.{FnReturnsAt};
 ghost use Rattle.esync_base.specs.Registration.{registered_if, displaced_if};
 ghost use Rattle.esync_cells.specs.Watch.{fresh, judged, found, Answers, seen_after, polled, waiter_where_pending, last_version, sent, woken_by, sent_if, woken_if, counted};
+ghost use Rattle.esync_cells.specs.Watched.{Tells, TellsIf};
 
 use esync_base::kept::Kept;
-use esync_base::waitqueue::{Context, MultiWakerRegistration, Poll, Registered, Wakes};
+use esync_base::waitqueue::{Context, Poll, Registered, WakerList, WakerRegistrations, Wakes};
 pub use handles::{
     AnonRcv, AnonReceiver, Changed, ChangedAnd, DynAnonReceiver, DynReceiver, DynSender, Get,
     GetAnd, Rcv, Receiver, Sender, Snd,
 };
-pub use shared::{SharedWatch, Watch, WatchBehavior, WatchValue};
+pub use shared::{SharedWatch, Watch, WatchBehavior};
 use std::alloc::AllocError;
 use std::fmt::Debug;
 use std::marker::Model;
@@ -52,34 +54,37 @@ pub trait Judge<T> {
         ensures { result ≡ passes self.now value.now };
 }
 
-/// The state of a watch: the latest value, if there is one, its version, how many receivers are counted (at most `N`), and the
-/// wakers of up to `N` tasks that wait for news.
+/// The state of a watch with room for `N` counted receivers, and for the wakers of as many tasks.
+pub type WatchState<T, W, const N: usize> = WatchOver<T, Wakes<W, N>>;
+
+/// The state of a watch: the latest value, if there is one, its version, how many receivers are counted, and the wakers of the
+/// tasks that wait for news. As many receivers can be counted as the list of wakers has room for.
 ///
 /// The version that a receiver has seen stands with the receiver, and is lent to each read.
 #[derive(Debug, Drop)]
-pub struct WatchState<T, W, const N: usize> {
+pub struct WatchOver<T, L: WakerList> {
     value: Option<T>,
     version: u64,
-    waiters: MultiWakerRegistration<W, N>,
+    waiters: WakerRegistrations<L>,
     receivers: usize,
 }
 
-impl<T, W, const N: usize> Model for WatchState<T, W, N> {
+impl<T, L: WakerList> Model for WatchOver<T, L> {
     ghost use Rattle.std.specs.Prelude.{◌≤◌};
     ghost use Rattle.esync_cells.specs.Watch.{Watching, watching_code};
 
-    ghost Value = { Watching T W };
+    ghost Value = { Watching T L.Waker };
 
-    ghost coded = { watching_code T.code W.code };
+    ghost coded = { watching_code T.code L.Waker.code };
 
     ghost view = { λ a. record { value = a.value; version = a.version; receivers = a.receivers; waiters = a.waiters } };
 
-    ghost invariant = { λ a. a.receivers ≤ N };
+    ghost invariant = { λ a. a.receivers ≤ L.room };
 }
 
-impl<T: Copy, W: Copy, const N: usize> Kept for WatchState<T, W, N> {
+impl<T: Copy, L: WakerList> Kept for WatchOver<T, L> {
     fn kept(&self) -> Result<Self, AllocError> {
-        Ok(WatchState {
+        Ok(WatchOver {
             value: self.value,
             version: self.version,
             waiters: self.waiters.kept()?,
@@ -89,14 +94,14 @@ impl<T: Copy, W: Copy, const N: usize> Kept for WatchState<T, W, N> {
 }
 
 /// Who waits for a newer value.
-impl<T, W: Copy + Eq, const N: usize> Registered for WatchState<T, W, N> {
-    type Waker = W;
+impl<T, L: WakerList> Registered for WatchOver<T, L> {
+    type Waker = L::Waker;
 
     ghost use Rattle.esync_base.specs.Standing.{at_one};
 
     ghost at = { λ m. at_one m.waiters };
 
-    fn registered(&self, place: usize, i: usize) -> Option<W> {
+    fn registered(&self, place: usize, i: usize) -> Option<L::Waker> {
         match place {
             0 => self.waiters.get(i),
             _ => None,
@@ -104,22 +109,22 @@ impl<T, W: Copy + Eq, const N: usize> Registered for WatchState<T, W, N> {
     }
 }
 
-impl<T: Drop, W: Copy + Eq, const N: usize> WatchState<T, W, N> {
+impl<T: Drop, L: WakerList> WatchOver<T, L> {
     /// No value, at version 0.
     pub fn new() -> Self
         ensures { result ≡ fresh None 0 }
     {
-        WatchState::new_at(0)
+        WatchOver::new_at(0)
     }
 
     /// This value, at version 0: nobody has news of it.
     pub fn new_with(value: T) -> Self
         ensures { result ≡ fresh (Some value) 0 }
     {
-        WatchState {
+        WatchOver {
             value: Some(value),
             version: 0,
-            waiters: MultiWakerRegistration::new(),
+            waiters: WakerRegistrations::new(),
             receivers: 0,
         }
     }
@@ -128,10 +133,10 @@ impl<T: Drop, W: Copy + Eq, const N: usize> WatchState<T, W, N> {
     pub fn new_at(version: u64) -> Self
         ensures { result ≡ fresh None version }
     {
-        WatchState {
+        WatchOver {
             value: None,
             version,
-            waiters: MultiWakerRegistration::new(),
+            waiters: WakerRegistrations::new(),
             receivers: 0,
         }
     }
@@ -151,15 +156,15 @@ impl<T: Drop, W: Copy + Eq, const N: usize> WatchState<T, W, N> {
     pub fn send<const K: usize>(
         &mut self,
         value: T,
-        wakes: &mut Wakes<W, K>,
+        wakes: &mut Wakes<L::Waker, K>,
     ) -> Result<(), Exhausted<T>>
-        requires { length wakes.old + N ≤ K }
+        requires { length wakes.old + L.room ≤ K }
         ensures room { OnOk result (self.old.version < last_version) }
         ensures exhausted { OnErr result (self.old.version ≡ last_version) }
         ensures returned { IfErr result (λ back. back.0 ≡ value) }
         ensures state { self.new ≡ sent self.old (Some value) result }
         ensures wakes { wakes.new ≡ wakes.old ++ woken_by result self.old.waiters }
-        ensures at_most { length wakes.new ≤ length wakes.old + N }
+        ensures at_most { length wakes.new ≤ length wakes.old + L.room }
     {
         if self.version == u64::MAX {
             return Err(Exhausted(value));
@@ -178,14 +183,14 @@ impl<T: Drop, W: Copy + Eq, const N: usize> WatchState<T, W, N> {
     pub fn send_modify<C: Change<T>, const K: usize>(
         &mut self,
         change: &C,
-        wakes: &mut Wakes<W, K>,
+        wakes: &mut Wakes<L::Waker, K>,
     ) -> Result<(), Exhausted<()>>
-        requires { length wakes.old + N ≤ K }
+        requires { length wakes.old + L.room ≤ K }
         ensures room { OnOk result (self.old.version < last_version) }
         ensures exhausted { OnErr result (self.old.version ≡ last_version) }
         ensures state { self.new ≡ sent self.old (C.changed change.now self.old.value) result }
         ensures wakes { wakes.new ≡ wakes.old ++ woken_by result self.old.waiters }
-        ensures at_most { length wakes.new ≤ length wakes.old + N }
+        ensures at_most { length wakes.new ≤ length wakes.old + L.room }
     {
         if self.version == u64::MAX {
             return Err(Exhausted(()));
@@ -204,14 +209,14 @@ impl<T: Drop, W: Copy + Eq, const N: usize> WatchState<T, W, N> {
     pub fn send_if_modified<C: Change<T>, const K: usize>(
         &mut self,
         change: &C,
-        wakes: &mut Wakes<W, K>,
+        wakes: &mut Wakes<L::Waker, K>,
     ) -> Result<(), Exhausted<()>>
-        requires { length wakes.old + N ≤ K }
+        requires { length wakes.old + L.room ≤ K }
         ensures room { OnOk result (self.old.version < last_version) }
         ensures exhausted { OnErr result (self.old.version ≡ last_version) }
         ensures state { self.new ≡ sent_if self.old (C.changed change.now self.old.value) (C.tells change.now self.old.value) result }
         ensures wakes { wakes.new ≡ wakes.old ++ woken_if (C.tells change.now self.old.value) result self.old.waiters }
-        ensures at_most { length wakes.new ≤ length wakes.old + N }
+        ensures at_most { length wakes.new ≤ length wakes.old + L.room }
     {
         if self.version == u64::MAX {
             return Err(Exhausted(()));
@@ -223,12 +228,12 @@ impl<T: Drop, W: Copy + Eq, const N: usize> WatchState<T, W, N> {
     }
 
     // Wakes who waits for news, which stand under the next version.
-    fn tell<const K: usize>(&mut self, wakes: &mut Wakes<W, K>)
+    fn tell<const K: usize>(&mut self, wakes: &mut Wakes<L::Waker, K>)
         requires more { self.old.version < last_version }
-        requires room { length wakes.old + N ≤ K }
+        requires room { length wakes.old + L.room ≤ K }
         ensures state { self.new ≡ record self.old { version = self.old.version + 1; waiters = [] } }
         ensures wakes { wakes.new ≡ wakes.old ++ self.old.waiters }
-        ensures at_most { length wakes.new ≤ length wakes.old + N }
+        ensures at_most { length wakes.new ≤ length wakes.old + L.room }
     {
         self.version += 1;
         self.waiters.wake(wakes);
@@ -251,17 +256,17 @@ impl<T: Drop, W: Copy + Eq, const N: usize> WatchState<T, W, N> {
     /// How many receivers are counted.
     pub fn receivers(&self) -> usize
         ensures value { result ≡ self.now.receivers }
-        ensures within { result ≤ N }
+        ensures within { result ≤ L.room }
     {
         self.receivers
     }
 
-    /// Counts one more receiver, which has seen version 0, and answers true, or answers false where `N` are counted.
+    /// Counts one more receiver, which has seen version 0, and answers true, or answers false where as many are counted as there is room for.
     pub fn add_receiver(&mut self) -> bool
-        ensures answer { result ≡ nat_lt self.old.receivers N }
+        ensures answer { result ≡ nat_lt self.old.receivers L.room }
         ensures state { self.new ≡ record self.old { receivers = counted result self.old.receivers } }
     {
-        let has_room = self.receivers < N;
+        let has_room = self.receivers < L::room();
         if has_room {
             self.receivers += 1;
         }
@@ -277,7 +282,7 @@ impl<T: Drop, W: Copy + Eq, const N: usize> WatchState<T, W, N> {
     }
 }
 
-impl<T: Clone, W: Copy + Eq, const N: usize> WatchState<T, W, N> {
+impl<T: Clone, L: WakerList> WatchOver<T, L> {
     /// A clone of the value, if there is one. The version is marked as seen, also where there is none. Who keeps no version lends one
     /// that it drops.
     ///
@@ -317,7 +322,7 @@ impl<T: Clone, W: Copy + Eq, const N: usize> WatchState<T, W, N> {
         ensures answer { Answers T.is_clone T.is_infallible (found (nat_lt seen.old self.now.version) self.now.value) result }
         ensures seen { seen.new ≡ seen_after (nat_lt seen.old self.now.version) self.now.version seen.old result }
     {
-        let is_newer = *seen < self.version;
+        let is_newer = self.is_newer(*seen);
         self.read(is_newer, is_newer, seen)
     }
 
@@ -346,16 +351,16 @@ impl<T: Clone, W: Copy + Eq, const N: usize> WatchState<T, W, N> {
     pub fn poll_get<const K: usize>(
         &mut self,
         seen: &mut u64,
-        cx: &Context<W>,
-        wakes: &mut Wakes<W, K>,
+        cx: &Context<L::Waker>,
+        wakes: &mut Wakes<L::Waker, K>,
     ) -> Result<Poll<T>, AllocError>
-        requires place { 1 ≤ N }
-        requires room { length wakes.old + N ≤ K }
+        requires place { 1 ≤ L.room }
+        requires room { length wakes.old + L.room ≤ K }
         ensures answer { Answers T.is_clone T.is_infallible self.old.value (polled result) }
         ensures seen { seen.new ≡ seen_after false self.old.version seen.old (polled result) }
-        ensures state { self.new ≡ record self.old { waiters = registered_if W.eq N self.old.waiters (waiter_where_pending result cx.now) } }
-        ensures wakes { wakes.new ≡ wakes.old ++ displaced_if W.eq N self.old.waiters (waiter_where_pending result cx.now) }
-        ensures at_most { length wakes.new ≤ length wakes.old + N }
+        ensures state { self.new ≡ record self.old { waiters = registered_if L.Waker.eq L.room self.old.waiters (waiter_where_pending result cx.now) } }
+        ensures wakes { wakes.new ≡ wakes.old ++ displaced_if L.Waker.eq L.room self.old.waiters (waiter_where_pending result cx.now) }
+        ensures at_most { length wakes.new ≤ length wakes.old + L.room }
     {
         self.poll(true, seen, cx, wakes)
     }
@@ -370,16 +375,16 @@ impl<T: Clone, W: Copy + Eq, const N: usize> WatchState<T, W, N> {
         &mut self,
         judge: &J,
         seen: &mut u64,
-        cx: &Context<W>,
-        wakes: &mut Wakes<W, K>,
+        cx: &Context<L::Waker>,
+        wakes: &mut Wakes<L::Waker, K>,
     ) -> Result<Poll<T>, AllocError>
-        requires place { 1 ≤ N }
-        requires room { length wakes.old + N ≤ K }
+        requires place { 1 ≤ L.room }
+        requires room { length wakes.old + L.room ≤ K }
         ensures answer { Answers T.is_clone T.is_infallible (found (judged (J.passes judge.now) self.old.value) self.old.value) (polled result) }
         ensures seen { seen.new ≡ seen_after false self.old.version seen.old (polled result) }
-        ensures state { self.new ≡ record self.old { waiters = registered_if W.eq N self.old.waiters (waiter_where_pending result cx.now) } }
-        ensures wakes { wakes.new ≡ wakes.old ++ displaced_if W.eq N self.old.waiters (waiter_where_pending result cx.now) }
-        ensures at_most { length wakes.new ≤ length wakes.old + N }
+        ensures state { self.new ≡ record self.old { waiters = registered_if L.Waker.eq L.room self.old.waiters (waiter_where_pending result cx.now) } }
+        ensures wakes { wakes.new ≡ wakes.old ++ displaced_if L.Waker.eq L.room self.old.waiters (waiter_where_pending result cx.now) }
+        ensures at_most { length wakes.new ≤ length wakes.old + L.room }
     {
         self.poll(self.judged(judge), seen, cx, wakes)
     }
@@ -393,18 +398,18 @@ impl<T: Clone, W: Copy + Eq, const N: usize> WatchState<T, W, N> {
     pub fn poll_changed<const K: usize>(
         &mut self,
         seen: &mut u64,
-        cx: &Context<W>,
-        wakes: &mut Wakes<W, K>,
+        cx: &Context<L::Waker>,
+        wakes: &mut Wakes<L::Waker, K>,
     ) -> Result<Poll<T>, AllocError>
-        requires place { 1 ≤ N }
-        requires room { length wakes.old + N ≤ K }
+        requires place { 1 ≤ L.room }
+        requires room { length wakes.old + L.room ≤ K }
         ensures answer { Answers T.is_clone T.is_infallible (found (nat_lt seen.old self.old.version) self.old.value) (polled result) }
         ensures seen { seen.new ≡ seen_after false self.old.version seen.old (polled result) }
-        ensures state { self.new ≡ record self.old { waiters = registered_if W.eq N self.old.waiters (waiter_where_pending result cx.now) } }
-        ensures wakes { wakes.new ≡ wakes.old ++ displaced_if W.eq N self.old.waiters (waiter_where_pending result cx.now) }
-        ensures at_most { length wakes.new ≤ length wakes.old + N }
+        ensures state { self.new ≡ record self.old { waiters = registered_if L.Waker.eq L.room self.old.waiters (waiter_where_pending result cx.now) } }
+        ensures wakes { wakes.new ≡ wakes.old ++ displaced_if L.Waker.eq L.room self.old.waiters (waiter_where_pending result cx.now) }
+        ensures at_most { length wakes.new ≤ length wakes.old + L.room }
     {
-        self.poll(*seen < self.version, seen, cx, wakes)
+        self.poll(self.is_newer(*seen), seen, cx, wakes)
     }
 
     /// A clone of the value, if it passes the test and its version is newer than the one that was seen, and marks it. Elsewhere the
@@ -417,16 +422,16 @@ impl<T: Clone, W: Copy + Eq, const N: usize> WatchState<T, W, N> {
         &mut self,
         judge: &J,
         seen: &mut u64,
-        cx: &Context<W>,
-        wakes: &mut Wakes<W, K>,
+        cx: &Context<L::Waker>,
+        wakes: &mut Wakes<L::Waker, K>,
     ) -> Result<Poll<T>, AllocError>
-        requires place { 1 ≤ N }
-        requires room { length wakes.old + N ≤ K }
+        requires place { 1 ≤ L.room }
+        requires room { length wakes.old + L.room ≤ K }
         ensures answer { Answers T.is_clone T.is_infallible (found (nat_lt seen.old self.old.version && judged (J.passes judge.now) self.old.value) self.old.value) (polled result) }
         ensures seen { seen.new ≡ seen_after false self.old.version seen.old (polled result) }
-        ensures state { self.new ≡ record self.old { waiters = registered_if W.eq N self.old.waiters (waiter_where_pending result cx.now) } }
-        ensures wakes { wakes.new ≡ wakes.old ++ displaced_if W.eq N self.old.waiters (waiter_where_pending result cx.now) }
-        ensures at_most { length wakes.new ≤ length wakes.old + N }
+        ensures state { self.new ≡ record self.old { waiters = registered_if L.Waker.eq L.room self.old.waiters (waiter_where_pending result cx.now) } }
+        ensures wakes { wakes.new ≡ wakes.old ++ displaced_if L.Waker.eq L.room self.old.waiters (waiter_where_pending result cx.now) }
+        ensures at_most { length wakes.new ≤ length wakes.old + L.room }
     {
         self.poll(self.judged_newer(judge, *seen), seen, cx, wakes)
     }
@@ -436,16 +441,16 @@ impl<T: Clone, W: Copy + Eq, const N: usize> WatchState<T, W, N> {
         &mut self,
         shows: bool,
         seen: &mut u64,
-        cx: &Context<W>,
-        wakes: &mut Wakes<W, K>,
+        cx: &Context<L::Waker>,
+        wakes: &mut Wakes<L::Waker, K>,
     ) -> Result<Poll<T>, AllocError>
-        requires place { 1 ≤ N }
-        requires room { length wakes.old + N ≤ K }
+        requires place { 1 ≤ L.room }
+        requires room { length wakes.old + L.room ≤ K }
         ensures answer { Answers T.is_clone T.is_infallible (found shows self.old.value) (polled result) }
         ensures seen { seen.new ≡ seen_after false self.old.version seen.old (polled result) }
-        ensures state { self.new ≡ record self.old { waiters = registered_if W.eq N self.old.waiters (waiter_where_pending result cx.now) } }
-        ensures wakes { wakes.new ≡ wakes.old ++ displaced_if W.eq N self.old.waiters (waiter_where_pending result cx.now) }
-        ensures at_most { length wakes.new ≤ length wakes.old + N }
+        ensures state { self.new ≡ record self.old { waiters = registered_if L.Waker.eq L.room self.old.waiters (waiter_where_pending result cx.now) } }
+        ensures wakes { wakes.new ≡ wakes.old ++ displaced_if L.Waker.eq L.room self.old.waiters (waiter_where_pending result cx.now) }
+        ensures at_most { length wakes.new ≤ length wakes.old + L.room }
     {
         match self.read(shows, false, seen)? {
             Some(value) => Ok(Poll::Ready(value)),
@@ -484,6 +489,13 @@ impl<T: Clone, W: Copy + Eq, const N: usize> WatchState<T, W, N> {
         }
     }
 
+    // The version is newer than the one that was seen.
+    fn is_newer(&self, seen: u64) -> bool
+        ensures { result ≡ nat_lt seen self.now.version }
+    {
+        seen < self.version
+    }
+
     // There is a value that passes the test.
     fn judged<J: Judge<T>>(&self, judge: &J) -> bool
         ensures { result ≡ judged (J.passes judge.now) self.now.value }
@@ -493,10 +505,30 @@ impl<T: Clone, W: Copy + Eq, const N: usize> WatchState<T, W, N> {
             None => false,
         }
     }
+
     // There is a value that passes the test, and its version is newer than the one that was seen.
     fn judged_newer<J: Judge<T>>(&self, judge: &J, seen: u64) -> bool
         ensures { result ≡ (nat_lt seen self.now.version && judged (J.passes judge.now) self.now.value) }
     {
-        seen < self.version && self.judged(judge)
+        self.is_newer(seen) && self.judged(judge)
+    }
+
+    // There is a value that passes the closure.
+    fn passes<F: Fn(&T) -> bool>(&self, test: &F) -> bool
+        requires { F.IsAlwaysCallable test.now }
+        ensures { Tells (FnReturnsAt F.Fn test.now) self.now.value result }
+    {
+        match &self.value {
+            Some(value) => test(value),
+            None => false,
+        }
+    }
+
+    // There is a value that passes the closure, and its version is newer than the one that was seen.
+    fn passes_newer<F: Fn(&T) -> bool>(&self, test: &F, seen: u64) -> bool
+        requires { F.IsAlwaysCallable test.now }
+        ensures { TellsIf (nat_lt seen self.now.version) (FnReturnsAt F.Fn test.now) self.now.value result }
+    {
+        self.is_newer(seen) && self.passes(test)
     }
 }

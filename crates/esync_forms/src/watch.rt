@@ -1,10 +1,10 @@
 //! The watch, by its senders and receivers, and by those whose type doesn't say how many receivers it has room for.
 use crate::form::{Door, Doors, Form, nobody, over};
-use esync_base::waitqueue::{Context, Hand, Poll};
+use esync_base::waitqueue::{Context, Hand, Poll, WakerList};
 use esync_cells::watch::machine::{Await, Reading, WatchCall, WatchHeard};
 use esync_cells::watch::{
     AnonRcv, Change, DynAnonReceiver, DynReceiver, DynSender, Judge, Rcv, SharedWatch, Snd,
-    WatchBehavior, WatchValue,
+    WatchBehavior,
 };
 use esync_machine::primitive::{Answer, Turn};
 use std::alloc::{AllocError, Global};
@@ -27,8 +27,8 @@ pub trait Watches: WatchBehavior<Value = u32, Waker = u64> {
     fn found_of<J: Judge<u32> + Copy>(&self, judge: J) -> Result<Option<u32>, AllocError>;
 }
 
-impl<S: WatchValue<K, Value = u32, Waker = u64>, H: Hand<u64>, const K: usize> Watches
-    for SharedWatch<S, u64, H, K> {
+impl<L: WakerList<Waker = u64>, H: Hand<u64>, const K: usize> Watches
+    for SharedWatch<u32, L, H, K> {
     fn counted(&self, door: Door) -> Option<Rcv<'_, Self>> {
         match door {
             Door::Own | Door::Handle => self.receiver(),
@@ -382,9 +382,9 @@ where
     }
 }
 
-impl<'w, S, H, C, J, const K: usize> Watching<'w, SharedWatch<S, u64, H, K>, C, J>
+impl<'w, L, H, C, J, const K: usize> Watching<'w, SharedWatch<u32, L, H, K>, C, J>
 where
-    S: WatchValue<K, Value = u32, Waker = u64>,
+    L: WakerList<Waker = u64>,
     H: Hand<u64>,
     C: Change<u32> + Drop,
     J: Judge<u32> + Copy,
@@ -396,7 +396,7 @@ where
     /// Where there is no memory.
     pub fn new(
         alloc: Global,
-        watch: &'w SharedWatch<S, u64, H, K>,
+        watch: &'w SharedWatch<u32, L, H, K>,
         doors: Doors,
     ) -> Result<Self, AllocError> {
         let receivers = nobody(alloc)?;

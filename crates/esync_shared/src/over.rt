@@ -6,9 +6,9 @@ use bumpalo::Bump;
 use esync_base::deque::Deque;
 use esync_base::ring_buffer::ByteRing;
 use esync_base::store::{ByteStore, Store};
-use esync_base::waitqueue::{Hand, TaskId};
+use esync_base::waitqueue::{Hand, TaskId, WakerList};
 use esync_cells::signal::Signal;
-use esync_cells::watch::{SharedWatch, Watch, WatchValue};
+use esync_cells::watch::{SharedWatch, Watch};
 use esync_channel::channel::SharedMailbox;
 use esync_forms::channel::Channel;
 use esync_forms::form::Door;
@@ -284,15 +284,9 @@ pub fn mutex<R: Wait, W: Write>(
 }
 
 // Over this watch, which has no receivers.
-fn latest<
-    S: WatchValue<K, Value = u32, Waker = u64>,
-    H: Hand<u64>,
-    R: Wait,
-    W: Write,
-    const K: usize,
->(
+fn latest<L: WakerList<Waker = u64>, H: Hand<u64>, R: Wait, W: Write, const K: usize>(
     stage: Stage<'_, '_, R>,
-    watch: &SharedWatch<S, u64, H, K>,
+    watch: &SharedWatch<u32, L, H, K>,
     script: &mut Script<'_>,
     output: &mut W,
 ) -> Result<(), Fault> {

@@ -11,9 +11,9 @@ ghost use Rattle.esync_cells.specs.Receivers.{count, is_counted, is_free, seen_a
 ghost use Rattle.esync_cells.specs.WatchRules.{watch_rules, watch_wakings, watch_of, sought, marks, Polls, Calls, Joins, JoinsAnon, Leaves, TriesGet, Reads, Sends, Modifies, IsReceiving, answer_hands};
 ghost use Rattle.esync_cells.specs.WatchNews.{TellsOnce};
 
-use super::{Change, Exhausted, Judge, WatchState};
+use super::{Change, Exhausted, Judge, WatchOver};
 use esync_base::kept::Kept;
-use esync_base::waitqueue::{Context, Poll, Registered, Wakes};
+use esync_base::waitqueue::{Context, Poll, Registered, WakerList, Wakes};
 use esync_machine::names::Names;
 use esync_machine::primitive::{Answer, Command, Primitive, Reach, Turn};
 use esync_machine::requests::Requests;
@@ -93,20 +93,20 @@ pub enum WatchHeard<T> {
 }
 
 // A poll of any reading.
-fn poll_reading<T: Clone, W: Copy + Eq, J: Judge<T>, const N: usize, const K: usize>(
-    state: &mut WatchState<T, W, N>,
+fn poll_reading<T: Clone, L: WakerList, J: Judge<T>, const K: usize>(
+    state: &mut WatchOver<T, L>,
     read: &Reading<J>,
     seen: &mut u64,
-    cx: &Context<W>,
-    wakes: &mut Wakes<W, K>,
+    cx: &Context<L::Waker>,
+    wakes: &mut Wakes<L::Waker, K>,
 ) -> Result<Poll<T>, AllocError>
-    requires place { 1 ≤ N }
-    requires room { length wakes.old + N ≤ K }
+    requires place { 1 ≤ L.room }
+    requires room { length wakes.old + L.room ≤ K }
     ensures answer { Answers T.is_clone T.is_infallible (sought J.passes state.old.value state.old.version seen.old read.now) (polled result) }
     ensures seen { seen.new ≡ seen_after false state.old.version seen.old (polled result) }
-    ensures state { state.new ≡ record state.old { waiters = registered_if W.eq N state.old.waiters (waiter_where_pending result cx.now) } }
-    ensures wakes { wakes.new ≡ wakes.old ++ displaced_if W.eq N state.old.waiters (waiter_where_pending result cx.now) }
-    ensures at_most { length wakes.new ≤ length wakes.old + N }
+    ensures state { state.new ≡ record state.old { waiters = registered_if L.Waker.eq L.room state.old.waiters (waiter_where_pending result cx.now) } }
+    ensures wakes { wakes.new ≡ wakes.old ++ displaced_if L.Waker.eq L.room state.old.waiters (waiter_where_pending result cx.now) }
+    ensures at_most { length wakes.new ≤ length wakes.old + L.room }
 {
     match read {
         Reading::Get => state.poll_get(seen, cx, wakes),
@@ -117,8 +117,8 @@ fn poll_reading<T: Clone, W: Copy + Eq, J: Judge<T>, const N: usize, const K: us
 }
 
 // A try of any reading.
-fn try_reading<T: Clone, W: Copy + Eq, J: Judge<T>, const N: usize>(
-    state: &WatchState<T, W, N>,
+fn try_reading<T: Clone, L: WakerList, J: Judge<T>>(
+    state: &WatchOver<T, L>,
     read: &Reading<J>,
     seen: &mut u64,
 ) -> Result<Option<T>, AllocError>
@@ -134,10 +134,7 @@ fn try_reading<T: Clone, W: Copy + Eq, J: Judge<T>, const N: usize>(
 }
 
 // Counts one receiver less, if this one is counted.
-fn drop_counted<T: Drop, W: Copy + Eq, const N: usize>(
-    state: &mut WatchState<T, W, N>,
-    is_counted: bool,
-)
+fn drop_counted<T: Drop, L: WakerList>(state: &mut WatchOver<T, L>, is_counted: bool)
     requires { is_counted ≡ true → 1 ≤ state.old.receivers }
     ensures state { state.new ≡ record state.old { receivers = state.new.receivers } }
     ensures count { state.old.receivers ≡ counted is_counted state.new.receivers }
@@ -147,43 +144,42 @@ fn drop_counted<T: Drop, W: Copy + Eq, const N: usize>(
     }
 }
 
-/// A watch with its receivers, at the numbers below `NAMES`; at most `N` are counted.
-#[derive_where(Debug; T: fmt::Debug + Drop, W: fmt::Debug)]
+/// A watch with its receivers, at the numbers below `NAMES`.
+#[derive_where(Debug; T: fmt::Debug + Drop, L: fmt::Debug)]
 #[derive(Drop)]
-pub struct Watched<T, W, C, J, const N: usize, const NAMES: usize> {
-    state: WatchState<T, W, N>,
+pub struct Watched<T, L: WakerList, C, J, const NAMES: usize> {
+    state: WatchOver<T, L>,
     receivers: Names<Seen, NAMES>,
     change: PhantomData<C>,
     judge: PhantomData<J>,
 }
 
-impl<T, W, C, J, const N: usize, const NAMES: usize> Model for Watched<T, W, C, J, N, NAMES> {
+impl<T, L: WakerList, C, J, const NAMES: usize> Model for Watched<T, L, C, J, NAMES> {
     ghost use Rattle.esync_cells.specs.Receivers.{Followed, followed_code, IsCounted};
 
-    ghost Value = { Followed T W };
+    ghost Value = { Followed T L.Waker };
 
-    ghost coded = { followed_code T.code W.code };
+    ghost coded = { followed_code T.code L.Waker.code };
 
     ghost view = { λ a. record { state = a.state; receivers = a.receivers } };
 
     ghost invariant = { λ a. IsCounted NAMES a.state.receivers a.receivers };
 }
 
-impl<T, W: Copy + Eq, C, J, const N: usize, const NAMES: usize> Registered
-    for Watched<T, W, C, J, N, NAMES> {
-    type Waker = W;
+impl<T, L: WakerList, C, J, const NAMES: usize> Registered for Watched<T, L, C, J, NAMES> {
+    type Waker = L::Waker;
 
     ghost use Rattle.esync_base.specs.Standing.{at_one};
 
     ghost at = { λ m. at_one m.state.waiters };
 
-    fn registered(&self, place: usize, i: usize) -> Option<W> {
+    fn registered(&self, place: usize, i: usize) -> Option<L::Waker> {
         self.state.registered(place, i)
     }
 }
 
-impl<T: Copy, W: Copy, C: Drop, J: Drop, const N: usize, const NAMES: usize> Kept
-    for Watched<T, W, C, J, N, NAMES> {
+impl<T: Copy, L: WakerList, C: Drop, J: Drop, const NAMES: usize> Kept
+    for Watched<T, L, C, J, NAMES> {
     fn kept(&self) -> Result<Self, AllocError> {
         Ok(Watched {
             state: self.state.kept()?,
@@ -196,12 +192,11 @@ impl<T: Copy, W: Copy, C: Drop, J: Drop, const N: usize, const NAMES: usize> Kep
 
 impl<
     T: Clone + Drop,
-    W: Copy + Eq,
+    L: WakerList,
     C: Change<T> + Drop,
     J: Judge<T> + Drop,
-    const N: usize,
     const NAMES: usize,
-> Watched<T, W, C, J, N, NAMES> {
+> Watched<T, L, C, J, NAMES> {
     // The version that the receiver at the number has seen, and 0 where there is none.
     fn seen_at(&self, h: usize) -> u64
         ensures { result ≡ seen_at self.now.receivers h }
@@ -238,7 +233,7 @@ impl<
         ensures state { result.state ≡ fresh None 0 }
         ensures receivers { result.receivers ≡ replicate NAMES None }
     {
-        Watched::with_state(WatchState::new())
+        Watched::with_state(WatchOver::new())
     }
 
     /// A watch without receivers, with this value, at version 0: nobody has news of it.
@@ -246,7 +241,7 @@ impl<
         ensures state { result.state ≡ fresh (Some value) 0 }
         ensures receivers { result.receivers ≡ replicate NAMES None }
     {
-        Watched::with_state(WatchState::new_with(value))
+        Watched::with_state(WatchOver::new_with(value))
     }
 
     /// A watch without receivers and without a value, at this version.
@@ -254,11 +249,11 @@ impl<
         ensures state { result.state ≡ fresh None version }
         ensures receivers { result.receivers ≡ replicate NAMES None }
     {
-        Watched::with_state(WatchState::new_at(version))
+        Watched::with_state(WatchOver::new_at(version))
     }
 
     // A watch without receivers, in this state, in which nobody is counted.
-    fn with_state(state: WatchState<T, W, N>) -> Self
+    fn with_state(state: WatchOver<T, L>) -> Self
         requires { state.receivers ≡ 0 }
         ensures state { result.state ≡ state }
         ensures receivers { result.receivers ≡ replicate NAMES None }
@@ -284,7 +279,7 @@ impl<
     // Where a counted receiver is, there is a place for a waker. This says so, and does nothing.
     fn has_place(&self, h: usize)
         requires { is_counted (at_number self.now.receivers h) ≡ true }
-        ensures { 1 ≤ N }
+        ensures { 1 ≤ L.room }
     {
         let _counted = self.state.receivers();
         let _receiver = self.receivers.get(h);
@@ -294,14 +289,14 @@ impl<
     fn turn<const K: usize>(
         &mut self,
         held: Await<J>,
-        cx: &Context<W>,
-        wakes: &mut Wakes<W, K>,
+        cx: &Context<L::Waker>,
+        wakes: &mut Wakes<L::Waker, K>,
     ) -> Turn<WatchHeard<T>, Await<J>>
         requires empty { wakes.old ≡ [] }
-        requires room { N ≤ K }
+        requires room { L.room ≤ K }
         requires fits { IsReceiving (watch_of self.old) held }
         ensures allowed { Polls T.is_clone T.is_infallible J.passes (watch_of self.old) held result.answer (watch_of self.new) result.place }
-        ensures exact { IsHanded (poll_handed (watch_wakings W.eq N C.tells) (watch_of self.old) self.old.state.waiters held cx.now result.answer result.place) wakes.new self.new.state.waiters }
+        ensures exact { IsHanded (poll_handed (watch_wakings L.Waker.eq L.room C.tells) (watch_of self.old) self.old.state.waiters held cx.now result.answer result.place) wakes.new self.new.state.waiters }
     {
         self.has_place(held.receiver);
         let mut seen = self.seen_at(held.receiver);
@@ -320,7 +315,7 @@ impl<
 
     // A counted receiver comes.
     fn join(&mut self, h: usize) -> Answer<WatchHeard<T>>
-        ensures allowed { Joins (is_free h self.old.receivers) (nat_lt (count self.old.receivers) N) h (watch_of self.old) result (watch_of self.new) }
+        ensures allowed { Joins (is_free h self.old.receivers) (nat_lt (count self.old.receivers) L.room) h (watch_of self.old) result (watch_of self.new) }
         ensures waiters { self.new.state.waiters ≡ self.old.state.waiters }
     {
         if !self.is_free(h) {
@@ -397,9 +392,13 @@ impl<
     }
 
     // What a call does that puts a value.
-    fn send<const K: usize>(&mut self, value: T, wakes: &mut Wakes<W, K>) -> Answer<WatchHeard<T>>
+    fn send<const K: usize>(
+        &mut self,
+        value: T,
+        wakes: &mut Wakes<L::Waker, K>,
+    ) -> Answer<WatchHeard<T>>
         requires empty { wakes.old ≡ [] }
-        requires room { N ≤ K }
+        requires room { L.room ≤ K }
         ensures allowed { Sends value (watch_of self.old) result (watch_of self.new) }
         ensures exact { IsHanded (answer_hands true result self.old.state.waiters) wakes.new self.new.state.waiters }
     {
@@ -410,10 +409,10 @@ impl<
     fn modify<const K: usize>(
         &mut self,
         change: &C,
-        wakes: &mut Wakes<W, K>,
+        wakes: &mut Wakes<L::Waker, K>,
     ) -> Answer<WatchHeard<T>>
         requires empty { wakes.old ≡ [] }
-        requires room { N ≤ K }
+        requires room { L.room ≤ K }
         ensures allowed { Modifies (C.changed change.now self.old.state.value) true (watch_of self.old) result (watch_of self.new) }
         ensures exact { IsHanded (answer_hands true result self.old.state.waiters) wakes.new self.new.state.waiters }
     {
@@ -424,10 +423,10 @@ impl<
     fn modify_if<const K: usize>(
         &mut self,
         change: &C,
-        wakes: &mut Wakes<W, K>,
+        wakes: &mut Wakes<L::Waker, K>,
     ) -> Answer<WatchHeard<T>>
         requires empty { wakes.old ≡ [] }
-        requires room { N ≤ K }
+        requires room { L.room ≤ K }
         ensures allowed { Modifies (C.changed change.now self.old.state.value) (C.tells change.now self.old.state.value) (watch_of self.old) result (watch_of self.new) }
         ensures exact { IsHanded (answer_hands (C.tells change.now self.old.state.value) result self.old.state.waiters) wakes.new self.new.state.waiters }
     {
@@ -438,12 +437,12 @@ impl<
     fn perform<const K: usize>(
         &mut self,
         call: WatchCall<T, C, J>,
-        wakes: &mut Wakes<W, K>,
+        wakes: &mut Wakes<L::Waker, K>,
     ) -> Answer<WatchHeard<T>>
         requires empty { wakes.old ≡ [] }
-        requires room { N ≤ K }
-        ensures allowed { Calls N T.is_clone T.is_infallible C.changed C.tells J.passes (watch_of self.old) call result (watch_of self.new) }
-        ensures exact { IsHanded (called (watch_wakings W.eq N C.tells) (watch_of self.old) self.old.state.waiters call None result) wakes.new self.new.state.waiters }
+        requires room { L.room ≤ K }
+        ensures allowed { Calls L.room T.is_clone T.is_infallible C.changed C.tells J.passes (watch_of self.old) call result (watch_of self.new) }
+        ensures exact { IsHanded (called (watch_wakings L.Waker.eq L.room C.tells) (watch_of self.old) self.old.state.waiters call None result) wakes.new self.new.state.waiters }
     {
         match call {
             WatchCall::Receiver(h) => self.join(h),
@@ -468,13 +467,12 @@ impl<
 
 impl<
     T: Clone + Drop,
-    W: Copy + Eq,
+    L: WakerList,
     C: Change<T> + Drop,
     J: Judge<T> + Drop,
-    const N: usize,
     const NAMES: usize,
     const K: usize,
-> Primitive<K> for Watched<T, W, C, J, N, NAMES> {
+> Primitive<K> for Watched<T, L, C, J, NAMES> {
     type Ask = Await<J>;
 
     type Held = Await<J>;
@@ -483,22 +481,22 @@ impl<
 
     type Heard = WatchHeard<T>;
 
-    type Waker = W;
+    type Waker = L::Waker;
 
     ghost use Rattle.esync_cells.specs.WatchRules.{watch_rules, watch_wakings, watch_of, IsReceiving, OwesNews};
     ghost use Rattle.esync_cells.specs.WatchLaws.{watch_idle, watch_pending};
 
-    ghost rules = { watch_rules N T.is_clone T.is_infallible C.changed C.tells J.passes };
+    ghost rules = { watch_rules L.room T.is_clone T.is_infallible C.changed C.tells J.passes };
 
     ghost core = { watch_of };
 
-    ghost wakings = { watch_wakings W.eq N C.tells };
+    ghost wakings = { watch_wakings L.Waker.eq L.room C.tells };
 
     ghost registrations = { λ m. m.state.waiters };
 
-    ghost most = { max N 1 };
+    ghost most = { max L.room 1 };
 
-    ghost Owes = { λ m held w. OwesNews J.passes W.eq (watch_of m) m.state.waiters held w };
+    ghost Owes = { λ m held w. OwesNews J.passes L.Waker.eq (watch_of m) m.state.waiters held w };
 
     ghost Fits = { λ m held. IsReceiving (watch_of m) held };
 
@@ -515,13 +513,13 @@ impl<
     fn poll(
         &mut self,
         held: Await<J>,
-        waker: W,
-        wakes: &mut Wakes<W, K>,
+        waker: L::Waker,
+        wakes: &mut Wakes<L::Waker, K>,
     ) -> Turn<WatchHeard<T>, Await<J>> {
         self.turn(held, &Context::from_waker(waker), wakes)
     }
 
-    fn end(&mut self, _held: Await<J>, _wakes: &mut Wakes<W, K>) {}
+    fn end(&mut self, _held: Await<J>, _wakes: &mut Wakes<L::Waker, K>) {}
 
     fn reach(call: &WatchCall<T, C, J>) -> Reach {
         match call {
@@ -541,14 +539,14 @@ impl<
         &mut self,
         call: WatchCall<T, C, J>,
         _place: &mut Option<Await<J>>,
-        wakes: &mut Wakes<W, K>,
+        wakes: &mut Wakes<L::Waker, K>,
     ) -> Answer<WatchHeard<T>> {
         self.perform(call, wakes)
     }
 
-    ghost idle = { λ m held w f owes. watch_idle N T.is_clone T.is_infallible C.changed C.tells J.passes W.eq (watch_of m) m.state.waiters held w owes };
+    ghost idle = { λ m held w f owes. watch_idle L.room T.is_clone T.is_infallible C.changed C.tells J.passes L.Waker.eq (watch_of m) m.state.waiters held w owes };
 
-    ghost pending = { watch_pending N T.is_clone T.is_infallible C.changed C.tells J.passes };
+    ghost pending = { watch_pending L.room T.is_clone T.is_infallible C.changed C.tells J.passes };
 
     ghost no_such = { λ o h a o2 p n k. absurd (n tt) };
 
@@ -556,7 +554,7 @@ impl<
 
     ghost use Rattle.esync_machine.specs.RulesLaws.{all_requests};
 
-    ghost no_requests = { all_requests (watch_rules N T.is_clone T.is_infallible C.changed C.tells J.passes) (λ h. tt) (λ o o2 call p p2 a c. c.1) };
+    ghost no_requests = { all_requests (watch_rules L.room T.is_clone T.is_infallible C.changed C.tells J.passes) (λ h. tt) (λ o o2 call p p2 a c. c.1) };
 }
 
 /// A watch as a machine, with requests at the numbers below `REQS`, and receivers at those below `NAMES`, of which at most `N` are
@@ -570,7 +568,7 @@ pub type WatchRun<
     const NAMES: usize,
     const REQS: usize,
     const K: usize,
-> = Requests<Watched<T, W, C, J, N, NAMES>, REQS, K>;
+> = Requests<Watched<T, Wakes<W, N>, C, J, NAMES>, REQS, K>;
 
 /// The commands of a watch.
 pub type WatchCommand<T, W, C, J> = Command<Await<J>, W, WatchCall<T, C, J>>;

@@ -1,218 +1,17 @@
 //! A watch that tasks on several threads share by reference.
-ghost use Rattle.std.specs.Prelude.{◌≡◌, ℕ, ◌-◌, ◌<◌, ◌≤◌, ◌++◌, [], Option, Some, None, is_some, nat_lt, true, false, length, OnOk, OnErr, IfErr, IfSome};
+ghost use Rattle.std.specs.Prelude.{◌≡◌, ℕ, ◌<◌, ◌≤◌, nat_lt, true, false, IfErr, IfSome};
 ghost use Rattle.std.specs.Fn.{FnReturnsAt};
-ghost use Rattle.esync_base.specs.Registration.{registered_if, displaced_if};
-ghost use Rattle.esync_cells.specs.Watch.{fresh, found, Answers, seen_after, polled, waiter_where_pending, last_version, sent, woken_by, sent_if, woken_if, counted};
-ghost use Rattle.esync_cells.specs.Watched.{Tells, Always, WhereNewer, WherePassing, WhereNewPassing, ReadsSome};
+ghost use Rattle.esync_cells.specs.Watch.{polled};
+ghost use Rattle.esync_cells.specs.Watched.{Always, WhereNewer, WherePassing, WhereNewPassing, ReadsSome};
 
 use super::{
-    AnonRcv, Change, DynAnonReceiver, DynReceiver, DynSender, Exhausted, Rcv, Snd, WatchState,
+    AnonRcv, Change, DynAnonReceiver, DynReceiver, DynSender, Exhausted, Rcv, Snd, WatchOver,
 };
 use esync_base::shared::Shared;
 use esync_base::step;
-use esync_base::waitqueue::{Context, Hand, Poll, Wakes};
+use esync_base::waitqueue::{Context, Hand, Poll, WakerList, Wakes};
 use std::alloc::AllocError;
 use std::sync::Wait;
-
-/// What a shared watch takes of its state, however many receivers it has room for.
-pub trait WatchValue<const K: usize>: Drop {
-    type Value: Clone;
-
-    type Waker: Copy + Eq;
-
-    ghost use Rattle.std.specs.Prelude.{ℕ};
-    ghost use Rattle.esync_cells.specs.Watch.{Watching};
-
-    /// How many receivers can be counted.
-    ghost places: { ℕ };
-
-    /// The value, its version, the counted receivers, and who waits.
-    ghost watching: { Self → Watching Self.Value Self.Waker };
-
-    /// No value, at version 0.
-    fn new() -> Self
-        ensures { watching result ≡ fresh None 0 };
-
-    /// This value, at version 0.
-    fn new_with(value: Self::Value) -> Self
-        ensures { watching result ≡ fresh (Some value) 0 };
-
-    /// The value, if there is one.
-    fn value(&self) -> &Option<Self::Value>
-        ensures { result.now ≡ (watching self.now).value };
-
-    /// The version of the latest value.
-    fn get_msg_id(&self) -> u64
-        ensures { result ≡ (watching self.now).version };
-
-    /// Counts one more receiver, and answers true, or answers false where as many are counted as there is room for.
-    fn add_receiver(&mut self) -> bool
-        ensures answer { result ≡ nat_lt (watching self.old).receivers places }
-        ensures state { watching self.new ≡ record (watching self.old) { receivers = counted result (watching self.old).receivers } };
-
-    /// Counts one receiver less, where there is one.
-    fn drop_receiver(&mut self)
-        ensures { watching self.new ≡ record (watching self.old) { receivers = (watching self.old).receivers - 1 } };
-
-    /// Drops the value.
-    fn clear(&mut self)
-        ensures { watching self.new ≡ record (watching self.old) { value = None } };
-
-    /// Puts a value under the next version, and wakes who waits. Where versions have run out the value comes back, and nothing is
-    /// changed.
-    fn send(
-        &mut self,
-        value: Self::Value,
-        wakes: &mut Wakes<Self::Waker, K>,
-    ) -> Result<(), Exhausted<Self::Value>>
-        requires empty { wakes.old ≡ [] }
-        requires room { places ≤ K }
-        ensures room { OnOk result ((watching self.old).version < last_version) }
-        ensures exhausted { OnErr result ((watching self.old).version ≡ last_version) }
-        ensures returned { IfErr result (λ back. back.0 ≡ value) }
-        ensures state { watching self.new ≡ sent (watching self.old) (Some value) result }
-        ensures wakes { wakes.new ≡ woken_by result (watching self.old).waiters };
-
-    /// Changes the value under the next version, and wakes who waits. Where versions have run out the change isn't called, and nothing
-    /// is changed.
-    fn send_modify<C: Change<Self::Value>>(
-        &mut self,
-        change: &C,
-        wakes: &mut Wakes<Self::Waker, K>,
-    ) -> Result<(), Exhausted<()>>
-        requires empty { wakes.old ≡ [] }
-        requires room { places ≤ K }
-        ensures room { OnOk result ((watching self.old).version < last_version) }
-        ensures exhausted { OnErr result ((watching self.old).version ≡ last_version) }
-        ensures state { watching self.new ≡ sent (watching self.old) (C.changed change.now (watching self.old).value) result }
-        ensures wakes { wakes.new ≡ woken_by result (watching self.old).waiters };
-
-    /// Changes the value. Where the change answers that there is another value, it stands under the next version, and who waits is
-    /// woken. Where versions have run out the change isn't called, and nothing is changed.
-    fn send_if_modified<C: Change<Self::Value>>(
-        &mut self,
-        change: &C,
-        wakes: &mut Wakes<Self::Waker, K>,
-    ) -> Result<(), Exhausted<()>>
-        requires empty { wakes.old ≡ [] }
-        requires room { places ≤ K }
-        ensures room { OnOk result ((watching self.old).version < last_version) }
-        ensures exhausted { OnErr result ((watching self.old).version ≡ last_version) }
-        ensures state { watching self.new ≡ sent_if (watching self.old) (C.changed change.now (watching self.old).value) (C.tells change.now (watching self.old).value) result }
-        ensures wakes { wakes.new ≡ woken_if (C.tells change.now (watching self.old).value) result (watching self.old).waiters };
-
-    /// A read of the value, if it is to be shown. It may mark the version as seen even where it finds nothing.
-    fn read(
-        &self,
-        shows: bool,
-        marks: bool,
-        seen: &mut u64,
-    ) -> Result<Option<Self::Value>, AllocError>
-        ensures answer { Answers Self.Value.is_clone Self.Value.is_infallible (found shows (watching self.now).value) result }
-        ensures seen { seen.new ≡ seen_after marks (watching self.now).version seen.old result };
-
-    /// A poll of the value, if it is to be shown. Where nothing is shown, the context's waker waits for news.
-    fn poll(
-        &mut self,
-        shows: bool,
-        seen: &mut u64,
-        cx: &Context<Self::Waker>,
-        wakes: &mut Wakes<Self::Waker, K>,
-    ) -> Result<Poll<Self::Value>, AllocError>
-        requires place { 1 ≤ places }
-        requires empty { wakes.old ≡ [] }
-        requires room { places ≤ K }
-        ensures answer { Answers Self.Value.is_clone Self.Value.is_infallible (found shows (watching self.old).value) (polled result) }
-        ensures seen { seen.new ≡ seen_after false (watching self.old).version seen.old (polled result) }
-        ensures state { watching self.new ≡ record (watching self.old) { waiters = registered_if Self.Waker.eq places (watching self.old).waiters (waiter_where_pending result cx.now) } }
-        ensures wakes { wakes.new ≡ displaced_if Self.Waker.eq places (watching self.old).waiters (waiter_where_pending result cx.now) };
-}
-
-impl<T: Clone + Drop, W: Copy + Eq, const N: usize, const K: usize> WatchValue<K>
-    for WatchState<T, W, N> {
-    type Value = T;
-
-    type Waker = W;
-
-    ghost places = { N };
-
-    ghost watching = { λ state. state };
-
-    fn new() -> Self {
-        WatchState::new()
-    }
-
-    fn new_with(value: T) -> Self {
-        WatchState::new_with(value)
-    }
-
-    fn value(&self) -> &Option<T> {
-        &self.value
-    }
-
-    fn get_msg_id(&self) -> u64 {
-        WatchState::get_msg_id(self)
-    }
-
-    fn add_receiver(&mut self) -> bool {
-        WatchState::add_receiver(self)
-    }
-
-    fn drop_receiver(&mut self) {
-        if self.receivers() > 0 {
-            WatchState::drop_receiver(self);
-        }
-    }
-
-    fn clear(&mut self) {
-        WatchState::clear(self)
-    }
-
-    fn send(&mut self, value: T, wakes: &mut Wakes<W, K>) -> Result<(), Exhausted<T>> {
-        WatchState::send(self, value, wakes)
-    }
-
-    fn send_modify<C: Change<T>>(
-        &mut self,
-        change: &C,
-        wakes: &mut Wakes<W, K>,
-    ) -> Result<(), Exhausted<()>> {
-        WatchState::send_modify(self, change, wakes)
-    }
-
-    fn send_if_modified<C: Change<T>>(
-        &mut self,
-        change: &C,
-        wakes: &mut Wakes<W, K>,
-    ) -> Result<(), Exhausted<()>> {
-        WatchState::send_if_modified(self, change, wakes)
-    }
-
-    fn read(&self, shows: bool, marks: bool, seen: &mut u64) -> Result<Option<T>, AllocError> {
-        WatchState::read(self, shows, marks, seen)
-    }
-
-    fn poll(
-        &mut self,
-        shows: bool,
-        seen: &mut u64,
-        cx: &Context<W>,
-        wakes: &mut Wakes<W, K>,
-    ) -> Result<Poll<T>, AllocError> {
-        WatchState::poll(self, shows, seen, cx, wakes)
-    }
-}
-
-// There is a value that passes the test.
-fn passes<T, F: Fn(&T) -> bool>(value: &Option<T>, test: &F) -> bool
-    requires { F.IsAlwaysCallable test.now }
-    ensures { Tells (FnReturnsAt F.Fn test.now) value.now result }
-{
-    match value {
-        Some(value) => test(value),
-        None => false,
-    }
-}
 
 /// What a sender or a receiver needs of a watch, however many receivers it has room for.
 ///
@@ -336,42 +135,37 @@ pub trait WatchBehavior {
 }
 
 /// A watch with at most `N` counted receivers. `K` is the room for the wakers of a step: the greater of `N` and 1.
-pub type Watch<T, W, H, const N: usize, const K: usize> = SharedWatch<WatchState<T, W, N>, W, H, K>;
+pub type Watch<T, W, H, const N: usize, const K: usize> = SharedWatch<T, Wakes<W, N>, H, K>;
 
 /// The latest value, for several receivers, that tasks on several threads share by reference.
 ///
 /// Each call takes the lock, takes the call of its name on the state, releases the lock, and then gives each waker that the step
 /// handed out to the hand, in order.
 #[derive(Drop)]
-pub struct SharedWatch<S: WatchValue<K>, W, H, const K: usize> {
-    inner: Shared<S, W, H>,
-    ghost room: { S.places ≤ K },
+pub struct SharedWatch<T, L: WakerList, H, const K: usize> {
+    inner: Shared<WatchOver<T, L>, L::Waker, H>,
+    ghost room: { L.room ≤ K },
     ghost small: { K < 65536 },
 }
 
-impl<S: WatchValue<K, Waker = W>, W: Copy + Eq, H: Hand<W>, const K: usize> SharedWatch<
-    S,
-    W,
-    H,
-    K,
-> {
+impl<T: Clone + Drop, L: WakerList, H: Hand<L::Waker>, const K: usize> SharedWatch<T, L, H, K> {
     /// No value, at version 0.
     pub fn new(hand: H) -> Self
-        requires room { S.places ≤ K }
+        requires room { L.room ≤ K }
         requires small { K < 65536 }
     {
         SharedWatch {
-            inner: Shared::new(S::new(), hand),
+            inner: Shared::new(WatchOver::new(), hand),
         }
     }
 
     /// This value, at version 0: nobody has news of it.
-    pub fn new_with(value: S::Value, hand: H) -> Self
-        requires room { S.places ≤ K }
+    pub fn new_with(value: T, hand: H) -> Self
+        requires room { L.room ≤ K }
         requires small { K < 65536 }
     {
         SharedWatch {
-            inner: Shared::new(S::new_with(value), hand),
+            inner: Shared::new(WatchOver::new_with(value), hand),
         }
     }
 
@@ -427,8 +221,8 @@ impl<S: WatchValue<K, Waker = W>, W: Copy + Eq, H: Hand<W>, const K: usize> Shar
     /// # Errors
     ///
     /// Where a clone has no memory.
-    pub fn try_get(&self) -> Result<Option<S::Value>, AllocError>
-        ensures { (after : ℕ) × ReadsSome S.Value.is_clone S.Value.is_infallible Always (λ v. true) 0 result after }
+    pub fn try_get(&self) -> Result<Option<T>, AllocError>
+        ensures { (after : ℕ) × ReadsSome T.is_clone T.is_infallible Always (λ v. true) 0 result after }
     {
         self.sender().try_get()
     }
@@ -438,58 +232,53 @@ impl<S: WatchValue<K, Waker = W>, W: Copy + Eq, H: Hand<W>, const K: usize> Shar
     /// # Errors
     ///
     /// Where a clone has no memory.
-    pub fn try_get_and<F: Fn(&S::Value) -> bool + Drop>(
-        &self,
-        test: F,
-    ) -> Result<Option<S::Value>, AllocError>
+    pub fn try_get_and<F: Fn(&T) -> bool + Drop>(&self, test: F) -> Result<Option<T>, AllocError>
         requires { F.IsAlwaysCallable test }
-        ensures { (after : ℕ) × ReadsSome S.Value.is_clone S.Value.is_infallible (WherePassing (FnReturnsAt F.Fn test)) (λ v. false) 0 result after }
+        ensures { (after : ℕ) × ReadsSome T.is_clone T.is_infallible (WherePassing (FnReturnsAt F.Fn test)) (λ v. false) 0 result after }
     {
         self.sender().try_get_and(test)
     }
 }
 
-impl<S: WatchValue<K, Waker = W>, W: Copy + Eq, H: Hand<W>, const K: usize> WatchBehavior
-    for SharedWatch<S, W, H, K> {
-    type Value = S::Value;
+impl<T: Clone + Drop, L: WakerList, H: Hand<L::Waker>, const K: usize> WatchBehavior
+    for SharedWatch<T, L, H, K> {
+    type Value = T;
 
-    type Waker = W;
+    type Waker = L::Waker;
 
     type Rt = H::Rt;
 
-    ghost places = { S.places };
+    ghost places = { L.room };
 
-    fn try_get(&self, seen: &mut u64) -> Result<Option<S::Value>, AllocError> {
+    fn try_get(&self, seen: &mut u64) -> Result<Option<T>, AllocError> {
         self.inner.guard().read(true, true, seen)
     }
 
-    fn try_get_and<F: Fn(&S::Value) -> bool>(
+    fn try_get_and<F: Fn(&T) -> bool>(
         &self,
         test: &F,
         seen: &mut u64,
-    ) -> Result<Option<S::Value>, AllocError> {
+    ) -> Result<Option<T>, AllocError> {
         let state = self.inner.guard();
-        let shows = passes(state.value(), test);
-        state.read(shows, false, seen)
+        state.read(state.passes(test), false, seen)
     }
 
-    fn try_changed(&self, seen: &mut u64) -> Result<Option<S::Value>, AllocError> {
+    fn try_changed(&self, seen: &mut u64) -> Result<Option<T>, AllocError> {
         let state = self.inner.guard();
-        let is_newer = *seen < state.get_msg_id();
+        let is_newer = state.is_newer(*seen);
         state.read(is_newer, is_newer, seen)
     }
 
-    fn try_changed_and<F: Fn(&S::Value) -> bool>(
+    fn try_changed_and<F: Fn(&T) -> bool>(
         &self,
         test: &F,
         seen: &mut u64,
-    ) -> Result<Option<S::Value>, AllocError> {
+    ) -> Result<Option<T>, AllocError> {
         let state = self.inner.guard();
-        let shows = *seen < state.get_msg_id() && passes(state.value(), test);
-        state.read(shows, false, seen)
+        state.read(state.passes_newer(test, *seen), false, seen)
     }
 
-    fn poll_get(&self, seen: &mut u64, cx: &Context<W>) -> Result<Poll<S::Value>, AllocError> {
+    fn poll_get(&self, seen: &mut u64, cx: &Context<L::Waker>) -> Result<Poll<T>, AllocError> {
         step!(
             self.inner,
             K,
@@ -497,46 +286,46 @@ impl<S: WatchValue<K, Waker = W>, W: Copy + Eq, H: Hand<W>, const K: usize> Watc
         )
     }
 
-    fn poll_get_and<F: Fn(&S::Value) -> bool>(
+    fn poll_get_and<F: Fn(&T) -> bool>(
         &self,
         test: &F,
         seen: &mut u64,
-        cx: &Context<W>,
-    ) -> Result<Poll<S::Value>, AllocError> {
+        cx: &Context<L::Waker>,
+    ) -> Result<Poll<T>, AllocError> {
         step!(self.inner, K, |state, wakes| {
-            let shows = passes(state.value(), test);
+            let shows = state.passes(test);
             state.poll(shows, seen, cx, &mut wakes)
         })
     }
 
-    fn poll_changed(&self, seen: &mut u64, cx: &Context<W>) -> Result<Poll<S::Value>, AllocError> {
+    fn poll_changed(&self, seen: &mut u64, cx: &Context<L::Waker>) -> Result<Poll<T>, AllocError> {
         step!(self.inner, K, |state, wakes| {
-            let is_newer = *seen < state.get_msg_id();
+            let is_newer = state.is_newer(*seen);
             state.poll(is_newer, seen, cx, &mut wakes)
         })
     }
 
-    fn poll_changed_and<F: Fn(&S::Value) -> bool>(
+    fn poll_changed_and<F: Fn(&T) -> bool>(
         &self,
         test: &F,
         seen: &mut u64,
-        cx: &Context<W>,
-    ) -> Result<Poll<S::Value>, AllocError> {
+        cx: &Context<L::Waker>,
+    ) -> Result<Poll<T>, AllocError> {
         step!(self.inner, K, |state, wakes| {
-            let shows = *seen < state.get_msg_id() && passes(state.value(), test);
+            let shows = state.passes_newer(test, *seen);
             state.poll(shows, seen, cx, &mut wakes)
         })
     }
 
     fn contains_value(&self) -> bool {
-        self.inner.guard().value().is_some()
+        self.inner.guard().contains_value()
     }
 
-    fn send(&self, value: S::Value) -> Result<(), Exhausted<S::Value>> {
+    fn send(&self, value: T) -> Result<(), Exhausted<T>> {
         step!(self.inner, K, |state, wakes| state.send(value, &mut wakes))
     }
 
-    fn send_modify<C: Change<S::Value>>(&self, change: &C) -> Result<(), Exhausted<()>> {
+    fn send_modify<C: Change<T>>(&self, change: &C) -> Result<(), Exhausted<()>> {
         step!(
             self.inner,
             K,
@@ -544,7 +333,7 @@ impl<S: WatchValue<K, Waker = W>, W: Copy + Eq, H: Hand<W>, const K: usize> Watc
         )
     }
 
-    fn send_if_modified<C: Change<S::Value>>(&self, change: &C) -> Result<(), Exhausted<()>> {
+    fn send_if_modified<C: Change<T>>(&self, change: &C) -> Result<(), Exhausted<()>> {
         step!(
             self.inner,
             K,
@@ -557,6 +346,9 @@ impl<S: WatchValue<K, Waker = W>, W: Copy + Eq, H: Hand<W>, const K: usize> Watc
     }
 
     fn drop_receiver(&self) {
-        self.inner.guard().drop_receiver()
+        let mut state = self.inner.guard();
+        if state.receivers() > 0 {
+            state.drop_receiver();
+        }
     }
 }

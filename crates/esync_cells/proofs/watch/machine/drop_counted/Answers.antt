@@ -3,7 +3,7 @@ use Rattle.esync_cells.specs.Watch.{Watching}
 use Rattle.esync_cells.proofs.watch.machine.drop_counted.Goals as goal
 
 pub drop_receiver-requires : goal.drop_receiver-requires
-drop_receiver-requires g c = (c.requires-raw.1.1.1.0, c.requires c.if-is_counted.true)
+drop_receiver-requires g c = c.requires c.if-is_counted.true
 
 pub returns-then-is_counted : goal.returns-then-is_counted
 returns-then-is_counted g c = record {

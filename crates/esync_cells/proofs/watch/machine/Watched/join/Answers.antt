@@ -1,4 +1,4 @@
-use Rattle.std.proofs.Common.{◌<◌, true, false, nat_lt, refl, sym, ap, subst, ◌∙◌}
+use Rattle.std.proofs.Common.{rules, ◌<◌, true, false, nat_lt, refl, sym, ap, subst, ◌∙◌}
 use Rattle.esync_machine.specs.declared.primitive.Answer.TheVariants.{Gives}
 use Rattle.esync_cells.specs.Watch.{Watching, counted}
 use Rattle.esync_cells.specs.Receivers.{Followed, count, is_free}
@@ -6,7 +6,6 @@ use Rattle.esync_cells.specs.ReceiversLaws.{counts_joined, free_place}
 use Rattle.esync_cells.specs.WatchRules.{Joins, watch_of}
 use Rattle.esync_cells.specs.declared.watch.machine.WatchHeard.TheVariants.{Counted}
 use Rattle.esync_cells.proofs.WatchKept.{table_object}
-use Rattle.esync_cells.proofs.Parts.{state_fits, receivers_fit}
 use Rattle.esync_cells.proofs.watch.machine.Watched.join.Goals as goal
 
 pub invariant_of-self-2 : goal.invariant_of-self-2
@@ -18,7 +17,7 @@ invariant_of-self-2 g c =
 pub put-requires : goal.put-requires
 put-requires g c =
     let free = ap (λ (s : Followed _ _). is_free c.args.h s.receivers) c.self.view_is ∙ sym c.is_free.ensures ∙ c.if-not-is_free.false in
-    (receivers_fit g.row.T g.row.W g.row.C g.row.J g.row.N g.row.NAMES c.requires-raw.1.1.1.1.1.1, subst (λ n. c.args.h < n) c.self.invariant.0 (free_place g.row.NAMES c.self.inside.state.receivers c.args.h c.self.inside.receivers c.self.inside.receivers c.self.invariant free).0)
+    (search rules, subst (λ n. c.args.h < n) c.self.invariant.0 (free_place g.row.NAMES c.self.inside.state.receivers c.args.h c.self.inside.receivers c.self.inside.receivers c.self.invariant free).0)
 
 pub returns : goal.returns
 returns g c = record {
@@ -26,19 +25,13 @@ returns g c = record {
       let s = c.self.inside.state in
       let q = c.self.inside.receivers in
       let free = ap (λ (s : Followed _ _). is_free c.args.h s.receivers) c.self.view_is ∙ sym c.is_free.ensures ∙ c.if-not-is_free.false in
-      let room = sym (c.add_receiver.ensures.answer ∙ ap (λ n. nat_lt n g.row.N) c.self.invariant.1) ∙ c.if-not-add_receiver.false in
+      let room = sym (c.add_receiver.ensures.answer ∙ ap (λ n. nat_lt n g.L.WakerList.room) c.self.invariant.1) ∙ c.if-not-add_receiver.false in
       let old = watch_of (record { state = s; receivers = q }) in
       let new = watch_of (record { state = c.add_receiver.new.self; receivers = c.put.new.self }) in
       let object = table_object s c.add_receiver.new.self _ q c.put.new.self _ c.add_receiver.ensures.state c.put.ensures in
-      rw (← c.self.view_is) (subst (λ b. Joins b (nat_lt (count q) g.row.N) c.args.h old (Gives (Counted true)) new) (sym free) (subst (λ b. Joins true b c.args.h old (Gives (Counted true)) new) (sym room) (refl, object))));
+      rw (← c.self.view_is) (subst (λ b. Joins b (nat_lt (count q) g.L.WakerList.room) c.args.h old (Gives (Counted true)) new) (sym free) (subst (λ b. Joins true b c.args.h old (Gives (Counted true)) new) (sym room) (refl, object))));
   waiters = ap (λ (s : Watching _ _). s.waiters) c.add_receiver.ensures.state ∙ ap (λ (s : Followed _ _). s.state.waiters) c.self.view_is;
 }
-
-pub is_free-requires : goal.is_free-requires
-is_free-requires g c = c.requires-raw.1.1.1.1.1.1
-
-pub add_receiver-requires : goal.add_receiver-requires
-add_receiver-requires g c = state_fits g.row.T g.row.W g.row.C g.row.J g.row.N g.row.NAMES c.requires-raw.1.1.1.1.1.1
 
 pub invariant_of-self : goal.invariant_of-self
 invariant_of-self g c =
@@ -57,10 +50,10 @@ returns-then-not-add_receiver g c = record {
       let s = c.self.inside.state in
       let q = c.self.inside.receivers in
       let free = ap (λ (s : Followed _ _). is_free c.args.h s.receivers) c.self.view_is ∙ sym c.is_free.ensures ∙ c.if-not-is_free.false in
-      let room = sym (c.add_receiver.ensures.answer ∙ ap (λ n. nat_lt n g.row.N) c.self.invariant.1) ∙ c.if-not-add_receiver.true in
+      let room = sym (c.add_receiver.ensures.answer ∙ ap (λ n. nat_lt n g.L.WakerList.room) c.self.invariant.1) ∙ c.if-not-add_receiver.true in
       let old = watch_of (record { state = s; receivers = q }) in
       let new = watch_of (record { state = c.add_receiver.new.self; receivers = q }) in
       let object = ap (λ (x : Watching _ _). watch_of (record { state = x; receivers = q })) (c.add_receiver.ensures.state ∙ ap (λ b. record s { receivers = counted b s.receivers }) c.if-not-add_receiver.true) in
-      rw (← c.self.view_is) (subst (λ b. Joins b (nat_lt (count q) g.row.N) c.args.h old (Gives (Counted false)) new) (sym free) (subst (λ b. Joins true b c.args.h old (Gives (Counted false)) new) (sym room) (refl, object))));
+      rw (← c.self.view_is) (subst (λ b. Joins b (nat_lt (count q) g.L.WakerList.room) c.args.h old (Gives (Counted false)) new) (sym free) (subst (λ b. Joins true b c.args.h old (Gives (Counted false)) new) (sym room) (refl, object))));
   waiters = ap (λ (s : Watching _ _). s.waiters) c.add_receiver.ensures.state ∙ ap (λ (s : Followed _ _). s.state.waiters) c.self.view_is;
 }

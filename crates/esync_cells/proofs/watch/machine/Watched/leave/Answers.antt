@@ -1,14 +1,13 @@
-use Rattle.std.proofs.Common.{refl, sym, ap, ◌∙◌, subst, ◌≤◌, ◌<◌}
+use Rattle.std.proofs.Common.{rules, refl, sym, ap, ◌∙◌, subst, ◌≤◌, ◌<◌}
 use Rattle.esync_cells.specs.Receivers.{Followed, is_counted}
 use Rattle.esync_cells.specs.ReceiversLaws.{one_counted, counts_left, in_table}
 use Rattle.esync_cells.specs.Watch.{Watching}
 use Rattle.esync_cells.proofs.WatchKept.{table_object}
-use Rattle.esync_cells.proofs.Parts.{state_fits, receivers_fit}
 use Rattle.esync_cells.proofs.watch.machine.Watched.leave.Goals as goal
 
 pub drop_counted-requires : goal.drop_counted-requires
 drop_counted-requires g c =
-    (state_fits g.row.T g.row.W g.row.C g.row.J g.row.N g.row.NAMES c.requires-raw.1.1.1.1.1.1, λ counts. subst (λ n. 1 ≤ n) (sym c.self.invariant.1) (one_counted c.args.h c.self.inside.receivers (ap is_counted (sym c.get.ensures ∙ c.in-Some.is) ∙ counts)))
+    (λ counts. subst (λ n. 1 ≤ n) (sym c.self.invariant.1) (one_counted c.args.h c.self.inside.receivers (ap is_counted (sym c.get.ensures ∙ c.in-Some.is) ∙ counts)))
 
 pub invariant_of-self : goal.invariant_of-self
 invariant_of-self g c =
@@ -16,13 +15,10 @@ invariant_of-self g c =
 
 pub put-requires : goal.put-requires
 put-requires g c =
-    (receivers_fit g.row.T g.row.W g.row.C g.row.J g.row.N g.row.NAMES c.requires-raw.1.1.1.1.1.1, subst (λ n. c.args.h < n) c.self.invariant.0 (in_table c.args.h c.self.inside.receivers c.in-Some.receiver (sym c.get.ensures ∙ c.in-Some.is)))
+    (search rules, subst (λ n. c.args.h < n) c.self.invariant.0 (in_table c.args.h c.self.inside.receivers c.in-Some.receiver (sym c.get.ensures ∙ c.in-Some.is)))
 
 pub returns : goal.returns
 returns g c = record {
   allowed = rw (← c.self.view_is, ← c.get.ensures, c.in-Some.is) (refl, table_object c.self.inside.state c.drop_counted.new.state _ c.self.inside.receivers c.put.new.self _ c.drop_counted.ensures.state c.put.ensures);
   waiters = ap (λ (s : Watching _ _). s.waiters) c.drop_counted.ensures.state ∙ ap (λ (s : Followed _ _). s.state.waiters) c.self.view_is;
 }
-
-pub get-requires : goal.get-requires
-get-requires g c = receivers_fit g.row.T g.row.W g.row.C g.row.J g.row.N g.row.NAMES c.requires-raw.1.1.1.1.1.1

@@ -1,12 +1,11 @@
-use Rattle.std.proofs.Common.{◌<◌, refl, sym, subst, ◌∙◌}
+use Rattle.std.proofs.Common.{rules, ◌<◌, refl, sym, subst, ◌∙◌}
 use Rattle.esync_cells.specs.ReceiversLaws.{counts_marked, in_table}
 use Rattle.esync_cells.proofs.WatchKept.{marked_watch}
-use Rattle.esync_cells.proofs.Parts.{receivers_fit}
 use Rattle.esync_cells.proofs.watch.machine.Watched.mark.Goals as goal
 
 pub put-requires : goal.put-requires
 put-requires g c =
-    (receivers_fit g.row.T g.row.W g.row.C g.row.J g.row.N g.row.NAMES c.requires-raw.1.1.1.1.1.1, subst (λ n. c.args.h < n) c.self.invariant.0 (in_table c.args.h c.self.inside.receivers c.in-Some.receiver (sym c.get.ensures ∙ c.in-Some.is)))
+    (search rules, subst (λ n. c.args.h < n) c.self.invariant.0 (in_table c.args.h c.self.inside.receivers c.in-Some.receiver (sym c.get.ensures ∙ c.in-Some.is)))
 
 pub invariant_of-self : goal.invariant_of-self
 invariant_of-self g c =
@@ -15,6 +14,3 @@ invariant_of-self g c =
 pub returns-in-Some : goal.returns-in-Some
 returns-in-Some g c =
     marked_watch c.args.self.now c.self.inside.state c.args.h c.args.version c.self.inside.receivers c.put.new.self c.in-Some.receiver c.self.view_is (sym c.get.ensures ∙ c.in-Some.is) c.put.ensures
-
-pub get-requires : goal.get-requires
-get-requires g c = receivers_fit g.row.T g.row.W g.row.C g.row.J g.row.N g.row.NAMES c.requires-raw.1.1.1.1.1.1

@@ -1,7 +1,6 @@
 use Rattle.std.proofs.Common.{true, refl, ap}
 use Rattle.esync_cells.specs.Watch.{Watching}
 use Rattle.esync_cells.proofs.WatchKept.{handed_none, handed_as, cleared_object}
-use Rattle.esync_cells.proofs.Parts.{state_fits}
 use Rattle.esync_cells.proofs.watch.machine.Watched.perform.Goals as goal
 
 pub returns-in-Receiver : goal.returns-in-Receiver
@@ -69,27 +68,3 @@ returns-in-Contains g c = record {
   allowed = rw (c.in-Contains.is, ← c.self-in-Contains.view_is, c.contains_value.ensures) (refl, refl);
   exact = rw c.in-Contains.is (c.requires.empty, refl);
 }
-
-pub clear-requires : goal.clear-requires
-clear-requires g c = state_fits g.row.T g.row.W g.row.C g.row.J g.row.N g.row.NAMES c.requires-raw.1.1.1.1.1.1.1.0
-
-pub get_msg_id-requires : goal.get_msg_id-requires
-get_msg_id-requires g c = state_fits g.row.T g.row.W g.row.C g.row.J g.row.N g.row.NAMES c.requires-raw.1.1.1.1.1.1.1.0
-
-pub contains_value-requires : goal.contains_value-requires
-contains_value-requires g c = state_fits g.row.T g.row.W g.row.C g.row.J g.row.N g.row.NAMES c.requires-raw.1.1.1.1.1.1.1.0
-
-pub join-requires : goal.join-requires
-join-requires g c = c.requires-raw.1.1.1.1.1.1.1.0
-
-pub join_anon-requires : goal.join_anon-requires
-join_anon-requires g c = c.requires-raw.1.1.1.1.1.1.1.0
-
-pub leave-requires : goal.leave-requires
-leave-requires g c = c.requires-raw.1.1.1.1.1.1.1.0
-
-pub try_get-requires : goal.try_get-requires
-try_get-requires g c = c.requires-raw.1.1.1.1.1.1.1.0
-
-pub read-requires : goal.read-requires
-read-requires g c = c.requires-raw.1.1.1.1.1.1.1.0

@@ -5,7 +5,6 @@ use Rattle.esync_cells.specs.Receivers.{Followed}
 use Rattle.esync_cells.specs.WatchRules.{Reads, watch_of}
 use Rattle.esync_cells.specs.declared.watch.machine.WatchHeard.TheVariants.{Found}
 use Rattle.esync_cells.proofs.WatchKept.{read_object}
-use Rattle.esync_cells.proofs.Parts.{state_fits, receivers_fit}
 use Rattle.esync_cells.proofs.watch.machine.Watched.read.Goals as goal
 
 pub returns-in-Ok : goal.returns-in-Ok
@@ -28,12 +27,3 @@ returns-in-Err g c = record {
       rw (← c.self.view_is) (subst (λ p. Reads g.T.Clone.is_clone g.T.Clone.is_infallible g.J.Judge.passes p c.args.h c.args.read.now (watch_of (record { state = s; receivers = q })) NoMemory (watch_of (record { state = s; receivers = q }))) (sym there) (Err c.in-Err.field-0, c.in-Err.ensures.answer, (refl, refl))));
   waiters = refl;
 }
-
-pub get-requires : goal.get-requires
-get-requires g c = receivers_fit g.row.T g.row.W g.row.C g.row.J g.row.N g.row.NAMES c.requires-raw.1.1.1.1.1.1
-
-pub try_reading-requires : goal.try_reading-requires
-try_reading-requires g c = state_fits g.row.T g.row.W g.row.C g.row.J g.row.N g.row.NAMES c.requires-raw.1.1.1.1.1.1
-
-pub mark-requires : goal.mark-requires
-mark-requires g c = c.requires-raw.1.1.1.1.1.1

@@ -1,10 +1,6 @@
 use Rattle.std.proofs.Common.{sym, ap, ◌∙◌}
 use Rattle.esync_cells.specs.Receivers.{Followed, seen_at, version_of}
-use Rattle.esync_cells.proofs.Parts.{receivers_fit}
 use Rattle.esync_cells.proofs.watch.machine.Watched.seen_at.Goals as goal
-
-pub get-requires : goal.get-requires
-get-requires g c = receivers_fit g.row.T g.row.W g.row.C g.row.J g.row.N g.row.NAMES c.requires-raw.1.1.1.1.1.1
 
 pub returns-in-Some : goal.returns-in-Some
 returns-in-Some g c = ap version_of (sym c.in-Some.is ∙ c.get.ensures) ∙ ap (λ (s : Followed _ _). seen_at s.receivers c.args.h) c.self.view_is

@@ -1,16 +1,15 @@
-use Rattle.std.proofs.Common.{◌≤◌, ◌+◌, ◌++◌, [], refl, None, Some, sym, ap, subst, ◌∙◌, arith}
+use Rattle.std.proofs.Common.{rules, ◌≤◌, ◌+◌, ◌++◌, [], refl, None, Some, sym, ap, subst, ◌∙◌, arith}
 use Rattle.std.specs.Prelude.{Ok, Err, length}
 use Rattle.esync_base.specs.Registration.{displaced}
 use Rattle.esync_cells.specs.Watch.{Watching}
 use Rattle.esync_cells.specs.Receivers.{Followed}
 use Rattle.esync_cells.proofs.WatchKept.{marked_object, waiting_object}
-use Rattle.esync_cells.proofs.Parts.{state_fits}
 use Rattle.esync_cells.proofs.watch.machine.Watched.turn.Goals as goal
 
 pub poll_reading-requires : goal.poll_reading-requires
 poll_reading-requires g c =
     let place = c.has_place.ensures in
-    (state_fits g.row.T g.row.W g.row.C g.row.J g.row.N g.row.NAMES c.requires-raw.1.1.1.1.1.1.1.0, (c.requires-raw.1.1.1.1.1.1.1.1.0, (place, subst (λ l. length l + g.row.N ≤ g.row.K) (sym c.requires.empty) (omega (arith, c.requires.room)))))
+    (search rules, (place, subst (λ l. length l + g.L.WakerList.room ≤ g.row.K) (sym c.requires.empty) (omega (arith, c.requires.room))))
 
 pub returns-in-Ok-Ready : goal.returns-in-Ok-Ready
 returns-in-Ok-Ready g c = record {
@@ -42,7 +41,7 @@ returns-in-Ok-Pending g c = record {
       let is = c.in-Ok-Pending.is ∙ ap Ok c.in-Ok-Pending.field-0-is in
       let wakes = rw is at c.poll_reading.ensures.wakes in
       let state = rw is at c.poll_reading.ensures.state in
-      rw (← c.self.view_is, c.waits.ensures.answer) (wakes ∙ ap (λ l. l ++ displaced g.W.PartialEq.eq g.row.N c.self.inside.state.waiters c.args.cx.now) c.requires.empty, ap (λ (s : Watching _ _). s.waiters) state));
+      rw (← c.self.view_is, c.waits.ensures.answer) (wakes ∙ ap (λ l. l ++ displaced g.L.Waker.PartialEq.eq g.L.WakerList.room c.self.inside.state.waiters c.args.cx.now) c.requires.empty, ap (λ (s : Watching _ _). s.waiters) state));
 }
 
 pub returns-in-Err : goal.returns-in-Err
@@ -60,9 +59,3 @@ returns-in-Err g c = record {
       let state = rw is at c.poll_reading.ensures.state in
       rw (← c.self.view_is) (wakes ∙ ap (λ l. l ++ []) c.requires.empty, ap (λ (s : Watching _ _). s.waiters) state));
 }
-
-pub seen_at-seen-requires : goal.seen_at-seen-requires
-seen_at-seen-requires g c = c.requires-raw.1.1.1.1.1.1.1.0
-
-pub mark-requires : goal.mark-requires
-mark-requires g c = c.requires-raw.1.1.1.1.1.1.1.0

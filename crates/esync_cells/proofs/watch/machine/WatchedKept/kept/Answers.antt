@@ -1,12 +1,5 @@
 use Rattle.std.proofs.lemmas.Result.{IfOk-from_err}
-use Rattle.esync_cells.proofs.Parts.{copied_state_fits, copied_receivers_fit}
 use Rattle.esync_cells.proofs.watch.machine.WatchedKept.kept.Goals as goal
-
-pub kept-requires : goal.kept-requires
-kept-requires g c = copied_state_fits g.row.T g.row.W g.row.C g.row.J g.row.N g.row.NAMES c.requires-raw.1.1.1.1.1.1
-
-pub kept-requires-2 : goal.kept-requires-2
-kept-requires-2 g c = copied_receivers_fit g.row.T g.row.W g.row.C g.row.J g.row.N g.row.NAMES c.requires-raw.1.1.1.1.1.1
 
 pub returns-in_err-kept : goal.returns-in_err-kept
 returns-in_err-kept g c = IfOk-from_err c.from_residual.result _ c.from_residual.ensures.0

@@ -3,8 +3,5 @@ use Rattle.esync_cells.proofs.watch.shared.SharedWatchWatchBehavior.poll_changed
 pub step-new-requires : goal.step-new-requires
 step-new-requires g c = c.step-guard.ensures _ c.args.self.now.small
 
-pub poll-requires : goal.poll-requires
-poll-requires g c = (c.step-guard.ensures _ c.args.self.now.small, (c.requires.place, (c.step-new.ensures, c.args.self.now.room)))
-
 pub step-wake-requires : goal.step-wake-requires
 step-wake-requires g c = c.step-guard.ensures _ c.args.self.now.small

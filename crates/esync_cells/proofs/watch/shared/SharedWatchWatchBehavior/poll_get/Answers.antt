@@ -7,8 +7,5 @@ returns g c = (_, _, _, refl, c.poll.ensures.answer, c.poll.ensures.seen)
 pub step-new-requires : goal.step-new-requires
 step-new-requires g c = c.step-guard.ensures _ c.args.self.now.small
 
-pub poll-requires : goal.poll-requires
-poll-requires g c = (c.step-guard.ensures _ c.args.self.now.small, (c.requires, (c.step-new.ensures, c.args.self.now.room)))
-
 pub step-wake-requires : goal.step-wake-requires
 step-wake-requires g c = c.step-guard.ensures _ c.args.self.now.small

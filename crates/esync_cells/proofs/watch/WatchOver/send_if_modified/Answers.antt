@@ -1,6 +1,6 @@
 use Rattle.std.proofs.Common.{rules, ◌≡◌, true, false, refl, sym, ◌∙◌, arith}
 use Rattle.std.proofs.lemmas.List.{append-nil}
-use Rattle.esync_cells.proofs.watch.WatchState.send_if_modified.Goals as goal
+use Rattle.esync_cells.proofs.watch.WatchOver.send_if_modified.Goals as goal
 
 pub returns-then-apply : goal.returns-then-apply
 returns-then-apply g c =

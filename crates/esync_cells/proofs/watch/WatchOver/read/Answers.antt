@@ -1,10 +1,7 @@
 use Rattle.std.proofs.Common.{refl, ap}
 use Rattle.esync_cells.specs.Watch.{Watching}
 use Rattle.esync_cells.proofs.Handed.{handed_on}
-use Rattle.esync_cells.proofs.watch.WatchState.read.Goals as goal
-
-pub show-requires : goal.show-requires
-show-requires g c = c.requires-raw.1.1.1
+use Rattle.esync_cells.proofs.watch.WatchOver.read.Goals as goal
 
 pub returns-in_err-value : goal.returns-in_err-value
 returns-in_err-value g c = rw (handed_on c.from_residual.result c.in_err-value.field-0.0 c.from_residual.ensures) (record {

@@ -1,6 +1,6 @@
 use Rattle.std.proofs.Common.{ap}
 use Rattle.esync_cells.specs.Watch.{Watching}
-use Rattle.esync_cells.proofs.watch.WatchState.receivers.Goals as goal
+use Rattle.esync_cells.proofs.watch.WatchOver.receivers.Goals as goal
 
 pub returns : goal.returns
 returns g c = record {

@@ -1,5 +1,5 @@
 use Rattle.std.proofs.Common.{rules}
-use Rattle.esync_cells.proofs.watch.WatchState.send.Goals as goal
+use Rattle.esync_cells.proofs.watch.WatchOver.send.Goals as goal
 
 pub returns : goal.returns
 returns g c = record {

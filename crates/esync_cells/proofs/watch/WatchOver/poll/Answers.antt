@@ -1,11 +1,7 @@
 use Rattle.std.proofs.Common.{rules, refl, sym, arith}
 use Rattle.std.proofs.lemmas.List.{append-nil}
 use Rattle.esync_cells.proofs.Handed.{handed_on}
-use Rattle.esync_cells.proofs.Parts.{waiters_fit}
-use Rattle.esync_cells.proofs.watch.WatchState.poll.Goals as goal
-
-pub register-requires : goal.register-requires
-register-requires g c = (waiters_fit g.row.T g.row.W g.row.N c.requires-raw.1.1.1.1.0, (c.requires-raw.1.1.1.1.1.0, (c.requires.place, c.requires.room)))
+use Rattle.esync_cells.proofs.watch.WatchOver.poll.Goals as goal
 
 pub returns-in_err-value : goal.returns-in_err-value
 returns-in_err-value g c = rw (handed_on c.from_residual.result c.in_err-value.field-0.0 c.from_residual.ensures) (record {
