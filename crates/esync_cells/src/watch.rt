@@ -280,6 +280,15 @@ impl<T: Drop, L: WakerList> WatchOver<T, L> {
     {
         self.receivers -= 1;
     }
+
+    // Counts one receiver less, where there is one.
+    fn drop_receiver_if_any(&mut self)
+        ensures { self.new ≡ record self.old { receivers = self.old.receivers - 1 } }
+    {
+        if self.receivers > 0 {
+            self.drop_receiver();
+        }
+    }
 }
 
 impl<T: Clone, L: WakerList> WatchOver<T, L> {

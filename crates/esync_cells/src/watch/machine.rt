@@ -8,7 +8,7 @@ ghost use Rattle.esync_machine.specs.Runs.{GoodRun};
 ghost use Rattle.esync_machine.specs.Wakings.{IsHanded, polled as poll_handed, called};
 ghost use Rattle.esync_cells.specs.Watch.{fresh, Answers, seen_after, polled, waiter_where_pending, counted};
 ghost use Rattle.esync_cells.specs.Receivers.{count, is_counted, is_free, seen_at, with_seen};
-ghost use Rattle.esync_cells.specs.WatchRules.{watch_rules, watch_wakings, watch_of, sought, marks, Polls, Calls, Joins, JoinsAnon, Leaves, TriesGet, Reads, Sends, Modifies, IsReceiving, answer_hands};
+ghost use Rattle.esync_cells.specs.WatchRules.{watch_rules, watch_wakings, watch_of, shows, marks, Polls, Calls, Joins, JoinsAnon, Leaves, TriesGet, Reads, Sends, Modifies, IsReceiving, answer_hands};
 ghost use Rattle.esync_cells.specs.WatchNews.{TellsOnce};
 
 use super::{Change, Exhausted, Judge, WatchOver};
@@ -92,44 +92,28 @@ pub enum WatchHeard<T> {
     HasValue(bool),
 }
 
-// A poll of any reading.
-fn poll_reading<T: Clone, L: WakerList, J: Judge<T>, const K: usize>(
-    state: &mut WatchOver<T, L>,
-    read: &Reading<J>,
-    seen: &mut u64,
-    cx: &Context<L::Waker>,
-    wakes: &mut Wakes<L::Waker, K>,
-) -> Result<Poll<T>, AllocError>
-    requires place { 1 ≤ L.room }
-    requires room { length wakes.old + L.room ≤ K }
-    ensures answer { Answers T.is_clone T.is_infallible (sought J.passes state.old.value state.old.version seen.old read.now) (polled result) }
-    ensures seen { seen.new ≡ seen_after false state.old.version seen.old (polled result) }
-    ensures state { state.new ≡ record state.old { waiters = registered_if L.Waker.eq L.room state.old.waiters (waiter_where_pending result cx.now) } }
-    ensures wakes { wakes.new ≡ wakes.old ++ displaced_if L.Waker.eq L.room state.old.waiters (waiter_where_pending result cx.now) }
-    ensures at_most { length wakes.new ≤ length wakes.old + L.room }
-{
-    match read {
-        Reading::Get => state.poll_get(seen, cx, wakes),
-        Reading::Changed => state.poll_changed(seen, cx, wakes),
-        Reading::GetAnd(judge) => state.poll_get_and(judge, seen, cx, wakes),
-        Reading::ChangedAnd(judge) => state.poll_changed_and(judge, seen, cx, wakes),
+impl<T: Clone, L: WakerList> WatchOver<T, L> {
+    // The value, if there is one, is shown to a reader of this who has seen that version.
+    fn shows<J: Judge<T>>(&self, read: &Reading<J>, seen: u64) -> bool
+        ensures { result ≡ shows J.passes self.now.value self.now.version seen read.now }
+    {
+        match read {
+            Reading::Get => true,
+            Reading::Changed => self.is_newer(seen),
+            Reading::GetAnd(judge) => self.judged(judge),
+            Reading::ChangedAnd(judge) => self.judged_newer(judge, seen),
+        }
     }
-}
 
-// A try of any reading.
-fn try_reading<T: Clone, L: WakerList, J: Judge<T>>(
-    state: &WatchOver<T, L>,
-    read: &Reading<J>,
-    seen: &mut u64,
-) -> Result<Option<T>, AllocError>
-    ensures answer { Answers T.is_clone T.is_infallible (sought J.passes state.now.value state.now.version seen.old read.now) result }
-    ensures seen { seen.new ≡ seen_after (marks state.now.version seen.old read.now) state.now.version seen.old result }
-{
-    match read {
-        Reading::Get => state.try_get(seen),
-        Reading::Changed => state.try_changed(seen),
-        Reading::GetAnd(judge) => state.try_get_and(judge, seen),
-        Reading::ChangedAnd(judge) => state.try_changed_and(judge, seen),
+    // A try of this marks the version as seen, also where it finds nothing.
+    fn marks<J>(&self, read: &Reading<J>, seen: u64) -> bool
+        ensures { result ≡ marks self.now.version seen read.now }
+    {
+        match read {
+            Reading::Get => true,
+            Reading::Changed => self.is_newer(seen),
+            Reading::GetAnd(_) | Reading::ChangedAnd(_) => false,
+        }
     }
 }
 
@@ -300,7 +284,8 @@ impl<
     {
         self.has_place(held.receiver);
         let mut seen = self.seen_at(held.receiver);
-        match poll_reading(&mut self.state, &held.read, &mut seen, cx, wakes) {
+        let shows = self.state.shows(&held.read, seen);
+        match self.state.poll(shows, &mut seen, cx, wakes) {
             Ok(Poll::Ready(value)) => {
                 self.mark(held.receiver, seen);
                 Turn::over(WatchHeard::Waited(value))
@@ -382,7 +367,8 @@ impl<
             return Answer::NoSuch;
         };
         let mut seen = receiver.version;
-        match try_reading(&self.state, read, &mut seen) {
+        let (shows, marks) = (self.state.shows(read, seen), self.state.marks(read, seen));
+        match self.state.read(shows, marks, &mut seen) {
             Ok(found) => {
                 self.mark(h, seen);
                 Answer::Gives(WatchHeard::Found(found))

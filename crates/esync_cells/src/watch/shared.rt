@@ -346,9 +346,6 @@ impl<T: Clone + Drop, L: WakerList, H: Hand<L::Waker>, const K: usize> WatchBeha
     }
 
     fn drop_receiver(&self) {
-        let mut state = self.inner.guard();
-        if state.receivers() > 0 {
-            state.drop_receiver();
-        }
+        self.inner.guard().drop_receiver_if_any()
     }
 }
