@@ -1,5 +1,5 @@
 -- What the machine of a fair semaphore makes of a poll of its state.
-use Rattle.std.specs.Prelude.{ℕ, Option, Some, None, Ok, Err}
+use Rattle.std.specs.Prelude.{Option, Some, None, Ok, Err}
 use Rattle.esync_permits.specs.declared.semaphore.Amount.{Amount}
 use Rattle.esync_permits.specs.declared.semaphore.FairPoll.{FairPoll}
 use Rattle.esync_permits.specs.declared.semaphore.FairPoll.TheVariants.{Pending as Waits, Ready}

@@ -7,13 +7,13 @@ use Rattle.esync_permits.specs.declared.semaphore.machine.PermitHeld.TheVariants
 use Rattle.esync_permits.specs.declared.semaphore.machine.PermitCall.{PermitCall}
 use Rattle.esync_permits.specs.declared.semaphore.machine.PermitCall.TheVariants.{Try, Disarm, Release, Set, Permits}
 use Rattle.esync_permits.specs.declared.semaphore.machine.PermitHeard.{PermitHeard}
-use Rattle.esync_permits.specs.declared.semaphore.machine.PermitHeard.TheVariants.{Granted, Tried, Count}
+use Rattle.esync_permits.specs.declared.semaphore.machine.PermitHeard.TheVariants.{Tried, Count}
 use Rattle.esync_machine.specs.declared.primitive.Answer.{Answer}
-use Rattle.esync_machine.specs.declared.primitive.Answer.TheVariants.{Done, Pending, NoSuch, Gives}
+use Rattle.esync_machine.specs.declared.primitive.Answer.TheVariants.{Done, NoSuch, Gives}
 use Rattle.esync_machine.specs.declared.primitive.Reach.{Reach}
 use Rattle.esync_machine.specs.declared.primitive.Reach.TheVariants.{Nobody, Number}
 use Rattle.esync_machine.specs.Rules.{Rules}
-use Rattle.esync_machine.specs.Wakings.{Wakings, Handed, nothing}
+use Rattle.esync_machine.specs.Wakings.{Handed, nothing}
 
 -- which number a call concerns
 abbrev pub reach : PermitCall → Reach

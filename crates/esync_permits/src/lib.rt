@@ -1,5 +1,5 @@
 //! Permits, and who waits for them: the greedy and the fair semaphore.
 #![tactic(auto)]
 
-mod queue;
+pub mod queue;
 pub mod semaphore;

@@ -1,11 +1,10 @@
 //! The queue of a fair semaphore: who waits, in order.
-ghost use Rattle.std.specs.Prelude.{◌≡◌, ◌<◌, ◌++◌, [], Some, None, false, length, drop, map, slice_get, IfSome, IfNone};
+ghost use Rattle.std.specs.Prelude.{◌≡◌, ◌<◌, [], Some, None, false, length, drop, map, slice_get, IfSome, IfNone};
 ghost use Rattle.esync_base.specs.Listed.{is_in};
-ghost use Rattle.esync_permits.specs.Queue.{is_front, is_next, numbers, front_wakers, entered, with_waker, left_by, IsLeastFree, StandsAt};
+ghost use Rattle.esync_permits.specs.Queue.{is_front, is_next, numbers, entered, with_waker, left_by, IsLeastFree, StandsAt};
 
 use esync_base::deque::Deque;
 use esync_base::kept::Kept;
-use esync_base::waitqueue::Wakes;
 use std::alloc::AllocError;
 use std::fmt;
 use std::marker::Model;
@@ -43,6 +42,60 @@ fn free_number<W: Copy, const N: usize>(entries: &Deque<Entry<W>, N>) -> usize
     entries.len()
 }
 
+/// Where the requests that wait for a fair semaphore stand, oldest first, however many places there are.
+pub trait WaitQueue: Drop {
+    type Waker: Copy + Eq;
+
+    ghost use Rattle.std.specs.Prelude.{ℕ, List};
+    ghost use Rattle.esync_permits.specs.declared.queue.Entry.{Entry};
+
+    /// How many places there are.
+    ghost places: { ℕ };
+
+    /// The entries, oldest first.
+    ghost entries: { Self → List (Entry Self.Waker) };
+
+    /// No entries.
+    fn new() -> Self
+        ensures { entries result ≡ [] };
+
+    /// Nobody waits.
+    fn is_empty(&self) -> bool
+        ensures { result ≡ is_next None (numbers (entries self.now)) };
+
+    /// A request waits under this number.
+    fn is_waiting(&self, number: usize) -> bool
+        ensures { result ≡ is_in number (numbers (entries self.now)) };
+
+    /// The entry in front has this number.
+    fn is_front(&self, number: usize) -> bool
+        ensures { result ≡ is_front number (numbers (entries self.now)) };
+
+    /// The waker in the entry behind the first `i` ones, if there is one.
+    fn waker(&self, i: usize) -> Option<Self::Waker>
+        ensures { result ≡ slice_get (map (λ e. e.waker) (entries self.now)) i };
+
+    /// Puts an entry at the back, under the least number that no entry has. A full queue stays as it is.
+    fn enter(&mut self, waker: Self::Waker) -> Option<usize>
+        ensures room { IfSome result (λ number. length (entries self.old) < places) }
+        ensures number { IfSome result (λ number. IsLeastFree number (numbers (entries self.old))) }
+        ensures entered { IfSome result (λ number. entries self.new ≡ entered number waker (entries self.old)) }
+        ensures full { IfNone result (length (entries self.old) ≡ places) }
+        ensures refused { IfNone result (entries self.new ≡ entries self.old) };
+
+    /// The entry of this number has another waker from now on.
+    fn set_waker(&mut self, number: usize, waker: Self::Waker)
+        ensures { entries self.new ≡ with_waker number waker (entries self.old) };
+
+    /// The front entry leaves.
+    fn pop_front(&mut self)
+        ensures { entries self.new ≡ drop 1 (entries self.old) };
+
+    /// The entry of this number leaves, wherever it stands. The ones behind it move up.
+    fn remove(&mut self, number: usize)
+        ensures { entries self.new ≡ left_by number (entries self.old) };
+}
+
 /// At most `N` entries, oldest first.
 #[derive_where(Debug; W: fmt::Debug + Drop)]
 #[derive(Drop)]
@@ -71,44 +124,35 @@ impl<W: Copy, const N: usize> Kept for Queue<W, N> {
     }
 }
 
-impl<W: Copy, const N: usize> Queue<W, N> {
-    /// No entries.
-    pub fn new() -> Self
-        ensures { result ≡ [] }
-    {
+impl<W: Copy + Eq, const N: usize> WaitQueue for Queue<W, N> {
+    type Waker = W;
+
+    ghost places = { N };
+
+    ghost entries = { λ queue. queue };
+
+    fn new() -> Self {
         Queue {
             entries: Deque::new(),
         }
     }
 
-    /// Nobody waits.
-    pub fn is_empty(&self) -> bool
-        ensures { result ≡ is_next None (numbers self.now) }
-    {
+    fn is_empty(&self) -> bool {
         self.entries.is_empty()
     }
 
-    /// A request waits under this number.
-    pub fn is_waiting(&self, number: usize) -> bool
-        ensures { result ≡ is_in number (numbers self.now) }
-    {
+    fn is_waiting(&self, number: usize) -> bool {
         place_of(&self.entries, number).is_some()
     }
 
-    /// The entry in front has this number.
-    pub fn is_front(&self, number: usize) -> bool
-        ensures { result ≡ is_front number (numbers self.now) }
-    {
+    fn is_front(&self, number: usize) -> bool {
         match self.entries.front() {
             Some(front) => front.number == number,
             None => false,
         }
     }
 
-    /// The waker in the entry behind the first `i` ones, if there is one.
-    pub fn waker(&self, i: usize) -> Option<W>
-        ensures { result ≡ slice_get (map (λ e. e.waker) self.now) i }
-    {
+    fn waker(&self, i: usize) -> Option<W> {
         if i < self.entries.len() {
             Some(self.entries.get(i).waker)
         } else {
@@ -116,24 +160,7 @@ impl<W: Copy, const N: usize> Queue<W, N> {
         }
     }
 
-    /// Hands out the waker of the front entry, which stays in it.
-    pub fn tell_front<const K: usize>(&self, wakes: &mut Wakes<W, K>)
-        requires { length wakes.old < K }
-        ensures { wakes.new ≡ wakes.old ++ front_wakers self.now }
-    {
-        if let Some(front) = self.entries.front() {
-            wakes.push(front.waker);
-        }
-    }
-
-    /// Puts an entry at the back, under the least number that no entry has. A full queue stays as it is.
-    pub fn enter(&mut self, waker: W) -> Option<usize>
-        ensures room { IfSome result (λ number. length self.old < N) }
-        ensures number { IfSome result (λ number. IsLeastFree number (numbers self.old)) }
-        ensures entered { IfSome result (λ number. self.new ≡ entered number waker self.old) }
-        ensures full { IfNone result (length self.old ≡ N) }
-        ensures refused { IfNone result (self.new ≡ self.old) }
-    {
+    fn enter(&mut self, waker: W) -> Option<usize> {
         if self.entries.is_full() {
             return None;
         }
@@ -144,26 +171,17 @@ impl<W: Copy, const N: usize> Queue<W, N> {
         }
     }
 
-    /// The entry of this number has another waker from now on.
-    pub fn set_waker(&mut self, number: usize, waker: W)
-        ensures { self.new ≡ with_waker number waker self.old }
-    {
+    fn set_waker(&mut self, number: usize, waker: W) {
         if let Some(i) = place_of(&self.entries, number) {
             self.entries.replace(i, Entry { number, waker });
         }
     }
 
-    /// The front entry leaves.
-    pub fn pop_front(&mut self)
-        ensures { self.new ≡ drop 1 self.old }
-    {
+    fn pop_front(&mut self) {
         self.entries.pop_front();
     }
 
-    /// The entry of this number leaves, wherever it stands. The ones behind it move up.
-    pub fn remove(&mut self, number: usize)
-        ensures { self.new ≡ left_by number self.old }
-    {
+    fn remove(&mut self, number: usize) {
         if let Some(i) = place_of(&self.entries, number) {
             self.entries.remove(i);
         }

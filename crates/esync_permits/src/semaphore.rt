@@ -9,7 +9,7 @@ ghost use Rattle.esync_base.specs.Listed.{is_in};
 ghost use Rattle.esync_permits.specs.Queue.{is_front, is_next, numbers, front_wakers, left_by};
 ghost use Rattle.esync_permits.specs.Fair.{heard, ticket_after, request_heard, granted_by, OnRefusal, NamesWaiting, HasNoPlace, Queues, wakes_of_grant, entries_after_request, wakes_of_request};
 
-use crate::queue::Queue;
+use crate::queue::{Queue, WaitQueue};
 use esync_base::kept::Kept;
 use esync_base::waitqueue::{Context, Poll, Registered, WakerRegistration, Wakes};
 pub use shared::{
@@ -18,7 +18,7 @@ pub use shared::{
 };
 use std::alloc::AllocError;
 use std::marker::Model;
-use std::{fmt, mem};
+use std::mem;
 use thiserror::Error;
 
 pub mod machine;
@@ -343,55 +343,57 @@ pub enum FairPoll {
     Pending(Ticket),
 }
 
-/// The state of a fair semaphore: its permits, and a queue of at most `N` requests that wait for some.
+/// The state of a fair semaphore of at most `N` requests that wait.
+pub type FairState<W, const N: usize> = FairOver<Queue<W, N>>;
+
+/// The state of a fair semaphore: its permits, and a queue of requests that wait for some.
 ///
 /// Requests are granted in the order in which they came to wait. One that waits for many permits keeps all others from
 /// theirs until it is granted or ends. A request that ends gives its place back at once.
-#[derive_where(Debug; W: fmt::Debug + Drop)]
-#[derive(Drop)]
-pub struct FairState<W, const N: usize> {
+#[derive(Debug, Drop)]
+pub struct FairOver<Q: WaitQueue> {
     permits: usize,
-    queue: Queue<W, N>,
+    queue: Q,
 }
 
-impl<W, const N: usize> Model for FairState<W, N> {
+impl<Q: WaitQueue> Model for FairOver<Q> {
     ghost use Rattle.esync_permits.specs.Fair.{Fair, fair_code};
 
-    ghost Value = { Fair W };
+    ghost Value = { Fair Q.Waker };
 
-    ghost coded = { fair_code W.code };
+    ghost coded = { fair_code Q.Waker.code };
 
-    ghost view = { λ a. record { permits = a.permits; entries = a.queue } };
+    ghost view = { λ a. record { permits = a.permits; entries = Q.entries a.queue } };
 }
 
-impl<W: Copy, const N: usize> Kept for FairState<W, N> {
+impl<Q: WaitQueue + Kept> Kept for FairOver<Q> {
     fn kept(&self) -> Result<Self, AllocError> {
-        Ok(FairState {
+        Ok(FairOver {
             permits: self.permits,
             queue: self.queue.kept()?,
         })
     }
 }
 
-impl<W: Copy + Eq, const N: usize> Default for FairState<W, N> {
+impl<Q: WaitQueue> Default for FairOver<Q> {
     fn default() -> Self
         ensures permits { result.permits ≡ 0 }
         ensures entries { result.entries ≡ [] }
     {
-        FairState::new(0)
+        FairOver::new(0)
     }
 }
 
 /// Who waits in the queue, in order.
-impl<W: Copy + Eq, const N: usize> Registered for FairState<W, N> {
-    type Waker = W;
+impl<Q: WaitQueue> Registered for FairOver<Q> {
+    type Waker = Q::Waker;
 
     ghost use Rattle.std.specs.Prelude.{map};
     ghost use Rattle.esync_base.specs.Standing.{at_one};
 
     ghost at = { λ m. at_one (map (λ e. e.waker) m.entries) };
 
-    fn registered(&self, place: usize, i: usize) -> Option<W> {
+    fn registered(&self, place: usize, i: usize) -> Option<Q::Waker> {
         match place {
             0 => self.queue.waker(i),
             _ => None,
@@ -399,15 +401,15 @@ impl<W: Copy + Eq, const N: usize> Registered for FairState<W, N> {
     }
 }
 
-impl<W: Copy + Eq, const N: usize> FairState<W, N> {
+impl<Q: WaitQueue> FairOver<Q> {
     /// This number of permits, and nobody who waits.
     pub fn new(permits: usize) -> Self
         ensures permits { result.permits ≡ permits }
         ensures entries { result.entries ≡ [] }
     {
-        FairState {
+        FairOver {
             permits,
-            queue: Queue::new(),
+            queue: Q::new(),
         }
     }
 
@@ -453,10 +455,10 @@ impl<W: Copy + Eq, const N: usize> FairState<W, N> {
     }
 
     // The poll of a request that has no ticket yet.
-    fn poll_new(&mut self, amount: Amount, waker: W) -> FairPoll
+    fn poll_new(&mut self, amount: Amount, waker: Q::Waker) -> FairPoll
         ensures permits { TakesInTurn (is_next None (numbers self.old.entries)) self.old.permits amount (granted_by (heard result)) self.new.permits }
-        ensures full { OnRefusal (heard result) (HasNoPlace N None self.old.entries) }
-        ensures entries { Queues N waker None self.old.entries (ticket_after result) self.new.entries }
+        ensures full { OnRefusal (heard result) (HasNoPlace Q.places None self.old.entries) }
+        ensures entries { Queues Q.places waker None self.old.entries (ticket_after result) self.new.entries }
     {
         if let Some(taken) = self.try_take(amount) {
             return FairPoll::Ready(Ok(taken));
@@ -472,13 +474,13 @@ impl<W: Copy + Eq, const N: usize> FairState<W, N> {
         &mut self,
         amount: Amount,
         ticket: Ticket,
-        waker: W,
-        wakes: &mut Wakes<W, K>,
+        waker: Q::Waker,
+        wakes: &mut Wakes<Q::Waker, K>,
     ) -> FairPoll
         requires { length wakes.old < K }
         ensures permits { TakesInTurn (is_next (Some ticket) (numbers self.old.entries)) self.old.permits amount (granted_by (heard result)) self.new.permits }
-        ensures full { OnRefusal (heard result) (HasNoPlace N (Some ticket) self.old.entries) }
-        ensures entries { Queues N waker (Some ticket) self.old.entries (ticket_after result) self.new.entries }
+        ensures full { OnRefusal (heard result) (HasNoPlace Q.places (Some ticket) self.old.entries) }
+        ensures entries { Queues Q.places waker (Some ticket) self.old.entries (ticket_after result) self.new.entries }
         ensures wakes { wakes.new ≡ wakes.old ++ wakes_of_grant (Some ticket) (granted_by (heard result)) self.new.entries }
     {
         if self.queue.is_front(ticket.number) {
@@ -496,13 +498,13 @@ impl<W: Copy + Eq, const N: usize> FairState<W, N> {
         &mut self,
         amount: Amount,
         ticket: Option<Ticket>,
-        waker: W,
-        wakes: &mut Wakes<W, K>,
+        waker: Q::Waker,
+        wakes: &mut Wakes<Q::Waker, K>,
     ) -> FairPoll
         requires { length wakes.old < K }
         ensures permits { TakesInTurn (is_next ticket (numbers self.old.entries)) self.old.permits amount (granted_by (heard result)) self.new.permits }
-        ensures full { OnRefusal (heard result) (HasNoPlace N ticket self.old.entries) }
-        ensures entries { Queues N waker ticket self.old.entries (ticket_after result) self.new.entries }
+        ensures full { OnRefusal (heard result) (HasNoPlace Q.places ticket self.old.entries) }
+        ensures entries { Queues Q.places waker ticket self.old.entries (ticket_after result) self.new.entries }
         ensures wakes { wakes.new ≡ wakes.old ++ wakes_of_grant ticket (granted_by (heard result)) self.new.entries }
     {
         match ticket {
@@ -520,14 +522,14 @@ impl<W: Copy + Eq, const N: usize> FairState<W, N> {
         &mut self,
         permits: usize,
         ticket: Option<Ticket>,
-        cx: &Context<W>,
-        wakes: &mut Wakes<W, K>,
+        cx: &Context<Q::Waker>,
+        wakes: &mut Wakes<Q::Waker, K>,
     ) -> FairPoll
         requires room { length wakes.old < K }
         requires waits { NamesWaiting ticket self.old.entries }
         ensures permits { TakesInTurn (is_next ticket (numbers self.old.entries)) self.old.permits (Amount.Exactly permits) (granted_by (heard result)) self.new.permits }
-        ensures full { OnRefusal (heard result) (HasNoPlace N ticket self.old.entries) }
-        ensures entries { Queues N cx.now ticket self.old.entries (ticket_after result) self.new.entries }
+        ensures full { OnRefusal (heard result) (HasNoPlace Q.places ticket self.old.entries) }
+        ensures entries { Queues Q.places cx.now ticket self.old.entries (ticket_after result) self.new.entries }
         ensures wakes { wakes.new ≡ wakes.old ++ wakes_of_grant ticket (granted_by (heard result)) self.new.entries }
     {
         self.poll(Amount::Exactly(permits), ticket, cx.waker(), wakes)
@@ -541,14 +543,14 @@ impl<W: Copy + Eq, const N: usize> FairState<W, N> {
         &mut self,
         min: usize,
         ticket: Option<Ticket>,
-        cx: &Context<W>,
-        wakes: &mut Wakes<W, K>,
+        cx: &Context<Q::Waker>,
+        wakes: &mut Wakes<Q::Waker, K>,
     ) -> FairPoll
         requires room { length wakes.old < K }
         requires waits { NamesWaiting ticket self.old.entries }
         ensures permits { TakesInTurn (is_next ticket (numbers self.old.entries)) self.old.permits (Amount.AllFrom min) (granted_by (heard result)) self.new.permits }
-        ensures full { OnRefusal (heard result) (HasNoPlace N ticket self.old.entries) }
-        ensures entries { Queues N cx.now ticket self.old.entries (ticket_after result) self.new.entries }
+        ensures full { OnRefusal (heard result) (HasNoPlace Q.places ticket self.old.entries) }
+        ensures entries { Queues Q.places cx.now ticket self.old.entries (ticket_after result) self.new.entries }
         ensures wakes { wakes.new ≡ wakes.old ++ wakes_of_grant ticket (granted_by (heard result)) self.new.entries }
     {
         self.poll(Amount::AllFrom(min), ticket, cx.waker(), wakes)
@@ -557,7 +559,7 @@ impl<W: Copy + Eq, const N: usize> FairState<W, N> {
     /// Ends a request that waits, which leaves the queue. Where it was in front, the one that is in front then is woken.
     ///
     /// The ticket names a request that waits (`is_waiting`).
-    pub fn cancel<const K: usize>(&mut self, ticket: Ticket, wakes: &mut Wakes<W, K>)
+    pub fn cancel<const K: usize>(&mut self, ticket: Ticket, wakes: &mut Wakes<Q::Waker, K>)
         requires room { length wakes.old < K }
         requires waits { NamesWaiting (Some ticket) self.old.entries }
         ensures permits { self.new.permits ≡ self.old.permits }
@@ -570,17 +572,19 @@ impl<W: Copy + Eq, const N: usize> FairState<W, N> {
     }
 
     // Wakes who is in front, if there is news for it.
-    fn tell<const K: usize>(&self, news: bool, wakes: &mut Wakes<W, K>)
+    fn tell<const K: usize>(&self, news: bool, wakes: &mut Wakes<Q::Waker, K>)
         requires { length wakes.old < K }
         ensures { wakes.new ≡ wakes.old ++ woken_if news (front_wakers self.now.entries) }
     {
         if news {
-            self.queue.tell_front(wakes);
+            if let Some(waker) = self.queue.waker(0) {
+                wakes.push(waker);
+            }
         }
     }
 
     /// Gives permits back, up to `usize::MAX`, and wakes who is in front.
-    pub fn release<const K: usize>(&mut self, permits: usize, wakes: &mut Wakes<W, K>)
+    pub fn release<const K: usize>(&mut self, permits: usize, wakes: &mut Wakes<Q::Waker, K>)
         requires { length wakes.old < K }
         ensures permits { self.new.permits ≡ released self.old.permits permits }
         ensures entries { self.new.entries ≡ self.old.entries }
@@ -591,7 +595,7 @@ impl<W: Copy + Eq, const N: usize> FairState<W, N> {
     }
 
     /// Makes this the number of permits that are there. Wakes who is in front, if it is more than before.
-    pub fn set<const K: usize>(&mut self, permits: usize, wakes: &mut Wakes<W, K>)
+    pub fn set<const K: usize>(&mut self, permits: usize, wakes: &mut Wakes<Q::Waker, K>)
         requires { length wakes.old < K }
         ensures permits { self.new.permits ≡ permits }
         ensures entries { self.new.entries ≡ self.old.entries }
@@ -656,7 +660,7 @@ impl FairRequest {
     }
 
     /// It has no ticket, or one that names a request that waits in this state.
-    pub fn belongs_to<W: Copy + Eq, const N: usize>(&self, state: &FairState<W, N>) -> bool
+    pub fn belongs_to<Q: WaitQueue>(&self, state: &FairOver<Q>) -> bool
         ensures { IsTrue result ↔ NamesWaiting self.now.ticket state.now.entries }
     {
         match self.ticket() {
@@ -668,18 +672,18 @@ impl FairRequest {
     /// Takes the permits, if they are there and it is the request's turn. If not, the context's waker waits for them.
     ///
     /// A request that is finished is not polled. Its ticket names a request that waits in the state (`belongs_to`).
-    pub fn poll_state<W: Copy + Eq, const N: usize, const K: usize>(
+    pub fn poll_state<Q: WaitQueue, const K: usize>(
         &mut self,
-        state: &mut FairState<W, N>,
-        cx: &Context<W>,
-        wakes: &mut Wakes<W, K>,
+        state: &mut FairOver<Q>,
+        cx: &Context<Q::Waker>,
+        wakes: &mut Wakes<Q::Waker, K>,
     ) -> Poll<Result<usize, WaitQueueFull>>
         requires room { length wakes.old < K }
         requires unfinished { self.old.finished ≡ false }
         requires waits { NamesWaiting self.old.ticket state.old.entries }
         ensures permits { TakesInTurn (is_next self.old.ticket (numbers state.old.entries)) state.old.permits self.old.amount (granted_by (request_heard result)) state.new.permits }
-        ensures full { OnRefusal (request_heard result) (HasNoPlace N self.old.ticket state.old.entries) }
-        ensures entries { Queues N cx.now self.old.ticket state.old.entries self.new.ticket state.new.entries }
+        ensures full { OnRefusal (request_heard result) (HasNoPlace Q.places self.old.ticket state.old.entries) }
+        ensures entries { Queues Q.places cx.now self.old.ticket state.old.entries self.new.ticket state.new.entries }
         ensures wakes { wakes.new ≡ wakes.old ++ wakes_of_grant self.old.ticket (granted_by (request_heard result)) state.new.entries }
 
         // It has a ticket while it waits.
@@ -704,10 +708,10 @@ impl FairRequest {
     /// Ends the request, and its waiting. Where it was in front, the one that is in front then is woken.
     ///
     /// Its ticket names a request that waits in the state (`belongs_to`).
-    pub fn end<W: Copy + Eq, const N: usize, const K: usize>(
+    pub fn end<Q: WaitQueue, const K: usize>(
         self,
-        state: &mut FairState<W, N>,
-        wakes: &mut Wakes<W, K>,
+        state: &mut FairOver<Q>,
+        wakes: &mut Wakes<Q::Waker, K>,
     )
         requires room { length wakes.old < K }
         requires waits { NamesWaiting self.ticket state.old.entries }

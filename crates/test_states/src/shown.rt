@@ -92,7 +92,7 @@ fn semaphores_show_their_permits_and_who_waits(rt: HostRuntime) -> Result<(), Al
         &rt,
         rt.alloc(),
         &fair,
-        "FairState { permits: 1, queue: Queue { entries: [Entry { number: 0, waker: 8 }] } }",
+        "FairOver { permits: 1, queue: Queue { entries: [Entry { number: 0, waker: 8 }] } }",
     )
 }
 
@@ -112,6 +112,6 @@ fn a_signal_and_a_watch_show_their_value(rt: HostRuntime) -> Result<(), AllocErr
         &rt,
         rt.alloc(),
         &watch,
-        "WatchState { value: Some(6), version: 0, waiters: [], receivers: 0 }",
+        "WatchOver { value: Some(6), version: 0, waiters: [], receivers: 0 }",
     )
 }

@@ -2,7 +2,10 @@
 ghost use Rattle.std.specs.Prelude.{◌≡◌, Some, ◌<◌, ◌≤◌, length, IsSome, IfSome, IfOk, is_none};
 ghost use Rattle.esync_permits.specs.Shared.{Suits, granted, IfReady, Leaves};
 
-use crate::semaphore::{Amount, FairRequest, FairState, GreedyRequest, GreedyState, WaitQueueFull};
+use crate::queue::WaitQueue;
+use crate::semaphore::{
+    Amount, FairOver, FairRequest, FairState, GreedyRequest, GreedyState, WaitQueueFull,
+};
 use esync_base::shared::Shared;
 use esync_base::step;
 use esync_base::waitqueue::{Context, Hand, Poll, Wakes};
@@ -399,8 +402,8 @@ impl<W: Copy + Eq> PermitState for GreedyState<W> {
     fn end(&mut self, _request: &GreedyRequest, _wakes: &mut Wakes<W, 1>) {}
 }
 
-impl<W: Copy + Eq, const N: usize> PermitState for FairState<W, N> {
-    type Waker = W;
+impl<Q: WaitQueue> PermitState for FairOver<Q> {
+    type Waker = Q::Waker;
 
     type Request = FairRequest;
 
@@ -411,23 +414,23 @@ impl<W: Copy + Eq, const N: usize> PermitState for FairState<W, N> {
     ghost wanted = { fair_wanted };
 
     fn new(permits: usize) -> Self {
-        FairState::new(permits)
+        FairOver::new(permits)
     }
 
     fn permits(&self) -> usize {
-        FairState::permits(self)
+        FairOver::permits(self)
     }
 
     fn try_take(&mut self, amount: Amount) -> Option<usize> {
-        FairState::try_take(self, amount)
+        FairOver::try_take(self, amount)
     }
 
-    fn release(&mut self, permits: usize, wakes: &mut Wakes<W, 1>) {
-        FairState::release(self, permits, wakes)
+    fn release(&mut self, permits: usize, wakes: &mut Wakes<Q::Waker, 1>) {
+        FairOver::release(self, permits, wakes)
     }
 
-    fn set(&mut self, permits: usize, wakes: &mut Wakes<W, 1>) {
-        FairState::set(self, permits, wakes)
+    fn set(&mut self, permits: usize, wakes: &mut Wakes<Q::Waker, 1>) {
+        FairOver::set(self, permits, wakes)
     }
 
     fn request(amount: Amount) -> FairRequest {
@@ -442,8 +445,8 @@ impl<W: Copy + Eq, const N: usize> PermitState for FairState<W, N> {
     fn poll(
         &mut self,
         request: &mut FairRequest,
-        cx: &Context<W>,
-        wakes: &mut Wakes<W, 1>,
+        cx: &Context<Q::Waker>,
+        wakes: &mut Wakes<Q::Waker, 1>,
     ) -> Poll<Result<usize, WaitQueueFull>> {
         if !request.belongs_to(self) {
             request.finish();
@@ -456,7 +459,7 @@ impl<W: Copy + Eq, const N: usize> PermitState for FairState<W, N> {
         request.ticket().is_some()
     }
 
-    fn end(&mut self, request: &FairRequest, wakes: &mut Wakes<W, 1>) {
+    fn end(&mut self, request: &FairRequest, wakes: &mut Wakes<Q::Waker, 1>) {
         if let Some(ticket) = request.ticket() {
             if self.is_waiting(ticket) {
                 self.cancel(ticket, wakes);

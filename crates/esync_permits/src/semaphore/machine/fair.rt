@@ -10,7 +10,8 @@ ghost use Rattle.esync_permits.specs.PermitRules.{Tries};
 ghost use Rattle.esync_permits.specs.PermitSums.{AddsUp, total};
 
 use super::{PermitCall, PermitHeard, PermitHeld, tried};
-use crate::semaphore::{Amount, FairPoll, FairState, Ticket, WaitQueueFull};
+use crate::queue::WaitQueue;
+use crate::semaphore::{Amount, FairOver, FairPoll, FairState, Ticket, WaitQueueFull};
 use esync_base::waitqueue::Wakes;
 use esync_machine::primitive::{Answer, Command, Primitive, Reach, Turn};
 use esync_machine::requests::Requests;
@@ -41,12 +42,12 @@ fn turn_of(amount: Amount, poll: FairPoll) -> Turn<FairHeard, FairHeld>
 }
 
 // Takes permits for a free number, if they are there and nobody waits.
-fn try_at<W: Copy + Eq, const N: usize>(
-    state: &mut FairState<W, N>,
+fn try_at<Q: WaitQueue>(
+    state: &mut FairOver<Q>,
     amount: Amount,
     place: &mut Option<FairHeld>,
 ) -> Answer<FairHeard>
-    ensures allowed { Tries (fair N) (object_of state.old) amount place.old result (object_of state.new) place.new }
+    ensures allowed { Tries (fair Q.places) (object_of state.old) amount place.old result (object_of state.new) place.new }
     ensures entries { state.new.entries ≡ state.old.entries }
 {
     if place.is_some() {
@@ -55,7 +56,7 @@ fn try_at<W: Copy + Eq, const N: usize>(
     tried(state.try_take(amount), place)
 }
 
-impl<W: Copy + Eq, const N: usize, const K: usize> Primitive<K> for FairState<W, N> {
+impl<Q: WaitQueue, const K: usize> Primitive<K> for FairOver<Q> {
     type Ask = Amount;
 
     type Held = FairHeld;
@@ -64,11 +65,11 @@ impl<W: Copy + Eq, const N: usize, const K: usize> Primitive<K> for FairState<W,
 
     type Heard = FairHeard;
 
-    type Waker = W;
+    type Waker = Q::Waker;
 
     ghost use Rattle.esync_permits.specs.FairRules.{OwesFor, FitsFor, AreApart};
 
-    ghost rules = { fair_rules N };
+    ghost rules = { fair_rules Q.places };
 
     ghost core = { object_of };
 
@@ -78,7 +79,7 @@ impl<W: Copy + Eq, const N: usize, const K: usize> Primitive<K> for FairState<W,
 
     ghost most = { 1 };
 
-    ghost Owes = { OwesFor W.eq };
+    ghost Owes = { OwesFor Q.Waker.eq };
 
     ghost Fits = { FitsFor };
 
@@ -91,8 +92,8 @@ impl<W: Copy + Eq, const N: usize, const K: usize> Primitive<K> for FairState<W,
     fn poll(
         &mut self,
         held: FairHeld,
-        waker: W,
-        wakes: &mut Wakes<W, K>,
+        waker: Q::Waker,
+        wakes: &mut Wakes<Q::Waker, K>,
     ) -> Turn<FairHeard, FairHeld> {
         let PermitHeld::Waiting(amount, ticket) = held else {
             return Turn {
@@ -100,10 +101,10 @@ impl<W: Copy + Eq, const N: usize, const K: usize> Primitive<K> for FairState<W,
                 place: Some(held),
             };
         };
-        turn_of(amount, FairState::poll(self, amount, ticket, waker, wakes))
+        turn_of(amount, FairOver::poll(self, amount, ticket, waker, wakes))
     }
 
-    fn end(&mut self, held: FairHeld, wakes: &mut Wakes<W, K>) {
+    fn end(&mut self, held: FairHeld, wakes: &mut Wakes<Q::Waker, K>) {
         match held {
             PermitHeld::Waiting(_, ticket) => {
                 if let Some(ticket) = ticket {
@@ -126,7 +127,7 @@ impl<W: Copy + Eq, const N: usize, const K: usize> Primitive<K> for FairState<W,
         &mut self,
         call: PermitCall,
         place: &mut Option<FairHeld>,
-        wakes: &mut Wakes<W, K>,
+        wakes: &mut Wakes<Q::Waker, K>,
     ) -> Answer<FairHeard> {
         match call {
             PermitCall::Try(_, amount) => try_at(self, amount, place),
@@ -145,22 +146,22 @@ impl<W: Copy + Eq, const N: usize, const K: usize> Primitive<K> for FairState<W,
                 self.set(permits, wakes);
                 Answer::Done
             }
-            PermitCall::Permits => Answer::Gives(PermitHeard::Count(FairState::permits(self))),
+            PermitCall::Permits => Answer::Gives(PermitHeard::Count(FairOver::permits(self))),
         }
     }
 
     ghost use Rattle.esync_permits.specs.FairLaws.{fair_idle, fair_pending, AreApart-sym};
     ghost use Rattle.esync_permits.specs.PermitLaws.{permit_no_such, permit_no_requests};
 
-    ghost idle = { λ m held w f h. fair_idle N W.eq m held w h };
+    ghost idle = { λ m held w f h. fair_idle Q.places Q.Waker.eq m held w h };
 
-    ghost pending = { fair_pending N };
+    ghost pending = { fair_pending Q.places };
 
-    ghost no_such = { permit_no_such (fair N) };
+    ghost no_such = { permit_no_such (fair Q.places) };
 
     ghost symmetric = { AreApart-sym };
 
-    ghost no_requests = { permit_no_requests (fair N) };
+    ghost no_requests = { permit_no_requests (fair Q.places) };
 }
 
 /// A fair semaphore as a machine, with requests at the numbers below `REQS`, of which at most `N` wait.

@@ -1,7 +1,7 @@
 use Rattle.std.proofs.Common.{sym}
 use Rattle.esync_permits.proofs.Entries.{stands-below, stands-remove, left_by-none}
 use Rattle.esync_permits.proofs.Parts.{entries_fit}
-use Rattle.esync_permits.proofs.queue.Queue.remove.Goals as goal
+use Rattle.esync_permits.proofs.queue.QueueWaitQueue.remove.Goals as goal
 
 pub returns-in-Some : goal.returns-in-Some
 returns-in-Some g c = rw (c.remove.ensures.items, ← c.self.view_is) (stands-remove c.args.number c.in-Some.i c.self.inside.entries.items c.in-Some.ensures.found)

@@ -1,7 +1,7 @@
 use Rattle.std.proofs.Common.{sym}
 use Rattle.esync_permits.proofs.Entries.{stands-below, stands-set, with_waker-none}
 use Rattle.esync_permits.proofs.Parts.{entries_fit}
-use Rattle.esync_permits.proofs.queue.Queue.set_waker.Goals as goal
+use Rattle.esync_permits.proofs.queue.QueueWaitQueue.set_waker.Goals as goal
 
 pub returns-in-Some : goal.returns-in-Some
 returns-in-Some g c = rw (c.replace.ensures.items, ← c.self.view_is) (stands-set c.args.number c.in-Some.i c.self.inside.entries.items c.in-Some.ensures.found c.args.waker)

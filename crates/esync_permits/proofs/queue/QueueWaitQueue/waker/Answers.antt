@@ -1,6 +1,6 @@
 use Rattle.std.proofs.Common.{arith}
 use Rattle.esync_permits.proofs.Entries.{waker_at, no_waker_at}
-use Rattle.esync_permits.proofs.queue.Queue.waker.Goals as goal
+use Rattle.esync_permits.proofs.queue.QueueWaitQueue.waker.Goals as goal
 
 pub returns-then-i-len : goal.returns-then-i-len
 returns-then-i-len g c = rw (← c.self.view_is) (waker_at c.args.i c.self.inside.entries.items c.get.result.now c.get.ensures)

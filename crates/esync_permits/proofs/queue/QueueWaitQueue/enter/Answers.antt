@@ -1,5 +1,5 @@
 use Rattle.esync_permits.proofs.Parts.{entries_fit}
-use Rattle.esync_permits.proofs.queue.Queue.enter.Goals as goal
+use Rattle.esync_permits.proofs.queue.QueueWaitQueue.enter.Goals as goal
 
 pub is_full-requires : goal.is_full-requires
 is_full-requires g c = entries_fit g.row.W g.row.N c.requires-raw.1.1
