@@ -1,10 +1,10 @@
 //! Publishers and subscribers, by the channel's own calls and by those of its handles. Whoever has a number stands in a table.
 use crate::form::{Door, Doors, Form, Sizes, nobody, over, sizes};
-use esync_base::waitqueue::{Context, Hand, Poll};
+use esync_base::waitqueue::{Context, Hand, Poll, WakerList};
 use esync_machine::primitive::{Answer, Turn};
 use esync_pubsub::pubsub::machine::{PubSubAsk, PubSubCall, PubSubHeard};
 use esync_pubsub::pubsub::{
-    DynImmediatePublisher, Error, Exhausted, ImmediatePub, LogState, Pub, PubSubBehavior,
+    DynImmediatePublisher, Error, Exhausted, ImmediatePub, LogStore, Pub, PubSubBehavior,
     PublishRequest, SharedPubSub, Sub,
 };
 use std::alloc::{AllocError, Global};
@@ -18,8 +18,13 @@ pub trait Topic: PubSubBehavior<Message = u32, Waker = u64> {
     fn add(&self, door: Door) -> Result<Pub<'_, Self>, Error>;
 }
 
-impl<S: LogState<K, Message = u32, Waker = u64>, H: Hand<u64>, const K: usize> Topic
-    for SharedPubSub<S, u64, H, K> {
+impl<
+    G: LogStore<Message = u32>,
+    S: WakerList<Waker = u64>,
+    P: WakerList<Waker = u64>,
+    H: Hand<u64>,
+    const K: usize,
+> Topic for SharedPubSub<G, S, P, H, K> {
     fn join(&self, door: Door) -> Result<Sub<'_, Self>, Error> {
         match door {
             Door::Own | Door::Handle => self.subscriber(),
@@ -393,10 +398,14 @@ fn sinks<B: Topic>(
     sink.poll_flush(cx)
 }
 
-impl<'c, S: LogState<K, Message = u32, Waker = u64>, H: Hand<u64>, const K: usize> PubSub<
+impl<
     'c,
-    SharedPubSub<S, u64, H, K>,
-> {
+    G: LogStore<Message = u32>,
+    S: WakerList<Waker = u64>,
+    P: WakerList<Waker = u64>,
+    H: Hand<u64>,
+    const K: usize,
+> PubSub<'c, SharedPubSub<G, S, P, H, K>> {
     /// This channel, at which nobody is, called by these ways.
     ///
     /// # Errors
@@ -404,7 +413,7 @@ impl<'c, S: LogState<K, Message = u32, Waker = u64>, H: Hand<u64>, const K: usiz
     /// Where there is no memory.
     pub fn new(
         alloc: Global,
-        channel: &'c SharedPubSub<S, u64, H, K>,
+        channel: &'c SharedPubSub<G, S, P, H, K>,
         doors: Doors,
     ) -> Result<Self, AllocError> {
         let subscribers = nobody(alloc)?;

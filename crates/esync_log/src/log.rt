@@ -8,10 +8,12 @@ use held::Held;
 use std::alloc::AllocError;
 use std::fmt::{self, Debug};
 use std::marker::Model;
+pub use store::LogStore;
 use thiserror::Error;
 
 mod held;
 mod kept;
+mod store;
 
 /// Why a message was not published. It comes back.
 #[derive(Clone, Copy, Debug, PartialEq, Eq, Error)]

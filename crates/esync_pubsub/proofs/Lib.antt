@@ -9,4 +9,3 @@ pub mod Machine
 pub mod Unread
 pub mod Advance
 pub mod Order
-pub mod Parts

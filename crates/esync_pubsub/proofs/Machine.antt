@@ -1,5 +1,6 @@
 -- What a poll and a call keep of a machine over a pub-sub channel whose subscribers and publishers have numbers.
 use Rattle.std.proofs.Common.{◌≡◌, ℕ, Bool, true, false, List, Option, Some, None, sym, ap, subst, ◌∙◌, ◌⊎◌, inl, inr}
+use Rattle.std.specs.Prelude.{IfSome}
 use Rattle.esync_base.specs.Registration.{IsAmong}
 use Rattle.esync_machine.specs.declared.primitive.Answer.{Answer}
 use Rattle.esync_machine.specs.declared.primitive.Answer.TheVariants.{Pending}
@@ -11,7 +12,7 @@ use Rattle.esync_pubsub.specs.PubSub.{PubSub}
 use Rattle.esync_pubsub.specs.PubSubRules.{Topic, topic_of, names_it, place_at, is_subscriber, reach, Polls, Calls, poll_hands, call_hands, pubsub_rules, OwesFor}
 use Rattle.esync_pubsub.proofs.Calls.{Stays, stays_called}
 use Rattle.esync_log.specs.LogLaws.{some_number}
-use Rattle.esync_pubsub.proofs.Turns.{AreHere, here_by, polled_kept, polled_quiet, polled_registered}
+use Rattle.esync_pubsub.proofs.Turns.{AreHere, here_by, polled_kept, polled_quiet, polled_registered, polled_names, polled_fits}
 use Rattle.esync_pubsub.specs.declared.pubsub.machine.PubSubAsk.{PubSubAsk}
 use Rattle.esync_pubsub.specs.declared.pubsub.machine.PubSubCall.{PubSubCall}
 use Rattle.esync_pubsub.specs.declared.pubsub.machine.PubSubHeard.{PubSubHeard}
@@ -48,6 +49,12 @@ module _ {T W : Type 0} (C : T → T → Type 0) (I : T → Type 0) (cap subs pu
           | inl i ↦ inl i
           | inr i ↦ inr (owed_as (λ x k v. OwesFor eq cap (topic_of s2 t) x k v) Owes s2.lists z p w f2 i)
         ]
+
+    pub turn_names : (other : PubSubAsk T) → names_it other at ≡ true → names_it other (topic_of s2 t) ≡ true
+    turn_names = polled_names C I cap eq subs pubs at s.lists w (topic_of s2 t) ask a p wakes s2.lists here f h e
+
+    pub turn_fits : IfSome p (λ after. names_it after (topic_of s2 t) ≡ true)
+    turn_fits = polled_fits C I cap eq subs pubs at s.lists w (topic_of s2 t) ask a p wakes s2.lists here f h e
 
   module _ (t2 : Tables) (call : PubSubCall T) (a : Answer (PubSubHeard T)) (h : Calls C I cap pubs at call a (topic_of s2 t2)) (e : IsHanded (unless_refused a s.lists (call_hands eq subs pubs at s.lists call a)) wakes s2.lists) where
     pub call_stays : (other : PubSubAsk T) → names_it other at ≡ true → ended (pubsub_rules C I cap pubs) at (reach call) call other ≡ false → Stays eq cap at (topic_of s2 t2) s.lists s2.lists wakes other

@@ -1,6 +1,6 @@
--- The steps of a shared pub-sub channel: what each answers, the channel after it, and the wakers that it hands out. A step of who isn't
--- there changes nothing.
-use Rattle.std.specs.Prelude.{◌≡◌, ℕ, ◌-◌, Bool, true, false, List, [], Option, Some, None, Result, Ok, Err, if◌then◌else◌, nat_eq, not}
+-- The steps of a pub-sub channel in which who calls may not be there: what each answers, the channel after it, and the wakers that it
+-- hands out. A step of who isn't there changes nothing.
+use Rattle.std.specs.Prelude.{◌≡◌, ℕ, ◌-◌, Bool, true, false, List, [], Option, Some, None, Result, Ok, Err, if◌then◌else◌, nat_eq, not, max}
 use Rattle.esync_base.specs.declared.waitqueue.Poll.{Poll}
 use Rattle.esync_base.specs.declared.waitqueue.Poll.TheVariants.{Pending}
 use Rattle.esync_log.specs.Log.{Log, has_subscribers, is_live, position, left, cleared, Publishes, PublishesAtOnce, lags, caught, Reads, ReadsOn, Streams, IsRefused}
@@ -8,6 +8,10 @@ use Rattle.esync_pubsub.specs.PubSub.{PubSub, Lists, frees, lists_after_room, wa
 use Rattle.esync_log.specs.declared.log.Exhausted.{Exhausted as NoNumber}
 use Rattle.esync_log.specs.declared.log.TryPublishError.{TryPublishError}
 use Rattle.esync_log.specs.declared.log.WaitResult.{WaitResult}
+
+-- the greatest number of wakers that a step hands out, of lists for this many subscribers and publishers
+abbrev pub most_wakes : ℕ → ℕ → ℕ
+most_wakes subs pubs = max (max subs pubs) 1
 
 -- the first of who is there, and the second of who isn't
 abbrev pub IfThere : Bool → Type 0 → Type 0 → Type 0

@@ -6,15 +6,14 @@ ghost use Rattle.esync_pubsub.specs.PubSub.{fresh, Subscribes, Adds, frees, list
 
 pub mod machine;
 
-use esync_base::waitqueue::{Context, MultiWakerRegistration, Poll, Registered, Wakes};
-use esync_log::log::Log;
-pub use esync_log::log::{Exhausted, TryPublishError, WaitResult};
+use esync_base::waitqueue::{Context, Poll, Registered, WakerList, WakerRegistrations, Wakes};
+pub use esync_log::log::{Exhausted, Log, LogStore, TryPublishError, WaitResult};
 pub use handles::{
     DynImmediatePublisher, DynPublisher, DynSubscriber, ImmediatePub, ImmediatePublisher,
     NextMessagePure, Pub, PubSink, Publisher, PublisherWaitFuture, Sub, Subscriber,
     SubscriberWaitFuture,
 };
-pub use shared::{LogState, PubSubBehavior, PubSubChannel, SharedPubSub};
+pub use shared::{PubSubBehavior, PubSubChannel, SharedPubSub};
 use std::alloc::AllocError;
 use std::fmt::{self, Debug};
 use std::marker::Model;
@@ -23,6 +22,7 @@ use thiserror::Error;
 mod handles;
 mod kept;
 mod shared;
+mod steps;
 
 /// Why nobody came.
 #[derive(Clone, Copy, Debug, PartialEq, Eq, Error)]
@@ -51,43 +51,48 @@ impl Model for SubId {
     ghost inverse = { λ n. record { place = n } };
 }
 
-/// The state of a pub-sub channel: at most `CAP` messages, at most `SUBS` subscribers and at most `PUBS` publishers, and the wakers of
-/// who waits for a message and of who waits for room.
+/// The state of a pub-sub channel of at most `CAP` messages, at most `SUBS` subscribers and at most `PUBS` publishers.
+pub type PubSubState<T, W, const CAP: usize, const SUBS: usize, const PUBS: usize> = PubSubOver<
+    Log<T, CAP, SUBS>,
+    Wakes<W, SUBS>,
+    Wakes<W, PUBS>,
+>;
+
+/// The state of a pub-sub channel: its messages and how far each subscriber has read, how many publishers are counted, and the wakers of
+/// who waits for a message and of who waits for room. As many publishers may be counted as there is room for wakers.
 ///
 /// It holds no lock and waits for nobody. What a call hands out, it appends to the list of wakes that it is given.
-#[derive_where(Debug; T: fmt::Debug + Drop, W: fmt::Debug)]
+#[derive_where(Debug; G: fmt::Debug, S: fmt::Debug, P: fmt::Debug)]
 #[derive(Drop)]
-pub struct PubSubState<T, W, const CAP: usize, const SUBS: usize, const PUBS: usize> {
-    log: Log<T, CAP, SUBS>,
+pub struct PubSubOver<G: LogStore, S: WakerList, P: WakerList<Waker = S::Waker>> {
+    log: G,
     publishers: usize,
-    subscriber_wakers: MultiWakerRegistration<W, SUBS>,
-    publisher_wakers: MultiWakerRegistration<W, PUBS>,
+    subscriber_wakers: WakerRegistrations<S>,
+    publisher_wakers: WakerRegistrations<P>,
 }
 
-impl<T, W, const CAP: usize, const SUBS: usize, const PUBS: usize> Model
-    for PubSubState<T, W, CAP, SUBS, PUBS> {
+impl<G: LogStore, S: WakerList, P: WakerList<Waker = S::Waker>> Model for PubSubOver<G, S, P> {
     ghost use Rattle.std.specs.Prelude.{◌≤◌};
     ghost use Rattle.esync_pubsub.specs.PubSub.{PubSub, pubsub_code};
 
-    ghost Value = { PubSub T W };
+    ghost Value = { PubSub G.Message S.Waker };
 
-    ghost coded = { pubsub_code T.code W.code };
+    ghost coded = { pubsub_code G.Message.code S.Waker.code };
 
-    ghost view = { λ a. record { log = a.log; publishers = a.publishers; lists = record { subscribers = a.subscriber_wakers; publishers = a.publisher_wakers } } };
+    ghost view = { λ a. record { log = G.log a.log; publishers = a.publishers; lists = record { subscribers = a.subscriber_wakers; publishers = a.publisher_wakers } } };
 
-    ghost invariant = { λ a. a.publishers ≤ PUBS };
+    ghost invariant = { λ a. (a.publishers ≤ P.room) × (G.places ≤ S.room) };
 }
 
 /// Who waits for a message, and who waits for room.
-impl<T, W: Copy + Eq, const CAP: usize, const SUBS: usize, const PUBS: usize> Registered
-    for PubSubState<T, W, CAP, SUBS, PUBS> {
-    type Waker = W;
+impl<G: LogStore, S: WakerList, P: WakerList<Waker = S::Waker>> Registered for PubSubOver<G, S, P> {
+    type Waker = S::Waker;
 
     ghost use Rattle.esync_base.specs.Standing.{at_two};
 
     ghost at = { λ m. at_two m.lists.subscribers m.lists.publishers };
 
-    fn registered(&self, place: usize, i: usize) -> Option<W> {
+    fn registered(&self, place: usize, i: usize) -> Option<S::Waker> {
         match place {
             0 => self.subscriber_wakers.get(i),
             1 => self.publisher_wakers.get(i),
@@ -96,31 +101,27 @@ impl<T, W: Copy + Eq, const CAP: usize, const SUBS: usize, const PUBS: usize> Re
     }
 }
 
-impl<T: Drop, W: Copy + Eq, const CAP: usize, const SUBS: usize, const PUBS: usize> PubSubState<
-    T,
-    W,
-    CAP,
-    SUBS,
-    PUBS,
-> {
+impl<G: LogStore, S: WakerList, P: WakerList<Waker = S::Waker>> PubSubOver<G, S, P> {
     /// No message, no subscriber, no publisher, and nobody who waits. The first message has the number 0.
     pub fn new() -> Self
-        requires { 1 ≤ CAP }
-        ensures { result ≡ fresh SUBS 0 }
+        requires messages { 1 ≤ G.capacity }
+        requires wakers { G.places ≤ S.room }
+        ensures { result ≡ fresh G.places 0 }
     {
-        PubSubState::new_at(0)
+        PubSubOver::new_at(0)
     }
 
     /// The same, where the first message has the number `next`.
     pub fn new_at(next: u64) -> Self
-        requires { 1 ≤ CAP }
-        ensures { result ≡ fresh SUBS next }
+        requires messages { 1 ≤ G.capacity }
+        requires wakers { G.places ≤ S.room }
+        ensures { result ≡ fresh G.places next }
     {
-        PubSubState {
-            log: Log::new_at(next),
+        PubSubOver {
+            log: G::new_at(next),
             publishers: 0,
-            subscriber_wakers: MultiWakerRegistration::new(),
-            publisher_wakers: MultiWakerRegistration::new(),
+            subscriber_wakers: WakerRegistrations::new(),
+            publisher_wakers: WakerRegistrations::new(),
         }
     }
 
@@ -147,9 +148,9 @@ impl<T: Drop, W: Copy + Eq, const CAP: usize, const SUBS: usize, const PUBS: usi
     }
 
     /// The subscriber leaves. What nobody reads any more leaves with it, and where a message does, who waits for room is woken.
-    pub fn leave<const K: usize>(&mut self, id: SubId, wakes: &mut Wakes<W, K>)
+    pub fn leave<const K: usize>(&mut self, id: SubId, wakes: &mut Wakes<S::Waker, K>)
         requires live { IsTrue (is_live id self.old.log) }
-        requires room { length wakes.old + PUBS ≤ K }
+        requires room { length wakes.old + P.room ≤ K }
         ensures state { self.new ≡ record self.old { log = left id self.old.log; lists = lists_after_room (frees self.old.log (left id self.old.log)) self.old.lists } }
         ensures wakes { wakes.new ≡ wakes.old ++ wakes_of_room (frees self.old.log (left id self.old.log)) self.old.lists }
     {
@@ -162,12 +163,12 @@ impl<T: Drop, W: Copy + Eq, const CAP: usize, const SUBS: usize, const PUBS: usi
     ///
     /// # Errors
     ///
-    /// `MaximumPublishersReached` where `PUBS` are counted. Nothing is changed.
+    /// `MaximumPublishersReached` where as many are counted as may be. Nothing is changed.
     pub fn add_publisher(&mut self) -> Result<(), Error>
-        ensures count { Adds PUBS self.old.publishers result self.new.publishers }
+        ensures count { Adds P.room self.old.publishers result self.new.publishers }
         ensures rest { self.new ≡ record self.old { publishers = self.new.publishers } }
     {
-        if self.publishers >= PUBS {
+        if self.publishers >= P::room() {
             return Err(Error::MaximumPublishersReached);
         }
         self.publishers += 1;
@@ -185,14 +186,14 @@ impl<T: Drop, W: Copy + Eq, const CAP: usize, const SUBS: usize, const PUBS: usi
     /// How many publishers are counted.
     pub fn publishers(&self) -> usize
         ensures value { result ≡ self.now.publishers }
-        ensures within { result ≤ PUBS }
+        ensures within { result ≤ P.room }
     {
         self.publishers
     }
 
     // Wakes who waits for a message, where a subscriber was there when it was accepted.
-    fn tell_news<const K: usize>(&mut self, has_subscribers: bool, wakes: &mut Wakes<W, K>)
-        requires { length wakes.old + SUBS ≤ K }
+    fn tell_news<const K: usize>(&mut self, has_subscribers: bool, wakes: &mut Wakes<S::Waker, K>)
+        requires { length wakes.old + S.room ≤ K }
         ensures state { self.new ≡ record self.old { lists = lists_after_news has_subscribers self.old.lists } }
         ensures wakes { wakes.new ≡ wakes.old ++ wakes_of_news has_subscribers self.old.lists }
     {
@@ -202,8 +203,8 @@ impl<T: Drop, W: Copy + Eq, const CAP: usize, const SUBS: usize, const PUBS: usi
     }
 
     // Wakes who waits for room, where fewer messages are held than were.
-    fn tell_room<const K: usize>(&mut self, held: usize, wakes: &mut Wakes<W, K>)
-        requires { length wakes.old + PUBS ≤ K }
+    fn tell_room<const K: usize>(&mut self, held: usize, wakes: &mut Wakes<S::Waker, K>)
+        requires { length wakes.old + P.room ≤ K }
         ensures state { self.new ≡ record self.old { lists = lists_after_room (nat_lt (length self.old.log.held) held) self.old.lists } }
         ensures wakes { wakes.new ≡ wakes.old ++ wakes_of_room (nat_lt (length self.old.log.held) held) self.old.lists }
     {
@@ -226,17 +227,17 @@ impl<T: Drop, W: Copy + Eq, const CAP: usize, const SUBS: usize, const PUBS: usi
     ///
     /// # Errors
     ///
-    /// The message comes back and nothing is changed: `Full` where `CAP` messages are held, and else `Exhausted` where the numbers of
+    /// The message comes back and nothing is changed: `Full` where as many messages are held as there is room for, and else `Exhausted` where the numbers of
     /// messages have run out.
     pub fn try_publish<const K: usize>(
         &mut self,
-        message: T,
-        wakes: &mut Wakes<W, K>,
-    ) -> Result<(), TryPublishError<T>>
-        requires { length wakes.old + SUBS ≤ K }
-        ensures log { Publishes CAP message self.old.log result self.new.log }
-        ensures rest { self.new ≡ record self.old { log = self.new.log; lists = lists_after_publish W.eq PUBS None (has_subscribers self.old.log) result self.old.lists } }
-        ensures wakes { wakes.new ≡ wakes.old ++ wakes_of_publish W.eq PUBS None (has_subscribers self.old.log) result self.old.lists }
+        message: G::Message,
+        wakes: &mut Wakes<S::Waker, K>,
+    ) -> Result<(), TryPublishError<G::Message>>
+        requires { length wakes.old + S.room ≤ K }
+        ensures log { Publishes G.capacity message self.old.log result self.new.log }
+        ensures rest { self.new ≡ record self.old { log = self.new.log; lists = lists_after_publish S.Waker.eq P.room None (has_subscribers self.old.log) result self.old.lists } }
+        ensures wakes { wakes.new ≡ wakes.old ++ wakes_of_publish S.Waker.eq P.room None (has_subscribers self.old.log) result self.old.lists }
     {
         let has_subscribers = self.log.has_subscribers();
         match self.log.publish(message) {
@@ -252,16 +253,16 @@ impl<T: Drop, W: Copy + Eq, const CAP: usize, const SUBS: usize, const PUBS: usi
     // Publishes a message. Where the log is full, the waker waits for room.
     fn publish_or_wait<const K: usize>(
         &mut self,
-        message: T,
-        waker: W,
-        wakes: &mut Wakes<W, K>,
-    ) -> Result<(), TryPublishError<T>>
-        requires subscribers { length wakes.old + SUBS ≤ K }
-        requires place { 1 ≤ PUBS }
-        requires publishers { length wakes.old + PUBS ≤ K }
-        ensures log { Publishes CAP message self.old.log result self.new.log }
-        ensures rest { self.new ≡ record self.old { log = self.new.log; lists = lists_after_publish W.eq PUBS (Some waker) (has_subscribers self.old.log) result self.old.lists } }
-        ensures wakes { wakes.new ≡ wakes.old ++ wakes_of_publish W.eq PUBS (Some waker) (has_subscribers self.old.log) result self.old.lists }
+        message: G::Message,
+        waker: S::Waker,
+        wakes: &mut Wakes<S::Waker, K>,
+    ) -> Result<(), TryPublishError<G::Message>>
+        requires subscribers { length wakes.old + S.room ≤ K }
+        requires place { 1 ≤ P.room }
+        requires publishers { length wakes.old + P.room ≤ K }
+        ensures log { Publishes G.capacity message self.old.log result self.new.log }
+        ensures rest { self.new ≡ record self.old { log = self.new.log; lists = lists_after_publish S.Waker.eq P.room (Some waker) (has_subscribers self.old.log) result self.old.lists } }
+        ensures wakes { wakes.new ≡ wakes.old ++ wakes_of_publish S.Waker.eq P.room (Some waker) (has_subscribers self.old.log) result self.old.lists }
     {
         match self.try_publish(message, wakes) {
             Ok(()) => Ok(()),
@@ -273,40 +274,40 @@ impl<T: Drop, W: Copy + Eq, const CAP: usize, const SUBS: usize, const PUBS: usi
         }
     }
 
-    /// Publishes a message for all who are subscribers. Where `CAP` messages are held, the context's waker waits for room.
+    /// Publishes a message for all who are subscribers. Where there is no room, the context's waker waits for it.
     ///
     /// # Errors
     ///
-    /// The message comes back and the log stays: `Full` where `CAP` messages are held, and else `Exhausted` where the numbers of messages
+    /// The message comes back and the log stays: `Full` where as many messages are held as there is room for, and else `Exhausted` where the numbers of messages
     /// have run out.
     pub fn publish_with_context<const K: usize>(
         &mut self,
-        message: T,
-        cx: &Context<W>,
-        wakes: &mut Wakes<W, K>,
-    ) -> Result<(), TryPublishError<T>>
-        requires subscribers { length wakes.old + SUBS ≤ K }
-        requires place { 1 ≤ PUBS }
-        requires publishers { length wakes.old + PUBS ≤ K }
-        ensures log { Publishes CAP message self.old.log result self.new.log }
-        ensures rest { self.new ≡ record self.old { log = self.new.log; lists = lists_after_publish W.eq PUBS (Some cx.now) (has_subscribers self.old.log) result self.old.lists } }
-        ensures wakes { wakes.new ≡ wakes.old ++ wakes_of_publish W.eq PUBS (Some cx.now) (has_subscribers self.old.log) result self.old.lists }
+        message: G::Message,
+        cx: &Context<S::Waker>,
+        wakes: &mut Wakes<S::Waker, K>,
+    ) -> Result<(), TryPublishError<G::Message>>
+        requires subscribers { length wakes.old + S.room ≤ K }
+        requires place { 1 ≤ P.room }
+        requires publishers { length wakes.old + P.room ≤ K }
+        ensures log { Publishes G.capacity message self.old.log result self.new.log }
+        ensures rest { self.new ≡ record self.old { log = self.new.log; lists = lists_after_publish S.Waker.eq P.room (Some cx.now) (has_subscribers self.old.log) result self.old.lists } }
+        ensures wakes { wakes.new ≡ wakes.old ++ wakes_of_publish S.Waker.eq P.room (Some cx.now) (has_subscribers self.old.log) result self.old.lists }
     {
         self.publish_or_wait(message, cx.waker(), wakes)
     }
 
-    /// Publishes a message at once. Where `CAP` are held, the oldest one is dropped, and who had not read it lags.
+    /// Publishes a message at once. Where there is no room, the oldest one is dropped, and who had not read it lags.
     ///
     /// # Errors
     ///
     /// `Exhausted` with the message where the numbers of messages have run out. Nothing is changed.
     pub fn publish_immediate<const K: usize>(
         &mut self,
-        message: T,
-        wakes: &mut Wakes<W, K>,
-    ) -> Result<(), Exhausted<T>>
-        requires { length wakes.old + SUBS ≤ K }
-        ensures log { PublishesAtOnce CAP message self.old.log result self.new.log }
+        message: G::Message,
+        wakes: &mut Wakes<S::Waker, K>,
+    ) -> Result<(), Exhausted<G::Message>>
+        requires { length wakes.old + S.room ≤ K }
+        ensures log { PublishesAtOnce G.capacity message self.old.log result self.new.log }
         ensures rest { self.new ≡ record self.old { log = self.new.log; lists = lists_after_immediate (has_subscribers self.old.log) result self.old.lists } }
         ensures wakes { wakes.new ≡ wakes.old ++ wakes_of_immediate (has_subscribers self.old.log) result self.old.lists }
     {
@@ -329,11 +330,11 @@ impl<T: Drop, W: Copy + Eq, const CAP: usize, const SUBS: usize, const PUBS: usi
     }
 
     /// Drops all messages, and wakes who waits for room. Who had not read them lags.
-    pub fn clear<const K: usize>(&mut self, wakes: &mut Wakes<W, K>)
-        requires { length wakes.old + PUBS ≤ K }
+    pub fn clear<const K: usize>(&mut self, wakes: &mut Wakes<S::Waker, K>)
+        requires { length wakes.old + P.room ≤ K }
         ensures state { self.new ≡ record self.old { log = cleared self.old.log; lists = record self.old.lists { publishers = [] } } }
         ensures wakes { wakes.new ≡ wakes.old ++ self.old.lists.publishers }
-        ensures at_most { length wakes.new ≤ length wakes.old + PUBS }
+        ensures at_most { length wakes.new ≤ length wakes.old + P.room }
     {
         self.log.clear();
         self.publisher_wakers.wake(wakes);
@@ -342,7 +343,7 @@ impl<T: Drop, W: Copy + Eq, const CAP: usize, const SUBS: usize, const PUBS: usi
     /// How many messages are held, which are no more than were published.
     pub fn len(&self) -> usize
         ensures value { result ≡ length self.now.log.held }
-        ensures within { result ≤ CAP }
+        ensures within { result ≤ G.capacity }
         ensures numbered { length self.now.log.held ≤ self.now.log.next }
     {
         self.log.len()
@@ -366,33 +367,25 @@ impl<T: Drop, W: Copy + Eq, const CAP: usize, const SUBS: usize, const PUBS: usi
 
     /// As many messages are held as there is room for.
     pub fn is_full(&self) -> bool
-        ensures { result ≡ not (nat_lt (length self.now.log.held) CAP) }
+        ensures { result ≡ not (nat_lt (length self.now.log.held) G.capacity) }
     {
         self.log.is_full()
     }
 
     /// How many messages can be held.
     pub fn capacity(&self) -> usize
-        ensures { result ≡ CAP }
+        ensures { result ≡ G.capacity }
     {
-        CAP
+        G::capacity()
     }
 
     /// How many messages there is room for.
     pub fn free_capacity(&self) -> usize
-        ensures { result + length self.now.log.held ≡ CAP }
+        ensures { result + length self.now.log.held ≡ G.capacity }
     {
-        CAP - self.len()
+        G::capacity() - self.len()
     }
-}
 
-impl<T: Clone, W: Copy + Eq, const CAP: usize, const SUBS: usize, const PUBS: usize> PubSubState<
-    T,
-    W,
-    CAP,
-    SUBS,
-    PUBS,
-> {
     /// What this subscriber reads next: a message, or how many messages left before it read them. `None` where it has read all. The last
     /// reader is given the message itself, which leaves, and who waits for room is woken. Others are given a clone.
     ///
@@ -402,15 +395,15 @@ impl<T: Clone, W: Copy + Eq, const CAP: usize, const SUBS: usize, const PUBS: us
     pub fn try_next_message<const K: usize>(
         &mut self,
         id: &SubId,
-        wakes: &mut Wakes<W, K>,
-    ) -> Result<Option<WaitResult<T>>, AllocError>
+        wakes: &mut Wakes<S::Waker, K>,
+    ) -> Result<Option<WaitResult<G::Message>>, AllocError>
         requires live { IsTrue (is_live id.now self.old.log) }
-        requires room { length wakes.old + PUBS ≤ K }
-        ensures place { id.now < SUBS }
-        ensures ok { IfOk result (λ answer. Reads T.is_clone id.now self.old.log answer self.new.log) }
-        ensures rest { IfOk result (λ answer. self.new ≡ record self.old { log = self.new.log; lists = lists_after_read W.eq SUBS None answer (frees self.old.log self.new.log) self.old.lists }) }
-        ensures wakes { IfOk result (λ answer. wakes.new ≡ wakes.old ++ wakes_of_read W.eq SUBS None answer (frees self.old.log self.new.log) self.old.lists) }
-        ensures refused { OnErr result (IsRefused T.is_infallible id.now (position id.now self.old.log) self.old.log) }
+        requires room { length wakes.old + P.room ≤ K }
+        ensures place { id.now < G.places }
+        ensures ok { IfOk result (λ answer. Reads G.Message.is_clone id.now self.old.log answer self.new.log) }
+        ensures rest { IfOk result (λ answer. self.new ≡ record self.old { log = self.new.log; lists = lists_after_read S.Waker.eq S.room None answer (frees self.old.log self.new.log) self.old.lists }) }
+        ensures wakes { IfOk result (λ answer. wakes.new ≡ wakes.old ++ wakes_of_read S.Waker.eq S.room None answer (frees self.old.log self.new.log) self.old.lists) }
+        ensures refused { OnErr result (IsRefused G.Message.is_infallible id.now (position id.now self.old.log) self.old.log) }
         ensures unchanged { OnErr result (self.new ≡ self.old) }
         ensures unwoken { OnErr result (wakes.new ≡ wakes.old) }
     {
@@ -433,16 +426,16 @@ impl<T: Clone, W: Copy + Eq, const CAP: usize, const SUBS: usize, const PUBS: us
     pub fn get_message_with_context<const K: usize>(
         &mut self,
         id: &SubId,
-        cx: &Context<W>,
-        wakes: &mut Wakes<W, K>,
-    ) -> Result<Poll<WaitResult<T>>, AllocError>
+        cx: &Context<S::Waker>,
+        wakes: &mut Wakes<S::Waker, K>,
+    ) -> Result<Poll<WaitResult<G::Message>>, AllocError>
         requires live { IsTrue (is_live id.now self.old.log) }
-        requires subscribers { length wakes.old + SUBS ≤ K }
-        requires publishers { length wakes.old + PUBS ≤ K }
-        ensures ok { IfOk result (λ answer. Reads T.is_clone id.now self.old.log (heard answer) self.new.log) }
-        ensures rest { IfOk result (λ answer. self.new ≡ record self.old { log = self.new.log; lists = lists_after_read W.eq SUBS (Some cx.now) (heard answer) (frees self.old.log self.new.log) self.old.lists }) }
-        ensures wakes { IfOk result (λ answer. wakes.new ≡ wakes.old ++ wakes_of_read W.eq SUBS (Some cx.now) (heard answer) (frees self.old.log self.new.log) self.old.lists) }
-        ensures refused { OnErr result (IsRefused T.is_infallible id.now (position id.now self.old.log) self.old.log) }
+        requires subscribers { length wakes.old + S.room ≤ K }
+        requires publishers { length wakes.old + P.room ≤ K }
+        ensures ok { IfOk result (λ answer. Reads G.Message.is_clone id.now self.old.log (heard answer) self.new.log) }
+        ensures rest { IfOk result (λ answer. self.new ≡ record self.old { log = self.new.log; lists = lists_after_read S.Waker.eq S.room (Some cx.now) (heard answer) (frees self.old.log self.new.log) self.old.lists }) }
+        ensures wakes { IfOk result (λ answer. wakes.new ≡ wakes.old ++ wakes_of_read S.Waker.eq S.room (Some cx.now) (heard answer) (frees self.old.log self.new.log) self.old.lists) }
+        ensures refused { OnErr result (IsRefused G.Message.is_infallible id.now (position id.now self.old.log) self.old.log) }
         ensures unchanged { OnErr result (self.new ≡ self.old) }
         ensures unwoken { OnErr result (wakes.new ≡ wakes.old) }
     {
@@ -464,15 +457,15 @@ impl<T: Clone, W: Copy + Eq, const CAP: usize, const SUBS: usize, const PUBS: us
     pub fn try_next_message_pure<const K: usize>(
         &mut self,
         id: &SubId,
-        wakes: &mut Wakes<W, K>,
-    ) -> Result<Option<T>, AllocError>
+        wakes: &mut Wakes<S::Waker, K>,
+    ) -> Result<Option<G::Message>, AllocError>
         requires live { IsTrue (is_live id.now self.old.log) }
-        requires room { length wakes.old + PUBS ≤ K }
-        ensures place { id.now < SUBS }
-        ensures ok { IfOk result (λ answer. ReadsOn T.is_clone id.now self.old.log answer self.new.log) }
-        ensures rest { IfOk result (λ answer. self.new ≡ record self.old { log = self.new.log; lists = lists_after_read W.eq SUBS None answer (frees self.old.log self.new.log) self.old.lists }) }
-        ensures wakes { IfOk result (λ answer. wakes.new ≡ wakes.old ++ wakes_of_read W.eq SUBS None answer (frees self.old.log self.new.log) self.old.lists) }
-        ensures refused { OnErr result (IsRefused T.is_infallible id.now (position id.now (caught id.now self.old.log)) self.old.log) }
+        requires room { length wakes.old + P.room ≤ K }
+        ensures place { id.now < G.places }
+        ensures ok { IfOk result (λ answer. ReadsOn G.Message.is_clone id.now self.old.log answer self.new.log) }
+        ensures rest { IfOk result (λ answer. self.new ≡ record self.old { log = self.new.log; lists = lists_after_read S.Waker.eq S.room None answer (frees self.old.log self.new.log) self.old.lists }) }
+        ensures wakes { IfOk result (λ answer. wakes.new ≡ wakes.old ++ wakes_of_read S.Waker.eq S.room None answer (frees self.old.log self.new.log) self.old.lists) }
+        ensures refused { OnErr result (IsRefused G.Message.is_infallible id.now (position id.now (caught id.now self.old.log)) self.old.log) }
         ensures unchanged { OnErr result (self.new ≡ self.old) }
         ensures unwoken { OnErr result (wakes.new ≡ wakes.old) }
     {
@@ -495,16 +488,16 @@ impl<T: Clone, W: Copy + Eq, const CAP: usize, const SUBS: usize, const PUBS: us
     pub fn get_message_pure_with_context<const K: usize>(
         &mut self,
         id: &SubId,
-        cx: &Context<W>,
-        wakes: &mut Wakes<W, K>,
-    ) -> Result<Poll<T>, AllocError>
+        cx: &Context<S::Waker>,
+        wakes: &mut Wakes<S::Waker, K>,
+    ) -> Result<Poll<G::Message>, AllocError>
         requires live { IsTrue (is_live id.now self.old.log) }
-        requires subscribers { length wakes.old + SUBS ≤ K }
-        requires publishers { length wakes.old + PUBS ≤ K }
-        ensures ok { IfOk result (λ answer. ReadsOn T.is_clone id.now self.old.log (heard answer) self.new.log) }
-        ensures rest { IfOk result (λ answer. self.new ≡ record self.old { log = self.new.log; lists = lists_after_read W.eq SUBS (Some cx.now) (heard answer) (frees self.old.log self.new.log) self.old.lists }) }
-        ensures wakes { IfOk result (λ answer. wakes.new ≡ wakes.old ++ wakes_of_read W.eq SUBS (Some cx.now) (heard answer) (frees self.old.log self.new.log) self.old.lists) }
-        ensures refused { OnErr result (IsRefused T.is_infallible id.now (position id.now (caught id.now self.old.log)) self.old.log) }
+        requires subscribers { length wakes.old + S.room ≤ K }
+        requires publishers { length wakes.old + P.room ≤ K }
+        ensures ok { IfOk result (λ answer. ReadsOn G.Message.is_clone id.now self.old.log (heard answer) self.new.log) }
+        ensures rest { IfOk result (λ answer. self.new ≡ record self.old { log = self.new.log; lists = lists_after_read S.Waker.eq S.room (Some cx.now) (heard answer) (frees self.old.log self.new.log) self.old.lists }) }
+        ensures wakes { IfOk result (λ answer. wakes.new ≡ wakes.old ++ wakes_of_read S.Waker.eq S.room (Some cx.now) (heard answer) (frees self.old.log self.new.log) self.old.lists) }
+        ensures refused { OnErr result (IsRefused G.Message.is_infallible id.now (position id.now (caught id.now self.old.log)) self.old.log) }
         ensures unchanged { OnErr result (self.new ≡ self.old) }
         ensures unwoken { OnErr result (wakes.new ≡ wakes.old) }
     {
@@ -527,17 +520,17 @@ impl<T: Clone, W: Copy + Eq, const CAP: usize, const SUBS: usize, const PUBS: us
     pub fn poll_next<const K: usize>(
         &mut self,
         id: &SubId,
-        cx: &Context<W>,
-        wakes: &mut Wakes<W, K>,
-    ) -> Result<Poll<Option<T>>, AllocError>
+        cx: &Context<S::Waker>,
+        wakes: &mut Wakes<S::Waker, K>,
+    ) -> Result<Poll<Option<G::Message>>, AllocError>
         requires live { IsTrue (is_live id.now self.old.log) }
-        requires subscribers { length wakes.old + SUBS ≤ K }
-        requires publishers { length wakes.old + PUBS ≤ K }
+        requires subscribers { length wakes.old + S.room ≤ K }
+        requires publishers { length wakes.old + P.room ≤ K }
         requires one { length wakes.old + 1 ≤ K }
-        ensures ok { IfOk result (λ answer. Streams T.is_clone id.now self.old.log answer self.new.log) }
-        ensures rest { IfOk result (λ answer. self.new ≡ record self.old { log = self.new.log; lists = lists_after_stream W.eq SUBS cx.now (lags id.now self.old.log) answer (frees self.old.log self.new.log) self.old.lists }) }
-        ensures wakes { IfOk result (λ answer. wakes.new ≡ wakes.old ++ wakes_of_stream W.eq SUBS cx.now (lags id.now self.old.log) answer (frees self.old.log self.new.log) self.old.lists) }
-        ensures refused { OnErr result (IsRefused T.is_infallible id.now (position id.now self.old.log) self.old.log) }
+        ensures ok { IfOk result (λ answer. Streams G.Message.is_clone id.now self.old.log answer self.new.log) }
+        ensures rest { IfOk result (λ answer. self.new ≡ record self.old { log = self.new.log; lists = lists_after_stream S.Waker.eq S.room cx.now (lags id.now self.old.log) answer (frees self.old.log self.new.log) self.old.lists }) }
+        ensures wakes { IfOk result (λ answer. wakes.new ≡ wakes.old ++ wakes_of_stream S.Waker.eq S.room cx.now (lags id.now self.old.log) answer (frees self.old.log self.new.log) self.old.lists) }
+        ensures refused { OnErr result (IsRefused G.Message.is_infallible id.now (position id.now self.old.log) self.old.log) }
         ensures unchanged { OnErr result (self.new ≡ self.old) }
         ensures unwoken { OnErr result (wakes.new ≡ wakes.old) }
     {
@@ -602,25 +595,24 @@ impl<T: Drop> PublishRequest<T> {
     ///
     /// `Exhausted` with the message where the numbers of messages have run out. Nothing is changed, and the request is finished.
     pub fn poll_state<
-        W: Copy + Eq,
-        const CAP: usize,
-        const SUBS: usize,
-        const PUBS: usize,
+        G: LogStore<Message = T>,
+        S: WakerList,
+        P: WakerList<Waker = S::Waker>,
         const K: usize,
     >(
         &mut self,
-        state: &mut PubSubState<T, W, CAP, SUBS, PUBS>,
-        cx: &Context<W>,
-        wakes: &mut Wakes<W, K>,
+        state: &mut PubSubOver<G, S, P>,
+        cx: &Context<S::Waker>,
+        wakes: &mut Wakes<S::Waker, K>,
     ) -> Poll<Result<(), Exhausted<T>>>
-        requires subscribers { length wakes.old + SUBS ≤ K }
-        requires place { 1 ≤ PUBS }
-        requires publishers { length wakes.old + PUBS ≤ K }
+        requires subscribers { length wakes.old + S.room ≤ K }
+        requires place { 1 ≤ P.room }
+        requires publishers { length wakes.old + P.room ≤ K }
         requires unfinished { IsSome self.old }
-        ensures log { IfSome self.old (λ message. Publishes CAP message state.old.log (tried message result) state.new.log) }
+        ensures log { IfSome self.old (λ message. Publishes G.capacity message state.old.log (tried message result) state.new.log) }
         ensures request { IfSome self.old (λ message. self.new ≡ still message result) }
-        ensures rest { IfSome self.old (λ message. state.new ≡ record state.old { log = state.new.log; lists = lists_after_publish W.eq PUBS (Some cx.now) (has_subscribers state.old.log) (tried message result) state.old.lists }) }
-        ensures wakes { IfSome self.old (λ message. wakes.new ≡ wakes.old ++ wakes_of_publish W.eq PUBS (Some cx.now) (has_subscribers state.old.log) (tried message result) state.old.lists) }
+        ensures rest { IfSome self.old (λ message. state.new ≡ record state.old { log = state.new.log; lists = lists_after_publish S.Waker.eq P.room (Some cx.now) (has_subscribers state.old.log) (tried message result) state.old.lists }) }
+        ensures wakes { IfSome self.old (λ message. wakes.new ≡ wakes.old ++ wakes_of_publish S.Waker.eq P.room (Some cx.now) (has_subscribers state.old.log) (tried message result) state.old.lists) }
     {
         let Some(message) = self.message.take() else {
             unreachable!()

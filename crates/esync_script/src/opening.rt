@@ -21,7 +21,7 @@ use crate::watch::{Adds, Below, WatchWords};
 use crate::zerocopy::ZeroWords;
 use esync_base::deque::Deque;
 use esync_base::store::Store;
-use esync_base::waitqueue::Registered;
+use esync_base::waitqueue::{Registered, Wakes};
 use esync_cells::lazy_lock::Given;
 use esync_cells::lazy_lock::machine::{LazyHolder, LazyRun};
 use esync_cells::once_lock::OnceState;
@@ -32,6 +32,7 @@ use esync_cells::watch::machine::{WatchRun, Watched};
 use esync_channel::channel::Mailbox;
 use esync_guards::mutex::Second;
 use esync_guards::mutex::machine::{Guarded, MutexRun};
+use esync_log::log::{Log, LogStore};
 use esync_machine::primitive::{Answer, Command};
 use esync_machine::requests::Requests;
 use esync_machine::run::Machine;
@@ -41,7 +42,6 @@ use esync_permits::semaphore::{FairState, GreedyState};
 use esync_pipe::pipe::machine::{PipeRows, PipeRun};
 use esync_priority::prio::{Kind, Max, Min, PrioQueue};
 use esync_pubsub::pubsub::machine::Events;
-use esync_pubsub::pubsub::{LogState, PubSubState};
 use esync_words::fault::Fault;
 use esync_words::lines::Lines;
 use esync_words::play::{Opens, Parts, Telling, open, play};
@@ -206,14 +206,13 @@ fn pipe<const N: usize>() -> PipeRun<u64, N, 16, REQS, 2>
 }
 
 // A pub-sub channel in which nobody is, with four places for subscribers, of which the first message has this number, with no request.
-fn pubsub<S: LogState<4, Message = u32, Waker = u64>>(
+fn pubsub<L: LogStore<Message = u32>>(
     first: u64,
-) -> Requests<Events<S, REQS, 4>, REQS, 4>
-    requires messages { 1 ≤ S.places }
-    requires subscribers { S.subscribers ≡ 4 }
-    requires wakes { S.most ≤ 4 }
-    ensures object { ⟦<Requests<Events<S, REQS, 4>, REQS, 4> as Machine>⟧.semantics.object result ≡ new_object (a_new_topic first) }
-    ensures registrations { ⟦<Requests<Events<S, REQS, 4>, REQS, 4> as Machine>⟧.semantics.registrations result ≡ no_lists }
+) -> Requests<Events<L, Wakes<u64, 4>, Wakes<u64, 4>, REQS>, REQS, 4>
+    requires messages { 1 ≤ L.capacity }
+    requires subscribers { L.places ≡ 4 }
+    ensures object { ⟦<Requests<Events<L, Wakes<u64, 4>, Wakes<u64, 4>, REQS>, REQS, 4> as Machine>⟧.semantics.object result ≡ new_object (a_new_topic first) }
+    ensures registrations { ⟦<Requests<Events<L, Wakes<u64, 4>, Wakes<u64, 4>, REQS>, REQS, 4> as Machine>⟧.semantics.registrations result ≡ no_lists }
 {
     Requests::new(Events::new_at(first))
 }
@@ -290,6 +289,13 @@ macro_rules! at_capacity {
 macro_rules! at_places {
     ($n:literal, $serve:ident::<$($of:ident),*>($($argument:ident),*)) => {
         $serve::<$n, $($of),*>($($argument),*)
+    };
+}
+
+// A call of a function of a log with four places for subscribers, at that of so many messages.
+macro_rules! at_logs {
+    ($n:literal, $serve:ident::<$($of:ident),*>($($argument:ident),*)) => {
+        $serve::<Log<u32, $n, 4>, $($of),*>($($argument),*)
     };
 }
 
@@ -399,23 +405,18 @@ fn serve_pipe<T: Telling, R: Read + Drop, W: Write>(
     )
 }
 
-// A script over a pub-sub channel of at most `N` messages.
-fn serve_log<const N: usize, T: Telling, R: Read + Drop, W: Write>(
+// A script over a pub-sub channel over this log.
+fn serve_log<L: LogStore<Message = u32> + Debug, T: Telling, R: Read + Drop, W: Write>(
     telling: &mut T,
     first: u64,
     lines: &mut Lines<R>,
     output: &mut W,
 ) -> Result<(), Fault>
-    requires some { 1 ≤ N }
-    requires few { N ≤ 8 }
-    ensures { PlaysPubSub ⟦<u64 as PartialEq>⟧.eq T.tells N first lines.old.number lines.old.left (W.contents output.old) (W.contents output.new) result }
+    requires messages { 1 ≤ L.capacity }
+    requires subscribers { L.places ≡ 4 }
+    ensures { PlaysPubSub ⟦<u64 as PartialEq>⟧.eq T.tells L.capacity first lines.old.number lines.old.left (W.contents output.old) (W.contents output.new) result }
 {
-    serve::<PubSubWords, _, T, R, W>(
-        telling,
-        pubsub::<PubSubState<u32, u64, N, 4, 4>>(first),
-        lines,
-        output,
-    )
+    serve::<PubSubWords, _, T, R, W>(telling, pubsub::<L>(first), lines, output)
 }
 
 fn serve_pubsub<T: Telling, R: Read + Drop, W: Write>(
@@ -429,7 +430,7 @@ fn serve_pubsub<T: Telling, R: Read + Drop, W: Write>(
 {
     at_capacity!(
         capacity,
-        at_places!(serve_log::<T, R, W>(telling, first, lines, output))
+        at_logs!(serve_log::<T, R, W>(telling, first, lines, output))
     )
 }
 

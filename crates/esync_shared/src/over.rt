@@ -6,7 +6,7 @@ use bumpalo::Bump;
 use esync_base::deque::Deque;
 use esync_base::ring_buffer::ByteRing;
 use esync_base::store::{ByteStore, Store};
-use esync_base::waitqueue::{Hand, TaskId, WakerList};
+use esync_base::waitqueue::{TaskId, WakerList, Wakes};
 use esync_cells::signal::Signal;
 use esync_cells::watch::{SharedWatch, Watch};
 use esync_channel::channel::SharedMailbox;
@@ -26,7 +26,7 @@ use esync_permits::semaphore::machine::{PermitCall, PermitHeard};
 use esync_permits::semaphore::{Amount, FairState, GreedyState, PermitState, SharedSemaphore};
 use esync_pipe::pipe::{DynamicReader, DynamicWriter, SharedPipe};
 use esync_priority::prio::{Kind, PrioQueue};
-use esync_pubsub::pubsub::{LogState, PubSubChannel, SharedPubSub};
+use esync_pubsub::pubsub::{Log, LogStore, SharedPubSub};
 use esync_script::channel::ChannelWords;
 use esync_script::mutex::MutexWords;
 use esync_script::once::OnceWords;
@@ -213,32 +213,21 @@ pub fn pipe<R: Wait, W: Write>(
     }
 }
 
-// Over this pub-sub channel, at which nobody is.
-fn log<S: LogState<K, Message = u32, Waker = u64>, H: Hand<u64>, R: Wait, W: Write, const K: usize>(
-    stage: Stage<'_, '_, R>,
-    channel: &SharedPubSub<S, u64, H, K>,
-    script: &mut Script<'_>,
-    output: &mut W,
-) -> Result<(), Fault> {
-    match PubSub::new(stage.alloc, channel, stage.doors) {
-        Ok(form) => serve::<PubSubWords, _, R, W>(stage, form, script, output),
-        Err(AllocError) => Err(Fault::OutOfMemory),
-    }
-}
-
-// Over a pub-sub channel of at most `N` messages.
-fn topic<const N: usize, R: Wait, W: Write>(
+// Over a pub-sub channel over this log, at which nobody is.
+fn topic<L: LogStore<Message = u32>, R: Wait, W: Write>(
     stage: Stage<'_, '_, R>,
     script: &mut Script<'_>,
     output: &mut W,
 ) -> Result<(), Fault>
-    requires some { 1 ≤ N }
-    requires few { N ≤ 8 }
+    requires messages { 1 ≤ L.capacity }
+    requires subscribers { L.places ≤ 4 }
 {
-    let channel: PubSubChannel<u32, u64, &Notes<'_, R>, N, 4, 4, 4> = PubSubChannel::new(
-        stage.notes,
-    );
-    log(stage, &channel, script, output)
+    let channel: SharedPubSub<L, Wakes<u64, 4>, Wakes<u64, 4>, &Notes<'_, R>, 4> =
+        SharedPubSub::new(stage.notes);
+    match PubSub::new(stage.alloc, &channel, stage.doors) {
+        Ok(form) => serve::<PubSubWords, _, R, W>(stage, form, script, output),
+        Err(AllocError) => Err(Fault::OutOfMemory),
+    }
 }
 
 /// Over a pub-sub channel, whose first message has the number 0: a shared channel begins nowhere else.
@@ -253,11 +242,11 @@ pub fn pubsub<R: Wait, W: Write>(
         return Err(Fault::NotACommand(1));
     }
     match capacity {
-        Capacity::One => topic::<1, R, W>(stage, script, output),
-        Capacity::Two => topic::<2, R, W>(stage, script, output),
-        Capacity::Three => topic::<3, R, W>(stage, script, output),
-        Capacity::Four => topic::<4, R, W>(stage, script, output),
-        Capacity::Eight => topic::<8, R, W>(stage, script, output),
+        Capacity::One => topic::<Log<u32, 1, 4>, R, W>(stage, script, output),
+        Capacity::Two => topic::<Log<u32, 2, 4>, R, W>(stage, script, output),
+        Capacity::Three => topic::<Log<u32, 3, 4>, R, W>(stage, script, output),
+        Capacity::Four => topic::<Log<u32, 4, 4>, R, W>(stage, script, output),
+        Capacity::Eight => topic::<Log<u32, 8, 4>, R, W>(stage, script, output),
     }
 }
 

@@ -1,12 +1,14 @@
 //! A pub-sub channel that is kept as it is now.
-use super::PubSubState;
+use super::PubSubOver;
 use esync_base::kept::Kept;
+use esync_base::waitqueue::WakerList;
+use esync_log::log::LogStore;
 use std::alloc::AllocError;
 
-impl<T: Copy, W: Copy, const CAP: usize, const SUBS: usize, const PUBS: usize> Kept
-    for PubSubState<T, W, CAP, SUBS, PUBS> {
+impl<G: LogStore + Kept, S: WakerList, P: WakerList<Waker = S::Waker>> Kept
+    for PubSubOver<G, S, P> {
     fn kept(&self) -> Result<Self, AllocError> {
-        Ok(PubSubState {
+        Ok(PubSubOver {
             log: self.log.kept()?,
             publishers: self.publishers,
             subscriber_wakers: self.subscriber_wakers.kept()?,

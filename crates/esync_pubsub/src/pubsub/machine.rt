@@ -9,13 +9,13 @@ ghost use Rattle.esync_pubsub.specs.Events.{AreNamed};
 ghost use Rattle.esync_log.specs.Log.{Log, is_live, position, left};
 ghost use Rattle.esync_pubsub.specs.Order.{ReadsInOrder, CountsAreTrue, topic_in};
 ghost use Rattle.esync_pubsub.specs.Sizes.{SizesAddUp};
-ghost use Rattle.esync_pubsub.specs.PubSub.{PubSub, fresh, frees};
+ghost use Rattle.esync_pubsub.specs.PubSub.{fresh, frees};
+ghost use Rattle.esync_pubsub.specs.Steps.{most_wakes};
 ghost use Rattle.esync_pubsub.specs.PubSubRules.{topic_of, is_free, is_subscriber, is_publisher, is_of_subscriber, is_of_publisher, leaves, place_at, names_it, departed, Where, WithLog, Comes, Counts, TriesPublish, AtOnce, Tries, TriesPure, Calls, Polls, room_hands, immediate_of, immediate_hands, call_hands, reach, rest_of, publish_of, read_of, pure_of, stream_of, publish_hands, read_hands, pure_hands, stream_hands, poll_hands, pubsub_rules, pubsub_wakings, PollsPublish, PollsMessage, PollsPure, PollsStream, PollsLog};
 
-use super::{
-    Error, Exhausted, LogState, PubSubState, PublishRequest, SubId, TryPublishError, WaitResult,
-};
-use esync_base::waitqueue::{Context, Poll, Registered, Wakes};
+use super::{Error, Exhausted, PubSubOver, PublishRequest, SubId, TryPublishError, WaitResult};
+use esync_base::waitqueue::{Context, Poll, Registered, WakerList, Wakes};
+use esync_log::log::LogStore;
 use esync_machine::names::Names;
 use esync_machine::primitive::{Answer, Command, Primitive, Reach, Turn};
 use esync_machine::requests::Requests;
@@ -87,107 +87,109 @@ pub enum PubSubHeard<T> {
     Number(usize),
 }
 
-// No more messages are held than were published. This says so, and does nothing.
-fn numbered<S: LogState<K>, const K: usize>(state: &S)
-    ensures { length (S.channel state.now).log.held ≤ (S.channel state.now).log.next }
-{
-    state.len();
-}
+impl<G: LogStore, S: WakerList, P: WakerList<Waker = S::Waker>> PubSubOver<G, S, P> {
+    // No more messages are held than were published. This says so, and does nothing.
+    fn numbered(&self)
+        ensures { length self.now.log.held ≤ self.now.log.next }
+    {
+        self.len();
+    }
 
-// What a poll does, of each request.
-fn turn_publish<S: LogState<K>, const K: usize>(
-    state: &mut S,
-    p: usize,
-    message: S::Message,
-    cx: &Context<S::Waker>,
-    wakes: &mut Wakes<S::Waker, K>,
-) -> Turn<PubSubHeard<S::Message>, PubSubAsk<S::Message>>
-    requires empty { wakes.old ≡ [] }
-    requires room { S.most ≤ K }
-    requires counted { 1 ≤ (S.channel state.old).publishers }
-    ensures allowed { PollsPublish S.places message (S.channel state.old).log result.answer (S.channel state.new).log }
-    ensures place { result.place ≡ rest_of (PubSubAsk.Publish p message) result.answer }
-    ensures exact { IsHanded (unless_refused result.answer (S.channel state.old).lists (publish_hands S.Waker.eq S.subscribers S.publishers (S.channel state.old).log (Some cx.now) (publish_of message result.answer) (S.channel state.old).lists)) wakes.new (S.channel state.new).lists }
-    ensures publishers { (S.channel state.new).publishers ≡ (S.channel state.old).publishers }
-{
-    let mut request = PublishRequest::new(message);
-    match state.poll_publish(&mut request, cx, wakes) {
-        Poll::Ready(result) => Turn::over(PubSubHeard::Published(result)),
-        Poll::Pending => {
-            let Some(message) = request.message else {
-                unreachable!()
-            };
-            Turn::waits(PubSubAsk::Publish(p, message))
+    // What a poll does, of each request.
+    fn turn_publish<const K: usize>(
+        &mut self,
+        p: usize,
+        message: G::Message,
+        cx: &Context<S::Waker>,
+        wakes: &mut Wakes<S::Waker, K>,
+    ) -> Turn<PubSubHeard<G::Message>, PubSubAsk<G::Message>>
+        requires empty { wakes.old ≡ [] }
+        requires room { most_wakes S.room P.room ≤ K }
+        requires counted { 1 ≤ self.old.publishers }
+        ensures allowed { PollsPublish G.capacity message self.old.log result.answer self.new.log }
+        ensures place { result.place ≡ rest_of (PubSubAsk.Publish p message) result.answer }
+        ensures exact { IsHanded (unless_refused result.answer self.old.lists (publish_hands S.Waker.eq S.room P.room self.old.log (Some cx.now) (publish_of message result.answer) self.old.lists)) wakes.new self.new.lists }
+        ensures publishers { self.new.publishers ≡ self.old.publishers }
+    {
+        let mut request = PublishRequest::new(message);
+        match self.poll_publish(&mut request, cx, wakes) {
+            Poll::Ready(result) => Turn::over(PubSubHeard::Published(result)),
+            Poll::Pending => {
+                let Some(message) = request.message else {
+                    unreachable!()
+                };
+                Turn::waits(PubSubAsk::Publish(p, message))
+            }
         }
     }
-}
 
-fn turn_message<S: LogState<K>, const K: usize>(
-    state: &mut S,
-    s: usize,
-    id: &SubId,
-    cx: &Context<S::Waker>,
-    wakes: &mut Wakes<S::Waker, K>,
-) -> Turn<PubSubHeard<S::Message>, PubSubAsk<S::Message>>
-    requires empty { wakes.old ≡ [] }
-    requires room { S.most ≤ K }
-    requires live { IsTrue (is_live id.now (S.channel state.old).log) }
-    ensures allowed { PollsMessage S.Message.is_clone S.Message.is_infallible id.now (S.channel state.old).log result.answer (S.channel state.new).log }
-    ensures place { result.place ≡ rest_of (PubSubAsk.Message s) result.answer }
-    ensures exact { IsHanded (unless_refused result.answer (S.channel state.old).lists (read_hands S.Waker.eq S.subscribers S.publishers id.now (S.channel state.old).log (Some cx.now) (read_of result.answer) (S.channel state.old).lists)) wakes.new (S.channel state.new).lists }
-    ensures publishers { (S.channel state.new).publishers ≡ (S.channel state.old).publishers }
-{
-    numbered::<S, K>(state);
-    match state.poll_message(id, cx, wakes) {
-        Ok(Poll::Ready(answer)) => Turn::over(PubSubHeard::Read(answer)),
-        Ok(Poll::Pending) => Turn::waits(PubSubAsk::Message(s)),
-        Err(AllocError) => refused(PubSubAsk::Message(s)),
+    fn turn_message<const K: usize>(
+        &mut self,
+        s: usize,
+        id: &SubId,
+        cx: &Context<S::Waker>,
+        wakes: &mut Wakes<S::Waker, K>,
+    ) -> Turn<PubSubHeard<G::Message>, PubSubAsk<G::Message>>
+        requires empty { wakes.old ≡ [] }
+        requires room { most_wakes S.room P.room ≤ K }
+        requires live { IsTrue (is_live id.now self.old.log) }
+        ensures allowed { PollsMessage G.Message.is_clone G.Message.is_infallible id.now self.old.log result.answer self.new.log }
+        ensures place { result.place ≡ rest_of (PubSubAsk.Message s) result.answer }
+        ensures exact { IsHanded (unless_refused result.answer self.old.lists (read_hands S.Waker.eq S.room P.room id.now self.old.log (Some cx.now) (read_of result.answer) self.old.lists)) wakes.new self.new.lists }
+        ensures publishers { self.new.publishers ≡ self.old.publishers }
+    {
+        self.numbered();
+        match self.poll_message(id, cx, wakes) {
+            Ok(Poll::Ready(answer)) => Turn::over(PubSubHeard::Read(answer)),
+            Ok(Poll::Pending) => Turn::waits(PubSubAsk::Message(s)),
+            Err(AllocError) => refused(PubSubAsk::Message(s)),
+        }
     }
-}
 
-fn turn_pure<S: LogState<K>, const K: usize>(
-    state: &mut S,
-    s: usize,
-    id: &SubId,
-    cx: &Context<S::Waker>,
-    wakes: &mut Wakes<S::Waker, K>,
-) -> Turn<PubSubHeard<S::Message>, PubSubAsk<S::Message>>
-    requires empty { wakes.old ≡ [] }
-    requires room { S.most ≤ K }
-    requires live { IsTrue (is_live id.now (S.channel state.old).log) }
-    ensures allowed { PollsPure S.Message.is_clone S.Message.is_infallible id.now (S.channel state.old).log result.answer (S.channel state.new).log }
-    ensures place { result.place ≡ rest_of (PubSubAsk.MessagePure s) result.answer }
-    ensures exact { IsHanded (unless_refused result.answer (S.channel state.old).lists (pure_hands S.Waker.eq S.subscribers S.publishers id.now (S.channel state.old).log (Some cx.now) (pure_of result.answer) (S.channel state.old).lists)) wakes.new (S.channel state.new).lists }
-    ensures publishers { (S.channel state.new).publishers ≡ (S.channel state.old).publishers }
-{
-    numbered::<S, K>(state);
-    match state.poll_message_pure(id, cx, wakes) {
-        Ok(Poll::Ready(message)) => Turn::over(PubSubHeard::ReadPure(message)),
-        Ok(Poll::Pending) => Turn::waits(PubSubAsk::MessagePure(s)),
-        Err(AllocError) => refused(PubSubAsk::MessagePure(s)),
+    fn turn_pure<const K: usize>(
+        &mut self,
+        s: usize,
+        id: &SubId,
+        cx: &Context<S::Waker>,
+        wakes: &mut Wakes<S::Waker, K>,
+    ) -> Turn<PubSubHeard<G::Message>, PubSubAsk<G::Message>>
+        requires empty { wakes.old ≡ [] }
+        requires room { most_wakes S.room P.room ≤ K }
+        requires live { IsTrue (is_live id.now self.old.log) }
+        ensures allowed { PollsPure G.Message.is_clone G.Message.is_infallible id.now self.old.log result.answer self.new.log }
+        ensures place { result.place ≡ rest_of (PubSubAsk.MessagePure s) result.answer }
+        ensures exact { IsHanded (unless_refused result.answer self.old.lists (pure_hands S.Waker.eq S.room P.room id.now self.old.log (Some cx.now) (pure_of result.answer) self.old.lists)) wakes.new self.new.lists }
+        ensures publishers { self.new.publishers ≡ self.old.publishers }
+    {
+        self.numbered();
+        match self.poll_message_pure(id, cx, wakes) {
+            Ok(Poll::Ready(message)) => Turn::over(PubSubHeard::ReadPure(message)),
+            Ok(Poll::Pending) => Turn::waits(PubSubAsk::MessagePure(s)),
+            Err(AllocError) => refused(PubSubAsk::MessagePure(s)),
+        }
     }
-}
 
-fn turn_stream<S: LogState<K>, const K: usize>(
-    state: &mut S,
-    s: usize,
-    id: &SubId,
-    cx: &Context<S::Waker>,
-    wakes: &mut Wakes<S::Waker, K>,
-) -> Turn<PubSubHeard<S::Message>, PubSubAsk<S::Message>>
-    requires empty { wakes.old ≡ [] }
-    requires room { S.most ≤ K }
-    requires live { IsTrue (is_live id.now (S.channel state.old).log) }
-    ensures allowed { PollsStream S.Message.is_clone S.Message.is_infallible id.now (S.channel state.old).log result.answer (S.channel state.new).log }
-    ensures place { result.place ≡ rest_of (PubSubAsk.Stream s) result.answer }
-    ensures exact { IsHanded (unless_refused result.answer (S.channel state.old).lists (stream_hands S.Waker.eq S.subscribers S.publishers id.now (S.channel state.old).log cx.now (stream_of result.answer) (S.channel state.old).lists)) wakes.new (S.channel state.new).lists }
-    ensures publishers { (S.channel state.new).publishers ≡ (S.channel state.old).publishers }
-{
-    numbered::<S, K>(state);
-    match state.poll_next(id, cx, wakes) {
-        Ok(Poll::Ready(answer)) => Turn::over(PubSubHeard::Streamed(answer)),
-        Ok(Poll::Pending) => Turn::waits(PubSubAsk::Stream(s)),
-        Err(AllocError) => refused(PubSubAsk::Stream(s)),
+    fn turn_stream<const K: usize>(
+        &mut self,
+        s: usize,
+        id: &SubId,
+        cx: &Context<S::Waker>,
+        wakes: &mut Wakes<S::Waker, K>,
+    ) -> Turn<PubSubHeard<G::Message>, PubSubAsk<G::Message>>
+        requires empty { wakes.old ≡ [] }
+        requires room { most_wakes S.room P.room ≤ K }
+        requires live { IsTrue (is_live id.now self.old.log) }
+        ensures allowed { PollsStream G.Message.is_clone G.Message.is_infallible id.now self.old.log result.answer self.new.log }
+        ensures place { result.place ≡ rest_of (PubSubAsk.Stream s) result.answer }
+        ensures exact { IsHanded (unless_refused result.answer self.old.lists (stream_hands S.Waker.eq S.room P.room id.now self.old.log cx.now (stream_of result.answer) self.old.lists)) wakes.new self.new.lists }
+        ensures publishers { self.new.publishers ≡ self.old.publishers }
+    {
+        self.numbered();
+        match self.poll_stream(id, cx, wakes) {
+            Ok(Poll::Ready(answer)) => Turn::over(PubSubHeard::Streamed(answer)),
+            Ok(Poll::Pending) => Turn::waits(PubSubAsk::Stream(s)),
+            Err(AllocError) => refused(PubSubAsk::Stream(s)),
+        }
     }
 }
 
@@ -328,59 +330,57 @@ fn is_of_publisher<T>(p: usize, ask: &PubSubAsk<T>) -> bool
     }
 }
 
-// What a poll does, by the numbers.
-fn turn_named<S: LogState<K>, const NAMES: usize, const K: usize>(
-    state: &mut S,
-    tables: &Tables<NAMES>,
-    held: PubSubAsk<S::Message>,
-    cx: &Context<S::Waker>,
-    wakes: &mut Wakes<S::Waker, K>,
-) -> Turn<PubSubHeard<S::Message>, PubSubAsk<S::Message>>
-    requires empty { wakes.old ≡ [] }
-    requires room { S.most ≤ K }
-    requires named { AreNamed S.places S.publishers NAMES (S.channel state.old) tables.now }
-    requires fits { names_it held (topic_of (S.channel state.old) tables.now) ≡ true }
-    ensures allowed { PollsLog S.Message.is_clone S.Message.is_infallible S.places (topic_of (S.channel state.old) tables.now) held result.answer (S.channel state.new).log }
-    ensures place { result.place ≡ rest_of held result.answer }
-    ensures exact { IsHanded (unless_refused result.answer (S.channel state.old).lists (poll_hands S.Waker.eq S.subscribers S.publishers (topic_of (S.channel state.old) tables.now) (S.channel state.old).lists held cx.now result.answer)) wakes.new (S.channel state.new).lists }
-    ensures publishers { (S.channel state.new).publishers ≡ (S.channel state.old).publishers }
-{
-    match held {
-        PubSubAsk::Publish(p, message) => turn_publish(state, p, message, cx, wakes),
-        PubSubAsk::Message(s) => {
-            let Some(id) = subscriber::<S, NAMES, K>(state, tables, s) else {
-                unreachable!()
-            };
-            turn_message(state, s, &id, cx, wakes)
-        }
-        PubSubAsk::MessagePure(s) => {
-            let Some(id) = subscriber::<S, NAMES, K>(state, tables, s) else {
-                unreachable!()
-            };
-            turn_pure(state, s, &id, cx, wakes)
-        }
-        PubSubAsk::Stream(s) => {
-            let Some(id) = subscriber::<S, NAMES, K>(state, tables, s) else {
-                unreachable!()
-            };
-            turn_stream(state, s, &id, cx, wakes)
+impl<G: LogStore, S: WakerList, P: WakerList<Waker = S::Waker>> PubSubOver<G, S, P> {
+    // What a poll does, by the numbers.
+    fn turn_named<const NAMES: usize, const K: usize>(
+        &mut self,
+        tables: &Tables<NAMES>,
+        held: PubSubAsk<G::Message>,
+        cx: &Context<S::Waker>,
+        wakes: &mut Wakes<S::Waker, K>,
+    ) -> Turn<PubSubHeard<G::Message>, PubSubAsk<G::Message>>
+        requires empty { wakes.old ≡ [] }
+        requires room { most_wakes S.room P.room ≤ K }
+        requires named { AreNamed G.capacity P.room NAMES self.old tables.now }
+        requires fits { names_it held (topic_of self.old tables.now) ≡ true }
+        ensures allowed { PollsLog G.Message.is_clone G.Message.is_infallible G.capacity (topic_of self.old tables.now) held result.answer self.new.log }
+        ensures place { result.place ≡ rest_of held result.answer }
+        ensures exact { IsHanded (unless_refused result.answer self.old.lists (poll_hands S.Waker.eq S.room P.room (topic_of self.old tables.now) self.old.lists held cx.now result.answer)) wakes.new self.new.lists }
+        ensures publishers { self.new.publishers ≡ self.old.publishers }
+    {
+        match held {
+            PubSubAsk::Publish(p, message) => self.turn_publish(p, message, cx, wakes),
+            PubSubAsk::Message(s) => {
+                let Some(id) = self.subscriber(tables, s) else {
+                    unreachable!()
+                };
+                self.turn_message(s, &id, cx, wakes)
+            }
+            PubSubAsk::MessagePure(s) => {
+                let Some(id) = self.subscriber(tables, s) else {
+                    unreachable!()
+                };
+                self.turn_pure(s, &id, cx, wakes)
+            }
+            PubSubAsk::Stream(s) => {
+                let Some(id) = self.subscriber(tables, s) else {
+                    unreachable!()
+                };
+                self.turn_stream(s, &id, cx, wakes)
+            }
         }
     }
-}
 
-// The subscriber that the number names.
-fn subscriber<S: LogState<K>, const NAMES: usize, const K: usize>(
-    state: &S,
-    tables: &Tables<NAMES>,
-    s: usize,
-) -> Option<SubId>
-    requires named { AreNamed S.places S.publishers NAMES (S.channel state.now) tables.now }
-    ensures place { result ≡ at_number tables.now.subscribers s }
-    ensures live { IfSome result (λ id. IsTrue (is_live id (S.channel state.now).log)) }
-{
-    match tables.place(s) {
-        Some(place) => Some(SubId { place }),
-        None => None,
+    // The subscriber that the number names.
+    fn subscriber<const NAMES: usize>(&self, tables: &Tables<NAMES>, s: usize) -> Option<SubId>
+        requires named { AreNamed G.capacity P.room NAMES self.now tables.now }
+        ensures place { result ≡ at_number tables.now.subscribers s }
+        ensures live { IfSome result (λ id. IsTrue (is_live id self.now.log)) }
+    {
+        match tables.place(s) {
+            Some(place) => Some(SubId { place }),
+            None => None,
+        }
     }
 }
 
@@ -393,364 +393,371 @@ fn place_of(id: &SubId) -> usize
 
 // What a call does, by the numbers.
 
-// A subscriber comes under a free number.
-fn join_named<S: LogState<K>, const NAMES: usize, const K: usize>(
-    state: &mut S,
-    tables: &mut Tables<NAMES>,
-    s: usize,
-) -> Answer<PubSubHeard<S::Message>>
-    requires named { AreNamed S.places S.publishers NAMES (S.channel state.old) tables.old }
-    ensures allowed { Where (is_free s tables.old.subscribers) (topic_of (S.channel state.old) tables.old) (Comes s (topic_of (S.channel state.old) tables.old) result (topic_of (S.channel state.new) tables.new)) result (topic_of (S.channel state.new) tables.new) }
-    ensures named { AreNamed S.places S.publishers NAMES (S.channel state.new) tables.new }
-    ensures lists { (S.channel state.new).lists ≡ (S.channel state.old).lists }
-{
-    if !tables.is_subscriber_free(s) {
-        return Answer::NoSuch;
-    }
-    match state.subscribe() {
-        Ok(id) => {
-            tables.put_subscriber(s, Some(place_of(&id)));
-            Answer::Gives(PubSubHeard::Came(Ok(())))
+impl<G: LogStore, S: WakerList, P: WakerList<Waker = S::Waker>> PubSubOver<G, S, P> {
+    // A subscriber comes under a free number.
+    fn join_named<const NAMES: usize>(
+        &mut self,
+        tables: &mut Tables<NAMES>,
+        s: usize,
+    ) -> Answer<PubSubHeard<G::Message>>
+        requires named { AreNamed G.capacity P.room NAMES self.old tables.old }
+        ensures allowed { Where (is_free s tables.old.subscribers) (topic_of self.old tables.old) (Comes s (topic_of self.old tables.old) result (topic_of self.new tables.new)) result (topic_of self.new tables.new) }
+        ensures named { AreNamed G.capacity P.room NAMES self.new tables.new }
+        ensures lists { self.new.lists ≡ self.old.lists }
+    {
+        if !tables.is_subscriber_free(s) {
+            return Answer::NoSuch;
         }
-        Err(error) => Answer::Gives(PubSubHeard::Came(Err(error))),
-    }
-}
-
-// The subscriber leaves, and its number is free.
-fn leave_named<S: LogState<K>, const NAMES: usize, const K: usize>(
-    state: &mut S,
-    tables: &mut Tables<NAMES>,
-    s: usize,
-    wakes: &mut Wakes<S::Waker, K>,
-) -> Answer<PubSubHeard<S::Message>>
-    requires empty { wakes.old ≡ [] }
-    requires room { S.most ≤ K }
-    requires named { AreNamed S.places S.publishers NAMES (S.channel state.old) tables.old }
-    ensures allowed { Where (is_subscriber s (topic_of (S.channel state.old) tables.old)) (topic_of (S.channel state.old) tables.old) ((result ≡ Answer.Done) × (topic_of (S.channel state.new) tables.new ≡ departed s (topic_of (S.channel state.old) tables.old))) result (topic_of (S.channel state.new) tables.new) }
-    ensures exact { IsHanded (unless_refused result (S.channel state.old).lists (room_hands (frees (S.channel state.old).log (left (place_at s (topic_of (S.channel state.old) tables.old)) (S.channel state.old).log)) (S.channel state.old).lists)) wakes.new (S.channel state.new).lists }
-    ensures named { AreNamed S.places S.publishers NAMES (S.channel state.new) tables.new }
-{
-    let Some(id) = subscriber::<S, NAMES, K>(state, tables, s) else {
-        return Answer::NoSuch;
-    };
-    state.leave(id, wakes);
-    tables.put_subscriber(s, None);
-    Answer::Done
-}
-
-// A publisher comes under a free number.
-fn add_named<S: LogState<K>, const NAMES: usize, const K: usize>(
-    state: &mut S,
-    tables: &mut Tables<NAMES>,
-    p: usize,
-) -> Answer<PubSubHeard<S::Message>>
-    requires named { AreNamed S.places S.publishers NAMES (S.channel state.old) tables.old }
-    ensures allowed { Where (is_free p tables.old.publishers) (topic_of (S.channel state.old) tables.old) (Counts S.publishers p (topic_of (S.channel state.old) tables.old) result (topic_of (S.channel state.new) tables.new)) result (topic_of (S.channel state.new) tables.new) }
-    ensures named { AreNamed S.places S.publishers NAMES (S.channel state.new) tables.new }
-    ensures lists { (S.channel state.new).lists ≡ (S.channel state.old).lists }
-{
-    if !tables.is_publisher_free(p) {
-        return Answer::NoSuch;
-    }
-    match state.add_publisher() {
-        Ok(()) => {
-            tables.put_publisher(p, Some(()));
-            Answer::Gives(PubSubHeard::Came(Ok(())))
+        match self.subscribe() {
+            Ok(id) => {
+                tables.put_subscriber(s, Some(place_of(&id)));
+                Answer::Gives(PubSubHeard::Came(Ok(())))
+            }
+            Err(error) => Answer::Gives(PubSubHeard::Came(Err(error))),
         }
-        Err(error) => Answer::Gives(PubSubHeard::Came(Err(error))),
     }
-}
 
-// The publisher leaves, and its number is free.
-fn retire_named<S: LogState<K>, const NAMES: usize, const K: usize>(
-    state: &mut S,
-    tables: &mut Tables<NAMES>,
-    p: usize,
-) -> Answer<PubSubHeard<S::Message>>
-    requires named { AreNamed S.places S.publishers NAMES (S.channel state.old) tables.old }
-    ensures allowed { Where (is_publisher p (topic_of (S.channel state.old) tables.old)) (topic_of (S.channel state.old) tables.old) ((result ≡ Answer.Done) × (topic_of (S.channel state.new) tables.new ≡ record { log = (S.channel state.old).log; subscribers = tables.old.subscribers; publishers = slice_set tables.old.publishers p None })) result (topic_of (S.channel state.new) tables.new) }
-    ensures named { AreNamed S.places S.publishers NAMES (S.channel state.new) tables.new }
-    ensures lists { (S.channel state.new).lists ≡ (S.channel state.old).lists }
-{
-    if !tables.is_publisher(p) {
-        return Answer::NoSuch;
+    // The subscriber leaves, and its number is free.
+    fn leave_named<const NAMES: usize, const K: usize>(
+        &mut self,
+        tables: &mut Tables<NAMES>,
+        s: usize,
+        wakes: &mut Wakes<S::Waker, K>,
+    ) -> Answer<PubSubHeard<G::Message>>
+        requires empty { wakes.old ≡ [] }
+        requires room { most_wakes S.room P.room ≤ K }
+        requires named { AreNamed G.capacity P.room NAMES self.old tables.old }
+        ensures allowed { Where (is_subscriber s (topic_of self.old tables.old)) (topic_of self.old tables.old) ((result ≡ Answer.Done) × (topic_of self.new tables.new ≡ departed s (topic_of self.old tables.old))) result (topic_of self.new tables.new) }
+        ensures exact { IsHanded (unless_refused result self.old.lists (room_hands (frees self.old.log (left (place_at s (topic_of self.old tables.old)) self.old.log)) self.old.lists)) wakes.new self.new.lists }
+        ensures named { AreNamed G.capacity P.room NAMES self.new tables.new }
+    {
+        let Some(id) = self.subscriber(tables, s) else {
+            return Answer::NoSuch;
+        };
+        self.unregister_subscriber(id, wakes);
+        tables.put_subscriber(s, None);
+        Answer::Done
     }
-    state.remove_publisher();
-    tables.put_publisher(p, None);
-    Answer::Done
-}
 
-fn try_publish_named<S: LogState<K>, const NAMES: usize, const K: usize>(
-    state: &mut S,
-    tables: &Tables<NAMES>,
-    p: usize,
-    message: S::Message,
-    wakes: &mut Wakes<S::Waker, K>,
-) -> Answer<PubSubHeard<S::Message>>
-    requires empty { wakes.old ≡ [] }
-    requires room { S.most ≤ K }
-    ensures allowed { Where (is_publisher p (topic_of (S.channel state.old) tables.now)) (topic_of (S.channel state.old) tables.now) (TriesPublish S.places message (S.channel state.old).log result (S.channel state.new).log × WithLog (topic_of (S.channel state.old) tables.now) (topic_of (S.channel state.new) tables.now)) result (topic_of (S.channel state.new) tables.now) }
-    ensures exact { IsHanded (unless_refused result (S.channel state.old).lists (publish_hands S.Waker.eq S.subscribers S.publishers (S.channel state.old).log None (publish_of message result) (S.channel state.old).lists)) wakes.new (S.channel state.new).lists }
-    ensures publishers { (S.channel state.new).publishers ≡ (S.channel state.old).publishers }
-{
-    if !tables.is_publisher(p) {
-        return Answer::NoSuch;
-    }
-    Answer::Gives(PubSubHeard::TriedPublish(state.try_publish(message, wakes)))
-}
-
-fn publish_at_once<S: LogState<K>, const K: usize>(
-    state: &mut S,
-    message: S::Message,
-    wakes: &mut Wakes<S::Waker, K>,
-) -> Answer<PubSubHeard<S::Message>>
-    requires empty { wakes.old ≡ [] }
-    requires room { S.most ≤ K }
-    ensures allowed { AtOnce S.places message (S.channel state.old).log result (S.channel state.new).log }
-    ensures exact { IsHanded (unless_refused result (S.channel state.old).lists (immediate_hands S.Waker.eq S.subscribers S.publishers (S.channel state.old).log (immediate_of message result) (S.channel state.old).lists)) wakes.new (S.channel state.new).lists }
-    ensures publishers { (S.channel state.new).publishers ≡ (S.channel state.old).publishers }
-{
-    Answer::Gives(PubSubHeard::PublishedAtOnce(state.publish_immediate(message, wakes)))
-}
-
-fn next_named<S: LogState<K>, const NAMES: usize, const K: usize>(
-    state: &mut S,
-    tables: &Tables<NAMES>,
-    s: usize,
-    wakes: &mut Wakes<S::Waker, K>,
-) -> Answer<PubSubHeard<S::Message>>
-    requires empty { wakes.old ≡ [] }
-    requires room { S.most ≤ K }
-    requires named { AreNamed S.places S.publishers NAMES (S.channel state.old) tables.now }
-    ensures allowed { Where (is_subscriber s (topic_of (S.channel state.old) tables.now)) (topic_of (S.channel state.old) tables.now) (Tries S.Message.is_clone S.Message.is_infallible (place_at s (topic_of (S.channel state.old) tables.now)) (S.channel state.old).log result (S.channel state.new).log × WithLog (topic_of (S.channel state.old) tables.now) (topic_of (S.channel state.new) tables.now)) result (topic_of (S.channel state.new) tables.now) }
-    ensures exact { IsHanded (unless_refused result (S.channel state.old).lists (read_hands S.Waker.eq S.subscribers S.publishers (place_at s (topic_of (S.channel state.old) tables.now)) (S.channel state.old).log None (read_of result) (S.channel state.old).lists)) wakes.new (S.channel state.new).lists }
-    ensures publishers { (S.channel state.new).publishers ≡ (S.channel state.old).publishers }
-{
-    let Some(id) = subscriber::<S, NAMES, K>(state, tables, s) else {
-        return Answer::NoSuch;
-    };
-    try_next(state, &id, wakes)
-}
-
-fn try_next<S: LogState<K>, const K: usize>(
-    state: &mut S,
-    id: &SubId,
-    wakes: &mut Wakes<S::Waker, K>,
-) -> Answer<PubSubHeard<S::Message>>
-    requires empty { wakes.old ≡ [] }
-    requires room { S.most ≤ K }
-    requires live { IsTrue (is_live id.now (S.channel state.old).log) }
-    ensures allowed { Tries S.Message.is_clone S.Message.is_infallible id.now (S.channel state.old).log result (S.channel state.new).log }
-    ensures exact { IsHanded (unless_refused result (S.channel state.old).lists (read_hands S.Waker.eq S.subscribers S.publishers id.now (S.channel state.old).log None (read_of result) (S.channel state.old).lists)) wakes.new (S.channel state.new).lists }
-    ensures publishers { (S.channel state.new).publishers ≡ (S.channel state.old).publishers }
-{
-    numbered::<S, K>(state);
-    match state.try_next_message(id, wakes) {
-        Ok(answer) => Answer::Gives(PubSubHeard::Tried(answer)),
-        Err(AllocError) => Answer::NoMemory,
-    }
-}
-
-fn next_pure_named<S: LogState<K>, const NAMES: usize, const K: usize>(
-    state: &mut S,
-    tables: &Tables<NAMES>,
-    s: usize,
-    wakes: &mut Wakes<S::Waker, K>,
-) -> Answer<PubSubHeard<S::Message>>
-    requires empty { wakes.old ≡ [] }
-    requires room { S.most ≤ K }
-    requires named { AreNamed S.places S.publishers NAMES (S.channel state.old) tables.now }
-    ensures allowed { Where (is_subscriber s (topic_of (S.channel state.old) tables.now)) (topic_of (S.channel state.old) tables.now) (TriesPure S.Message.is_clone S.Message.is_infallible (place_at s (topic_of (S.channel state.old) tables.now)) (S.channel state.old).log result (S.channel state.new).log × WithLog (topic_of (S.channel state.old) tables.now) (topic_of (S.channel state.new) tables.now)) result (topic_of (S.channel state.new) tables.now) }
-    ensures exact { IsHanded (unless_refused result (S.channel state.old).lists (pure_hands S.Waker.eq S.subscribers S.publishers (place_at s (topic_of (S.channel state.old) tables.now)) (S.channel state.old).log None (pure_of result) (S.channel state.old).lists)) wakes.new (S.channel state.new).lists }
-    ensures publishers { (S.channel state.new).publishers ≡ (S.channel state.old).publishers }
-{
-    let Some(id) = subscriber::<S, NAMES, K>(state, tables, s) else {
-        return Answer::NoSuch;
-    };
-    try_next_pure(state, &id, wakes)
-}
-
-fn try_next_pure<S: LogState<K>, const K: usize>(
-    state: &mut S,
-    id: &SubId,
-    wakes: &mut Wakes<S::Waker, K>,
-) -> Answer<PubSubHeard<S::Message>>
-    requires empty { wakes.old ≡ [] }
-    requires room { S.most ≤ K }
-    requires live { IsTrue (is_live id.now (S.channel state.old).log) }
-    ensures allowed { TriesPure S.Message.is_clone S.Message.is_infallible id.now (S.channel state.old).log result (S.channel state.new).log }
-    ensures exact { IsHanded (unless_refused result (S.channel state.old).lists (pure_hands S.Waker.eq S.subscribers S.publishers id.now (S.channel state.old).log None (pure_of result) (S.channel state.old).lists)) wakes.new (S.channel state.new).lists }
-    ensures publishers { (S.channel state.new).publishers ≡ (S.channel state.old).publishers }
-{
-    numbered::<S, K>(state);
-    match state.try_next_message_pure(id, wakes) {
-        Ok(answer) => Answer::Gives(PubSubHeard::TriedPure(answer)),
-        Err(AllocError) => Answer::NoMemory,
-    }
-}
-
-fn available_named<S: LogState<K>, const NAMES: usize, const K: usize>(
-    state: &S,
-    tables: &Tables<NAMES>,
-    s: usize,
-) -> Answer<PubSubHeard<S::Message>>
-    requires named { AreNamed S.places S.publishers NAMES (S.channel state.now) tables.now }
-    ensures { Where (is_subscriber s (topic_of (S.channel state.now) tables.now)) (topic_of (S.channel state.now) tables.now) ((result ≡ Answer.Gives (PubSubHeard.Unread ((S.channel state.now).log.next - position (place_at s (topic_of (S.channel state.now) tables.now)) (S.channel state.now).log))) × (topic_of (S.channel state.now) tables.now ≡ topic_of (S.channel state.now) tables.now)) result (topic_of (S.channel state.now) tables.now) }
-{
-    let Some(id) = subscriber::<S, NAMES, K>(state, tables, s) else {
-        return Answer::NoSuch;
-    };
-    Answer::Gives(PubSubHeard::Unread(state.available(&id)))
-}
-
-// How many messages there is room for.
-fn free_capacity<S: LogState<K>, const K: usize>(state: &S) -> usize
-    ensures { result + length (S.channel state.now).log.held ≡ S.places }
-{
-    S::capacity() - state.len()
-}
-
-// Polls a request of one who has a number.
-fn turn<S: LogState<K>, const NAMES: usize, const K: usize>(
-    state: &mut S,
-    tables: &Tables<NAMES>,
-    held: PubSubAsk<S::Message>,
-    waker: S::Waker,
-    wakes: &mut Wakes<S::Waker, K>,
-) -> Turn<PubSubHeard<S::Message>, PubSubAsk<S::Message>>
-    requires empty { wakes.old ≡ [] }
-    requires room { S.most ≤ K }
-    requires named { AreNamed S.places S.publishers NAMES (S.channel state.old) tables.now }
-    requires fits { names_it held (topic_of (S.channel state.old) tables.now) ≡ true }
-    ensures allowed { Polls S.Message.is_clone S.Message.is_infallible S.places (topic_of (S.channel state.old) tables.now) held result.answer (topic_of (S.channel state.new) tables.now) result.place }
-    ensures exact { IsHanded (unless_refused result.answer (S.channel state.old).lists (poll_hands S.Waker.eq S.subscribers S.publishers (topic_of (S.channel state.old) tables.now) (S.channel state.old).lists held waker result.answer)) wakes.new (S.channel state.new).lists }
-    ensures named { AreNamed S.places S.publishers NAMES (S.channel state.new) tables.now }
-{
-    turn_named(state, tables, held, &Context::from_waker(waker), wakes)
-}
-
-// A call, which may give or free a number.
-fn perform<S: LogState<K>, const NAMES: usize, const K: usize>(
-    state: &mut S,
-    tables: &mut Tables<NAMES>,
-    call: PubSubCall<S::Message>,
-    wakes: &mut Wakes<S::Waker, K>,
-) -> Answer<PubSubHeard<S::Message>>
-    requires empty { wakes.old ≡ [] }
-    requires room { S.most ≤ K }
-    requires named { AreNamed S.places S.publishers NAMES (S.channel state.old) tables.old }
-    ensures allowed { Calls S.Message.is_clone S.Message.is_infallible S.places S.publishers (topic_of (S.channel state.old) tables.old) call result (topic_of (S.channel state.new) tables.new) }
-    ensures exact { IsHanded (unless_refused result (S.channel state.old).lists (call_hands S.Waker.eq S.subscribers S.publishers (topic_of (S.channel state.old) tables.old) (S.channel state.old).lists call result)) wakes.new (S.channel state.new).lists }
-    ensures named { AreNamed S.places S.publishers NAMES (S.channel state.new) tables.new }
-{
-    match call {
-        PubSubCall::Join(s) => join_named::<S, NAMES, K>(state, tables, s),
-        PubSubCall::Leave(s) => leave_named(state, tables, s, wakes),
-        PubSubCall::Publisher(p) => add_named::<S, NAMES, K>(state, tables, p),
-        PubSubCall::Retire(p) => retire_named::<S, NAMES, K>(state, tables, p),
-        PubSubCall::TryPublish(p, message) => try_publish_named(state, tables, p, message, wakes),
-        PubSubCall::Immediate(message) => publish_at_once(state, message, wakes),
-        PubSubCall::Next(s) => next_named(state, tables, s, wakes),
-        PubSubCall::NextPure(s) => next_pure_named(state, tables, s, wakes),
-        PubSubCall::Available(s) => available_named::<S, NAMES, K>(state, tables, s),
-        PubSubCall::Clear => {
-            state.clear(wakes);
-            Answer::Done
+    // A publisher comes under a free number.
+    fn add_named<const NAMES: usize>(
+        &mut self,
+        tables: &mut Tables<NAMES>,
+        p: usize,
+    ) -> Answer<PubSubHeard<G::Message>>
+        requires named { AreNamed G.capacity P.room NAMES self.old tables.old }
+        ensures allowed { Where (is_free p tables.old.publishers) (topic_of self.old tables.old) (Counts P.room p (topic_of self.old tables.old) result (topic_of self.new tables.new)) result (topic_of self.new tables.new) }
+        ensures named { AreNamed G.capacity P.room NAMES self.new tables.new }
+        ensures lists { self.new.lists ≡ self.old.lists }
+    {
+        if !tables.is_publisher_free(p) {
+            return Answer::NoSuch;
         }
-        PubSubCall::Len => Answer::Gives(PubSubHeard::Number(state.len())),
-        PubSubCall::FreeCapacity => {
-            Answer::Gives(PubSubHeard::Number(free_capacity::<S, K>(state)))
+        match self.add_publisher() {
+            Ok(()) => {
+                tables.put_publisher(p, Some(()));
+                Answer::Gives(PubSubHeard::Came(Ok(())))
+            }
+            Err(error) => Answer::Gives(PubSubHeard::Came(Err(error))),
+        }
+    }
+
+    // The publisher leaves, and its number is free.
+    fn retire_named<const NAMES: usize>(
+        &mut self,
+        tables: &mut Tables<NAMES>,
+        p: usize,
+    ) -> Answer<PubSubHeard<G::Message>>
+        requires named { AreNamed G.capacity P.room NAMES self.old tables.old }
+        ensures allowed { Where (is_publisher p (topic_of self.old tables.old)) (topic_of self.old tables.old) ((result ≡ Answer.Done) × (topic_of self.new tables.new ≡ record { log = self.old.log; subscribers = tables.old.subscribers; publishers = slice_set tables.old.publishers p None })) result (topic_of self.new tables.new) }
+        ensures named { AreNamed G.capacity P.room NAMES self.new tables.new }
+        ensures lists { self.new.lists ≡ self.old.lists }
+    {
+        if !tables.is_publisher(p) {
+            return Answer::NoSuch;
+        }
+        self.unregister_publisher();
+        tables.put_publisher(p, None);
+        Answer::Done
+    }
+
+    fn try_publish_named<const NAMES: usize, const K: usize>(
+        &mut self,
+        tables: &Tables<NAMES>,
+        p: usize,
+        message: G::Message,
+        wakes: &mut Wakes<S::Waker, K>,
+    ) -> Answer<PubSubHeard<G::Message>>
+        requires empty { wakes.old ≡ [] }
+        requires room { most_wakes S.room P.room ≤ K }
+        ensures allowed { Where (is_publisher p (topic_of self.old tables.now)) (topic_of self.old tables.now) (TriesPublish G.capacity message self.old.log result self.new.log × WithLog (topic_of self.old tables.now) (topic_of self.new tables.now)) result (topic_of self.new tables.now) }
+        ensures exact { IsHanded (unless_refused result self.old.lists (publish_hands S.Waker.eq S.room P.room self.old.log None (publish_of message result) self.old.lists)) wakes.new self.new.lists }
+        ensures publishers { self.new.publishers ≡ self.old.publishers }
+    {
+        if !tables.is_publisher(p) {
+            return Answer::NoSuch;
+        }
+        Answer::Gives(PubSubHeard::TriedPublish(self.try_publish(message, wakes)))
+    }
+
+    fn publish_at_once<const K: usize>(
+        &mut self,
+        message: G::Message,
+        wakes: &mut Wakes<S::Waker, K>,
+    ) -> Answer<PubSubHeard<G::Message>>
+        requires empty { wakes.old ≡ [] }
+        requires room { most_wakes S.room P.room ≤ K }
+        ensures allowed { AtOnce G.capacity message self.old.log result self.new.log }
+        ensures exact { IsHanded (unless_refused result self.old.lists (immediate_hands S.Waker.eq S.room P.room self.old.log (immediate_of message result) self.old.lists)) wakes.new self.new.lists }
+        ensures publishers { self.new.publishers ≡ self.old.publishers }
+    {
+        Answer::Gives(PubSubHeard::PublishedAtOnce(self.publish_immediate(message, wakes)))
+    }
+
+    fn next_named<const NAMES: usize, const K: usize>(
+        &mut self,
+        tables: &Tables<NAMES>,
+        s: usize,
+        wakes: &mut Wakes<S::Waker, K>,
+    ) -> Answer<PubSubHeard<G::Message>>
+        requires empty { wakes.old ≡ [] }
+        requires room { most_wakes S.room P.room ≤ K }
+        requires named { AreNamed G.capacity P.room NAMES self.old tables.now }
+        ensures allowed { Where (is_subscriber s (topic_of self.old tables.now)) (topic_of self.old tables.now) (Tries G.Message.is_clone G.Message.is_infallible (place_at s (topic_of self.old tables.now)) self.old.log result self.new.log × WithLog (topic_of self.old tables.now) (topic_of self.new tables.now)) result (topic_of self.new tables.now) }
+        ensures exact { IsHanded (unless_refused result self.old.lists (read_hands S.Waker.eq S.room P.room (place_at s (topic_of self.old tables.now)) self.old.log None (read_of result) self.old.lists)) wakes.new self.new.lists }
+        ensures publishers { self.new.publishers ≡ self.old.publishers }
+    {
+        let Some(id) = self.subscriber(tables, s) else {
+            return Answer::NoSuch;
+        };
+        self.try_next(&id, wakes)
+    }
+
+    fn try_next<const K: usize>(
+        &mut self,
+        id: &SubId,
+        wakes: &mut Wakes<S::Waker, K>,
+    ) -> Answer<PubSubHeard<G::Message>>
+        requires empty { wakes.old ≡ [] }
+        requires room { most_wakes S.room P.room ≤ K }
+        requires live { IsTrue (is_live id.now self.old.log) }
+        ensures allowed { Tries G.Message.is_clone G.Message.is_infallible id.now self.old.log result self.new.log }
+        ensures exact { IsHanded (unless_refused result self.old.lists (read_hands S.Waker.eq S.room P.room id.now self.old.log None (read_of result) self.old.lists)) wakes.new self.new.lists }
+        ensures publishers { self.new.publishers ≡ self.old.publishers }
+    {
+        self.numbered();
+        match self.read_next(id, wakes) {
+            Ok(answer) => Answer::Gives(PubSubHeard::Tried(answer)),
+            Err(AllocError) => Answer::NoMemory,
+        }
+    }
+
+    fn next_pure_named<const NAMES: usize, const K: usize>(
+        &mut self,
+        tables: &Tables<NAMES>,
+        s: usize,
+        wakes: &mut Wakes<S::Waker, K>,
+    ) -> Answer<PubSubHeard<G::Message>>
+        requires empty { wakes.old ≡ [] }
+        requires room { most_wakes S.room P.room ≤ K }
+        requires named { AreNamed G.capacity P.room NAMES self.old tables.now }
+        ensures allowed { Where (is_subscriber s (topic_of self.old tables.now)) (topic_of self.old tables.now) (TriesPure G.Message.is_clone G.Message.is_infallible (place_at s (topic_of self.old tables.now)) self.old.log result self.new.log × WithLog (topic_of self.old tables.now) (topic_of self.new tables.now)) result (topic_of self.new tables.now) }
+        ensures exact { IsHanded (unless_refused result self.old.lists (pure_hands S.Waker.eq S.room P.room (place_at s (topic_of self.old tables.now)) self.old.log None (pure_of result) self.old.lists)) wakes.new self.new.lists }
+        ensures publishers { self.new.publishers ≡ self.old.publishers }
+    {
+        let Some(id) = self.subscriber(tables, s) else {
+            return Answer::NoSuch;
+        };
+        self.try_next_pure(&id, wakes)
+    }
+
+    fn try_next_pure<const K: usize>(
+        &mut self,
+        id: &SubId,
+        wakes: &mut Wakes<S::Waker, K>,
+    ) -> Answer<PubSubHeard<G::Message>>
+        requires empty { wakes.old ≡ [] }
+        requires room { most_wakes S.room P.room ≤ K }
+        requires live { IsTrue (is_live id.now self.old.log) }
+        ensures allowed { TriesPure G.Message.is_clone G.Message.is_infallible id.now self.old.log result self.new.log }
+        ensures exact { IsHanded (unless_refused result self.old.lists (pure_hands S.Waker.eq S.room P.room id.now self.old.log None (pure_of result) self.old.lists)) wakes.new self.new.lists }
+        ensures publishers { self.new.publishers ≡ self.old.publishers }
+    {
+        self.numbered();
+        match self.read_on(id, wakes) {
+            Ok(answer) => Answer::Gives(PubSubHeard::TriedPure(answer)),
+            Err(AllocError) => Answer::NoMemory,
+        }
+    }
+
+    fn available_named<const NAMES: usize>(
+        &self,
+        tables: &Tables<NAMES>,
+        s: usize,
+    ) -> Answer<PubSubHeard<G::Message>>
+        requires named { AreNamed G.capacity P.room NAMES self.now tables.now }
+        ensures { Where (is_subscriber s (topic_of self.now tables.now)) (topic_of self.now tables.now) ((result ≡ Answer.Gives (PubSubHeard.Unread (self.now.log.next - position (place_at s (topic_of self.now tables.now)) self.now.log))) × (topic_of self.now tables.now ≡ topic_of self.now tables.now)) result (topic_of self.now tables.now) }
+    {
+        let Some(id) = self.subscriber(tables, s) else {
+            return Answer::NoSuch;
+        };
+        Answer::Gives(PubSubHeard::Unread(self.to_read(&id)))
+    }
+
+    // Polls a request of one who has a number.
+    fn turn<const NAMES: usize, const K: usize>(
+        &mut self,
+        tables: &Tables<NAMES>,
+        held: PubSubAsk<G::Message>,
+        waker: S::Waker,
+        wakes: &mut Wakes<S::Waker, K>,
+    ) -> Turn<PubSubHeard<G::Message>, PubSubAsk<G::Message>>
+        requires empty { wakes.old ≡ [] }
+        requires room { most_wakes S.room P.room ≤ K }
+        requires named { AreNamed G.capacity P.room NAMES self.old tables.now }
+        requires fits { names_it held (topic_of self.old tables.now) ≡ true }
+        ensures allowed { Polls G.Message.is_clone G.Message.is_infallible G.capacity (topic_of self.old tables.now) held result.answer (topic_of self.new tables.now) result.place }
+        ensures exact { IsHanded (unless_refused result.answer self.old.lists (poll_hands S.Waker.eq S.room P.room (topic_of self.old tables.now) self.old.lists held waker result.answer)) wakes.new self.new.lists }
+        ensures named { AreNamed G.capacity P.room NAMES self.new tables.now }
+    {
+        self.turn_named(tables, held, &Context::from_waker(waker), wakes)
+    }
+
+    // A call, which may give or free a number.
+    fn perform<const NAMES: usize, const K: usize>(
+        &mut self,
+        tables: &mut Tables<NAMES>,
+        call: PubSubCall<G::Message>,
+        wakes: &mut Wakes<S::Waker, K>,
+    ) -> Answer<PubSubHeard<G::Message>>
+        requires empty { wakes.old ≡ [] }
+        requires room { most_wakes S.room P.room ≤ K }
+        requires named { AreNamed G.capacity P.room NAMES self.old tables.old }
+        ensures allowed { Calls G.Message.is_clone G.Message.is_infallible G.capacity P.room (topic_of self.old tables.old) call result (topic_of self.new tables.new) }
+        ensures exact { IsHanded (unless_refused result self.old.lists (call_hands S.Waker.eq S.room P.room (topic_of self.old tables.old) self.old.lists call result)) wakes.new self.new.lists }
+        ensures named { AreNamed G.capacity P.room NAMES self.new tables.new }
+    {
+        match call {
+            PubSubCall::Join(s) => self.join_named(tables, s),
+            PubSubCall::Leave(s) => self.leave_named(tables, s, wakes),
+            PubSubCall::Publisher(p) => self.add_named(tables, p),
+            PubSubCall::Retire(p) => self.retire_named(tables, p),
+            PubSubCall::TryPublish(p, message) => self.try_publish_named(tables, p, message, wakes),
+            PubSubCall::Immediate(message) => self.publish_at_once(message, wakes),
+            PubSubCall::Next(s) => self.next_named(tables, s, wakes),
+            PubSubCall::NextPure(s) => self.next_pure_named(tables, s, wakes),
+            PubSubCall::Available(s) => self.available_named(tables, s),
+            PubSubCall::Clear => {
+                self.clear(wakes);
+                Answer::Done
+            }
+            PubSubCall::Len => Answer::Gives(PubSubHeard::Number(self.len())),
+            PubSubCall::FreeCapacity => { Answer::Gives(PubSubHeard::Number(self.free_capacity())) }
         }
     }
 }
 
 /// A pub-sub channel in which subscribers and publishers have numbers below `NAMES`.
-#[derive_where(Debug; S: fmt::Debug)]
+#[derive_where(Debug; G: fmt::Debug, S: fmt::Debug, P: fmt::Debug)]
 #[derive(Drop)]
-pub struct Events<S: LogState<K>, const NAMES: usize, const K: usize> {
-    state: S,
+pub struct Events<G: LogStore, S: WakerList, P: WakerList<Waker = S::Waker>, const NAMES: usize> {
+    state: PubSubOver<G, S, P>,
     tables: Tables<NAMES>,
 }
 
-impl<S: LogState<K>, const NAMES: usize, const K: usize> Model for Events<S, NAMES, K> {
+impl<G: LogStore, S: WakerList, P: WakerList<Waker = S::Waker>, const NAMES: usize> Model
+    for Events<G, S, P, NAMES> {
     ghost use Rattle.esync_pubsub.specs.Events.{Eventing, eventing_code, AreNamed};
+    ghost use Rattle.esync_pubsub.specs.PubSub.{PubSub, pubsub_code};
 
-    ghost Value = { Eventing S };
+    ghost Value = { Eventing (PubSub G.Message S.Waker) };
 
-    ghost coded = { eventing_code S.code };
+    ghost coded = { eventing_code (pubsub_code G.Message.code S.Waker.code) };
 
     ghost view = { λ a. record { state = a.state; tables = a.tables } };
 
-    ghost invariant = { λ a. AreNamed S.places S.publishers NAMES (S.channel a.state) a.tables };
+    ghost invariant = { λ a. AreNamed G.capacity P.room NAMES a.state a.tables };
 }
 
-impl<S: LogState<K> + Registered, const NAMES: usize, const K: usize> Registered
-    for Events<S, NAMES, K> {
-    type Waker = <S as Registered>::Waker;
+impl<G: LogStore, S: WakerList, P: WakerList<Waker = S::Waker>, const NAMES: usize> Registered
+    for Events<G, S, P, NAMES> {
+    type Waker = S::Waker;
 
-    ghost at = { λ m. S.at m.state };
+    ghost use Rattle.esync_base.specs.Standing.{at_two};
 
-    fn registered(&self, place: usize, i: usize) -> Option<<S as Registered>::Waker> {
+    ghost at = { λ m. at_two m.state.lists.subscribers m.state.lists.publishers };
+
+    fn registered(&self, place: usize, i: usize) -> Option<S::Waker> {
         self.state.registered(place, i)
     }
 }
 
-impl<S: LogState<K>, const NAMES: usize, const K: usize> Events<S, NAMES, K> {
+impl<G: LogStore, S: WakerList, P: WakerList<Waker = S::Waker>, const NAMES: usize> Events<
+    G,
+    S,
+    P,
+    NAMES,
+> {
     /// Nobody is there, and all numbers are free. The first message has the number `next`.
     pub fn new_at(next: u64) -> Self
-        requires { 1 ≤ S.places }
-        ensures state { S.channel result.state ≡ fresh S.subscribers next }
+        requires messages { 1 ≤ G.capacity }
+        requires wakers { G.places ≤ S.room }
+        ensures state { result.state ≡ fresh G.places next }
         ensures tables { result.tables ≡ record { subscribers = replicate NAMES None; publishers = replicate NAMES None } }
     {
         let tables = Tables::new();
         Events {
-            state: S::new_at(next),
+            state: PubSubOver::new_at(next),
             tables,
         }
     }
-}
 
-impl<S: LogState<K>, const NAMES: usize, const K: usize> Events<S, NAMES, K> {
     // The numbers name all subscribers, and no more messages are held than were published. This says so, and does nothing.
     fn named(&self)
-        ensures named { AreNamed S.places S.publishers NAMES (S.channel self.now.state) self.now.tables }
-        ensures numbered { length (S.channel self.now.state).log.held ≤ (S.channel self.now.state).log.next }
+        ensures named { AreNamed G.capacity P.room NAMES self.now.state self.now.tables }
+        ensures numbered { length self.now.state.log.held ≤ self.now.state.log.next }
     {
-        numbered::<S, K>(&self.state);
+        self.state.numbered();
     }
 }
 
-impl<S: LogState<K>, const NAMES: usize, const K: usize> Primitive<K> for Events<S, NAMES, K> {
-    type Ask = PubSubAsk<S::Message>;
+impl<
+    G: LogStore,
+    S: WakerList,
+    P: WakerList<Waker = S::Waker>,
+    const NAMES: usize,
+    const K: usize,
+> Primitive<K> for Events<G, S, P, NAMES> {
+    type Ask = PubSubAsk<G::Message>;
 
-    type Held = PubSubAsk<S::Message>;
+    type Held = PubSubAsk<G::Message>;
 
-    type Call = PubSubCall<S::Message>;
+    type Call = PubSubCall<G::Message>;
 
-    type Heard = PubSubHeard<S::Message>;
+    type Heard = PubSubHeard<G::Message>;
 
     type Waker = S::Waker;
 
     ghost use Rattle.esync_pubsub.specs.PubSubRules.{pubsub_rules, pubsub_wakings, OwesFor};
     ghost use Rattle.esync_pubsub.specs.PubSubLaws.{pubsub_idle, pubsub_pending};
 
-    ghost rules = { pubsub_rules S.Message.is_clone S.Message.is_infallible S.places S.publishers };
+    ghost rules = { pubsub_rules G.Message.is_clone G.Message.is_infallible G.capacity P.room };
 
-    ghost core = { λ m. topic_of (S.channel m.state) m.tables };
+    ghost core = { λ m. topic_of m.state m.tables };
 
-    ghost wakings = { pubsub_wakings S.Waker.eq S.subscribers S.publishers };
+    ghost wakings = { pubsub_wakings S.Waker.eq S.room P.room };
 
-    ghost registrations = { λ m. (S.channel m.state).lists };
+    ghost registrations = { λ m. m.state.lists };
 
-    ghost most = { S.most };
+    ghost most = { most_wakes S.room P.room };
 
-    ghost Owes = { λ m ask w. OwesFor S.Waker.eq S.places (topic_of (S.channel m.state) m.tables) (S.channel m.state).lists ask w };
+    ghost Owes = { λ m ask w. OwesFor S.Waker.eq G.capacity (topic_of m.state m.tables) m.state.lists ask w };
 
-    ghost Fits = { λ m ask. names_it ask (topic_of (S.channel m.state) m.tables) ≡ true };
+    ghost Fits = { λ m ask. names_it ask (topic_of m.state m.tables) ≡ true };
 
     ghost Apart = { λ ask other. Unit };
 
-    fn begin(&self, ask: PubSubAsk<S::Message>) -> Option<PubSubAsk<S::Message>> {
+    fn begin(&self, ask: PubSubAsk<G::Message>) -> Option<PubSubAsk<G::Message>> {
         if self.tables.names(&ask) {
             Some(ask)
         } else {
@@ -760,35 +767,35 @@ impl<S: LogState<K>, const NAMES: usize, const K: usize> Primitive<K> for Events
 
     fn poll(
         &mut self,
-        held: PubSubAsk<S::Message>,
+        held: PubSubAsk<G::Message>,
         waker: S::Waker,
         wakes: &mut Wakes<S::Waker, K>,
-    ) -> Turn<PubSubHeard<S::Message>, PubSubAsk<S::Message>> {
-        turn(&mut self.state, &self.tables, held, waker, wakes)
+    ) -> Turn<PubSubHeard<G::Message>, PubSubAsk<G::Message>> {
+        self.state.turn(&self.tables, held, waker, wakes)
     }
 
-    fn end(&mut self, _held: PubSubAsk<S::Message>, _wakes: &mut Wakes<S::Waker, K>) {}
+    fn end(&mut self, _held: PubSubAsk<G::Message>, _wakes: &mut Wakes<S::Waker, K>) {}
 
-    fn reach(call: &PubSubCall<S::Message>) -> Reach {
+    fn reach(call: &PubSubCall<G::Message>) -> Reach {
         reach(call)
     }
 
-    fn leaves(&self, call: &PubSubCall<S::Message>, held: &PubSubAsk<S::Message>) -> bool {
+    fn leaves(&self, call: &PubSubCall<G::Message>, held: &PubSubAsk<G::Message>) -> bool {
         self.tables.leaves(call, held)
     }
 
     fn call(
         &mut self,
-        call: PubSubCall<S::Message>,
-        _place: &mut Option<PubSubAsk<S::Message>>,
+        call: PubSubCall<G::Message>,
+        _place: &mut Option<PubSubAsk<G::Message>>,
         wakes: &mut Wakes<S::Waker, K>,
-    ) -> Answer<PubSubHeard<S::Message>> {
-        perform(&mut self.state, &mut self.tables, call, wakes)
+    ) -> Answer<PubSubHeard<G::Message>> {
+        self.state.perform(&mut self.tables, call, wakes)
     }
 
-    ghost idle = { λ m ask w f h. pubsub_idle S.Message.is_clone S.Message.is_infallible S.places S.publishers S.Waker.eq (topic_of (S.channel m.state) m.tables) (S.channel m.state).lists ask w f h };
+    ghost idle = { λ m ask w f h. pubsub_idle G.Message.is_clone G.Message.is_infallible G.capacity P.room S.Waker.eq (topic_of m.state m.tables) m.state.lists ask w f h };
 
-    ghost pending = { pubsub_pending S.Message.is_clone S.Message.is_infallible S.places S.publishers };
+    ghost pending = { pubsub_pending G.Message.is_clone G.Message.is_infallible G.capacity P.room };
 
     ghost no_such = { λ o h a o2 p n k. absurd (n tt) };
 
@@ -796,7 +803,7 @@ impl<S: LogState<K>, const NAMES: usize, const K: usize> Primitive<K> for Events
 
     ghost use Rattle.esync_machine.specs.RulesLaws.{all_requests};
 
-    ghost no_requests = { all_requests (pubsub_rules S.Message.is_clone S.Message.is_infallible S.places S.publishers) (λ h. tt) (λ o o2 call p p2 a c. c.1) };
+    ghost no_requests = { all_requests (pubsub_rules G.Message.is_clone G.Message.is_infallible G.capacity P.room) (λ h. tt) (λ o o2 call p p2 a c. c.1) };
 }
 
 // Which numbers a call concerns.
@@ -829,7 +836,11 @@ pub type PubSubRun<
     const NAMES: usize,
     const REQS: usize,
     const K: usize,
-> = Requests<Events<PubSubState<T, W, CAP, SUBS, PUBS>, NAMES, K>, REQS, K>;
+> = Requests<
+    Events<esync_log::log::Log<T, CAP, SUBS>, Wakes<W, SUBS>, Wakes<W, PUBS>, NAMES>,
+    REQS,
+    K,
+>;
 
 /// The commands of a pub-sub channel.
 pub type PubSubCommand<T, W> = Command<PubSubAsk<T>, W, PubSubCall<T>>;

@@ -1,6 +1,8 @@
 //! A pub-sub channel whose numbers are kept with it.
-use super::{Events, LogState, Tables};
+use super::{Events, Tables};
 use esync_base::kept::Kept;
+use esync_base::waitqueue::WakerList;
+use esync_log::log::LogStore;
 use std::alloc::AllocError;
 
 impl<const NAMES: usize> Kept for Tables<NAMES> {
@@ -12,7 +14,8 @@ impl<const NAMES: usize> Kept for Tables<NAMES> {
     }
 }
 
-impl<S: LogState<K> + Kept, const NAMES: usize, const K: usize> Kept for Events<S, NAMES, K> {
+impl<G: LogStore + Kept, S: WakerList, P: WakerList<Waker = S::Waker>, const NAMES: usize> Kept
+    for Events<G, S, P, NAMES> {
     fn kept(&self) -> Result<Self, AllocError> {
         Ok(Events {
             state: self.state.kept()?,

@@ -1,4 +1,4 @@
 use Rattle.esync_pubsub.proofs.pubsub.machine.EventsPrimitive.leaves.Goals as goal
 
 pub returns : goal.returns
-returns g c = rw (← c.self.view_is) (c.leaves.ensures (g.S.LogState.channel c.self.inside.state).log)
+returns g c = rw (← c.self.view_is) (c.leaves.ensures c.self.inside.state.log)

@@ -1,8 +1,0 @@
-use Rattle.esync_pubsub.proofs.Parts.{log_fits}
-use Rattle.esync_pubsub.proofs.pubsub.PubSubState.leave.Goals as goal
-
-pub len-held-requires : goal.len-held-requires
-len-held-requires g c = log_fits g.row.T g.row.W g.row.CAP g.row.SUBS g.row.PUBS c.requires-raw.1.1.1.1.1.1.0
-
-pub leave-requires : goal.leave-requires
-leave-requires g c = (log_fits g.row.T g.row.W g.row.CAP g.row.SUBS g.row.PUBS c.requires-raw.1.1.1.1.1.1.0, rw (← c.self.view_is, ← c.id.view_is) at c.requires.live)

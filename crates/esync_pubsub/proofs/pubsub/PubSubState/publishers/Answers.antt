@@ -1,8 +1,0 @@
-use Rattle.std.proofs.Common.{refl}
-use Rattle.esync_pubsub.proofs.pubsub.PubSubState.publishers.Goals as goal
-
-pub returns : goal.returns
-returns g c = record {
-  value = rw (← c.self.view_is) refl;
-  within = c.self.invariant;
-}
