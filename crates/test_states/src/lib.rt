@@ -10,8 +10,6 @@ mod deque;
 #[cfg(test)]
 mod heap;
 #[cfg(test)]
-mod heap_drops;
-#[cfg(test)]
 mod permit_runs;
 #[cfg(test)]
 mod permits;
@@ -27,6 +25,8 @@ mod ring_buffer;
 mod runs;
 #[cfg(test)]
 mod shown;
+#[cfg(test)]
+mod store_drops;
 #[cfg(test)]
 mod wakers;
 #[cfg(test)]
