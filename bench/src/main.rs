@@ -1,10 +1,12 @@
 //! Times the state forms, and the shared forms over a lock, beside embassy-sync 0.6.2.
 //!
 //! Prints a line a case, `case ours_ns upstream_ns ratio`, and then the largest ratio. Times are nanoseconds for a message that
-//! goes in and comes out again. Arguments, where given, are the cases to run.
+//! goes in and comes out again. Arguments, where given, are the cases to run;
+//! `sizes` prints how many bytes each primitive takes, in place of times.
 mod cases;
 mod host_mutex;
 mod ours;
+mod sizes;
 mod upstream;
 
 use std::hint::black_box;
@@ -100,6 +102,9 @@ fn nanoseconds(pass: Duration) -> f64 {
 
 fn main() {
     let chosen: Vec<String> = std::env::args().skip(1).collect();
+    if chosen.iter().any(|name| name == "sizes") {
+        return sizes::print();
+    }
     let messages = messages();
     let mut largest = ("none", 0.0);
     for case in &CASES {

@@ -15,5 +15,6 @@ mod pool;
 pub mod priority;
 pub mod pubsub;
 pub mod signal;
+pub mod sizes;
 pub mod tasks;
 pub mod watch;
