@@ -3,8 +3,8 @@
 use Rattle.std.specs.Prelude.{◌≡◌, ℕ, ◌-◌, Bool, true, false, List, [], Option, Some, None, Result, Ok, Err, if◌then◌else◌, nat_eq, not, max}
 use Rattle.esync_base.specs.declared.waitqueue.Poll.{Poll}
 use Rattle.esync_base.specs.declared.waitqueue.Poll.TheVariants.{Pending}
-use Rattle.esync_log.specs.Log.{Log, has_subscribers, is_live, position, left, cleared, Publishes, PublishesAtOnce, lags, caught, Reads, ReadsOn, Streams, IsRefused}
-use Rattle.esync_pubsub.specs.PubSub.{PubSub, Lists, frees, lists_after_room, wakes_of_room, tried, heard, lists_after_publish, wakes_of_publish, lists_after_immediate, wakes_of_immediate, lists_after_read, wakes_of_read, lists_after_stream, wakes_of_stream}
+use Rattle.esync_log.specs.Log.{Log, has_subscribers, is_live, position, left, Publishes, lags, caught, Reads, ReadsOn, Streams, IsRefused}
+use Rattle.esync_pubsub.specs.PubSub.{PubSub, Lists, frees, lists_after_room, wakes_of_room, tried, heard, lists_after_publish, wakes_of_publish, lists_after_read, wakes_of_read, lists_after_stream, wakes_of_stream}
 use Rattle.esync_log.specs.declared.log.Exhausted.{Exhausted as NoNumber}
 use Rattle.esync_log.specs.declared.log.TryPublishError.{TryPublishError}
 use Rattle.esync_log.specs.declared.log.WaitResult.{WaitResult}
@@ -36,17 +36,6 @@ module _ {T W : Type 0} where
   abbrev pub Leaving : ℕ → PubSub T W → PubSub T W → List W → Type 0
   Leaving place s s2 wakes =
       IfThere (is_live place s.log) ((s2 ≡ record s { log = left place s.log; lists = lists_after_room (frees s.log (left place s.log)) s.lists }) × (wakes ≡ wakes_of_room (frees s.log (left place s.log)) s.lists)) (IsIdle s s2 wakes)
-
-  -- all messages leave, and who waits for room is woken
-  abbrev pub Clearing : PubSub T W → PubSub T W → List W → Type 0
-  Clearing s s2 wakes = (s2 ≡ record s { log = cleared s.log; lists = record s.lists { publishers = [] } }) × (wakes ≡ s.lists.publishers)
-
-  -- a message is published at once, among at most cap
-  abbrev pub PublishingAtOnce : ℕ → T → PubSub T W → Result (Unit {0}) (NoNumber T) → PubSub T W → List W → Type 0
-  PublishingAtOnce cap message s result s2 wakes =
-      PublishesAtOnce cap message s.log result s2.log
-      × (s2 ≡ record s { log = s2.log; lists = lists_after_immediate (has_subscribers s.log) result s.lists })
-      × (wakes ≡ wakes_of_immediate (has_subscribers s.log) result s.lists)
 
   -- a read: what it does to the log and to the lists where it answers, and nothing where a clone is refused
   abbrev pub Reading : {A E : Type 0} → (A → Log T → Type 0) → Type 0 → (A → Bool → Lists W → Lists W) → (A → Bool → Lists W → List W) → PubSub T W → Result A E → PubSub T W → List W → Type 0

@@ -652,7 +652,7 @@ impl<G: LogStore, S: WakerList, P: WakerList<Waker = S::Waker>> PubSubOver<G, S,
                 Answer::Done
             }
             PubSubCall::Len => Answer::Gives(PubSubHeard::Number(self.len())),
-            PubSubCall::FreeCapacity => { Answer::Gives(PubSubHeard::Number(self.free_capacity())) }
+            PubSubCall::FreeCapacity => Answer::Gives(PubSubHeard::Number(self.free_capacity())),
         }
     }
 }
