@@ -5,3 +5,4 @@ pub mod PipeRules
 pub mod PipeLaws
 pub mod PipeOrder
 pub mod Polls
+pub mod Room

@@ -2,6 +2,7 @@
 ghost use Rattle.std.specs.Prelude.{◌≡◌, [], ◌++◌, ◌≤◌, Some, IsSome, IfOk, OnErr, is_ok, length, min, take, drop, is_none};
 ghost use Rattle.esync_pipe.specs.Pipe.{Copies, Shows, Filling, Dropping, shows};
 ghost use Rattle.esync_pipe.specs.Polls.{IfReady, KeepsCopy, LeavesBytes};
+ghost use Rattle.esync_pipe.specs.Room.{WakesFit};
 
 use super::{PipeOver, TryReadError, TryWriteError, WriteAllRequest, waker_of};
 use esync_base::ring_buffer::ByteRing;
@@ -10,6 +11,7 @@ use esync_base::step;
 use esync_base::store::ByteStore;
 use esync_base::waitqueue::{Context, Hand, Poll, Wakes};
 use std::marker::Model;
+use std::sync::MutexGuard;
 
 /// A copy of the bytes that a reader filled, of which the first ones may be consumed since. It stands in a ring, from its first place on.
 #[derive(Drop)]
@@ -184,39 +186,47 @@ impl<R: ByteStore, W: Copy + Eq, H: Hand<W>> SharedPipe<R, W, H> {
         ReadFuture { pipe: self, to }
     }
 
+    // Takes the lock, until the guard is dropped. That the lists of wakers of all steps fit in memory is said here, once.
+    #[inline]
+    fn guard(&self) -> MutexGuard<'_, PipeOver<R, W>>
+        ensures one { WakesFit W.row 1 }
+        ensures two { WakesFit W.row 2 }
+    {
+        self.inner.guard()
+    }
+
+    // Gives the wakers to the hand, in order.
+    fn wake<const K: usize>(&self, wakes: &Wakes<W, K>) {
+        self.inner.wake(wakes);
+    }
+
     pub(crate) fn step_write(&self, waker: Option<W>, from: &[u8]) -> Result<usize, TryWriteError>
         ensures { IfOk result (λ n. n ≤ length from.now) }
     {
-        step!(
-            self.inner,
-            |state, wakes| state.write(from, waker, &mut wakes)
-        )
+        step!(self, |state, wakes| state.write(from, waker, &mut wakes))
     }
 
     pub(crate) fn step_read(&self, waker: Option<W>, to: &mut [u8]) -> Result<usize, TryReadError>
         ensures { IfOk result (λ n. n ≤ length to.old) }
     {
-        step!(self.inner, |state, wakes| state.read(to, waker, &mut wakes))
+        step!(self, |state, wakes| state.read(to, waker, &mut wakes))
     }
 
     fn step_fill(&self, waker: Option<W>, row: &mut CopiedIn<R>) -> Result<(), TryReadError>
         ensures kept { OnErr result (row.new ≡ row.old) }
     {
-        step!(
-            self.inner,
-            |state, wakes| state.fill(waker, row, &mut wakes)
-        )
+        step!(self, |state, wakes| state.fill(waker, row, &mut wakes))
     }
 
     pub(crate) fn step_show(&self, waker: Option<W>, to: &mut [u8]) -> Result<usize, TryReadError>
         ensures count { IfOk result (λ n. n ≤ length to.old) }
         ensures kept { OnErr result (to.new ≡ to.old) }
     {
-        step!(self.inner, |state, wakes| state.show(waker, to, &mut wakes))
+        step!(self, |state, wakes| state.show(waker, to, &mut wakes))
     }
 
     pub(crate) fn step_drop(&self, amt: usize) {
-        step!(self.inner, |state, wakes| state.drop_shown(amt, &mut wakes))
+        step!(self, |state, wakes| state.drop_shown(amt, &mut wakes))
     }
 
     fn step_write_all(&self, request: &mut WriteAllRequest<'_>, cx: &Context<W>) -> Poll<()>
@@ -224,7 +234,7 @@ impl<R: ByteStore, W: Copy + Eq, H: Hand<W>> SharedPipe<R, W, H> {
         ensures { LeavesBytes result request.new }
     {
         step!(
-            self.inner,
+            self,
             2,
             |state, wakes| request.poll_state(&mut *state, cx, &mut wakes)
         )
@@ -268,7 +278,7 @@ impl<R: ByteStore, W: Copy + Eq, H: Hand<W>> SharedPipe<R, W, H> {
 
     /// Drops all bytes, and wakes who waits for room.
     pub fn clear(&self) {
-        step!(self.inner, |state, wakes| state.clear(&mut wakes))
+        step!(self, |state, wakes| state.clear(&mut wakes))
     }
 
     /// How many bytes can be held. It takes no lock.
@@ -282,24 +292,24 @@ impl<R: ByteStore, W: Copy + Eq, H: Hand<W>> SharedPipe<R, W, H> {
     pub fn len(&self) -> usize
         ensures { result ≤ R.capacity }
     {
-        self.inner.guard().len()
+        self.guard().len()
     }
 
     /// How many bytes there is room for now.
     pub fn free_capacity(&self) -> usize
         ensures { result ≤ R.capacity }
     {
-        self.inner.guard().free_capacity()
+        self.guard().free_capacity()
     }
 
     /// No byte is held now.
     pub fn is_empty(&self) -> bool {
-        self.inner.guard().is_empty()
+        self.guard().is_empty()
     }
 
     /// As many bytes are held now as there is room for.
     pub fn is_full(&self) -> bool {
-        self.inner.guard().is_full()
+        self.guard().is_full()
     }
 }
 
