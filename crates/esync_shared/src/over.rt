@@ -6,7 +6,7 @@ use bumpalo::Bump;
 use esync_base::deque::Deque;
 use esync_base::ring_buffer::ByteRing;
 use esync_base::store::{ByteStore, Store};
-use esync_base::waitqueue::{TaskId, WakerList, Wakes};
+use esync_base::waitqueue::{Hand, TaskId, WakerList, Wakes};
 use esync_cells::signal::Signal;
 use esync_cells::watch::{SharedWatch, Watch};
 use esync_channel::channel::SharedMailbox;
