@@ -1,5 +1,5 @@
 -- What a recorded run is found to be.
-use Rattle.std.specs.Prelude.{◌≡◌, ℕ, ◌+◌, ◌-◌, ◌^◌, min, Bool, true, List, [], ◌∷◌, ◌++◌, Some, Result, Ok, codes, decimal, string_bytes}
+use Rattle.std.specs.Prelude.{◌≡◌, ℕ, ◌+◌, ◌-◌, ◌^◌, min, Bool, true, false, ◌==◌, List, [], ◌∷◌, ◌++◌, Some, Result, Ok, codes, decimal, string_bytes}
 use Rattle.std.proofs.Common.{nat_eq, nat_cmp}
 use Rattle.esync_priority.specs.Prio.{greater, less}
 use Rattle.esync_words.specs.declared.fault.Fault.{Fault}
@@ -72,7 +72,12 @@ given_text reply = codes "given: " ++ reply ++ 10 ∷ []
 abbrev pub difference_text : List ℕ → Difference → List ℕ
 difference_text name d = (heading_text d.line name ++ recorded_text (string_bytes d.recorded)) ++ given_text (string_bytes d.given)
 
+-- what is written of a run of n commands; one is told apart
+abbrev pub run_text : Bool → List ℕ → ℕ → List ℕ
+run_text true name n = codes "1 command: a run of " ++ name ++ 10 ∷ []
+run_text false name n = decimal n ++ codes " commands: a run of " ++ name ++ 10 ∷ []
+
 -- what is written of a text whose line 1 is this
 abbrev pub verdict_text : List ℕ → Verdict → List ℕ
-verdict_text name (Run commands) = decimal commands ++ codes " commands: a run of " ++ name ++ 10 ∷ []
+verdict_text name (Run commands) = run_text (commands == 1) name commands
 verdict_text name (Another d) = difference_text name d

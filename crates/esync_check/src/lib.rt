@@ -1,10 +1,10 @@
 //! Recorded runs: whether what was recorded elsewhere is a run of the object, with exactly the wakers that the table of wakes says.
 #![tactic(auto)]
 
-ghost use Rattle.std.specs.Prelude.{◌≡◌, ◌≤◌, ℕ, List, true, IfOk, OnOk, IfErr, IfSome, string_bytes};
+ghost use Rattle.std.specs.Prelude.{◌≡◌, ◌==◌, ◌≤◌, ℕ, List, true, IfOk, OnOk, IfErr, IfSome, string_bytes};
 ghost use Rattle.std.specs.Io.KnownBytes.{Appends};
 ghost use Rattle.esync_words.specs.Lines.{first_line};
-ghost use Rattle.esync_check.specs.Checked.{Finds, IsRun, Judges, verdict_text, difference_text, heading_text, recorded_text, given_text};
+ghost use Rattle.esync_check.specs.Checked.{Finds, IsRun, Judges, run_text, verdict_text, difference_text, heading_text, recorded_text, given_text};
 
 use crate::difference::{Difference, first_difference};
 use crate::fault::Unchecked;
@@ -163,8 +163,18 @@ pub fn print_verdict<W: Write>(text: &str, verdict: &Verdict, output: &mut W) ->
 {
     let (name, _) = split_line(text);
     match verdict {
-        Verdict::Run(commands) => writeln!(output, "{commands} commands: a run of {name}"),
+        Verdict::Run(commands) => print_run(name, *commands, output),
         Verdict::Another(difference) => print_difference(name, difference, output),
+    }
+}
+
+fn print_run<W: Write>(name: &str, commands: u64, output: &mut W) -> io::Result<()>
+    ensures { OnOk result (Appends (W.contents output.old) (W.contents output.new) (run_text (commands == 1) name.now commands)) }
+{
+    if commands == 1 {
+        writeln!(output, "1 command: a run of {name}")
+    } else {
+        writeln!(output, "{commands} commands: a run of {name}")
     }
 }
 

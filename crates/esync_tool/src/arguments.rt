@@ -40,10 +40,15 @@ fn files<'a>(alloc: Global, help: &'a str) -> Arg<'a> {
 }
 
 fn run<'a>(alloc: Global) -> Result<Command<'a>, AllocError> {
+    let beside = Arg::new(alloc, "beside")
+        .long("beside")
+        .action(ArgAction::SetTrue)
+        .help("Each answer beside its command");
     Command::new(alloc, "run")
         .about(
             "Answers each line of a script: what its call or poll is answered, and the wakers that it hands out",
         )
+        .arg(beside)?
         .arg(one_file(alloc, SCRIPT))
 }
 

@@ -10,6 +10,7 @@ use esync_forms::form::{Door, Doors};
 use esync_script::{play_buffered, play_script};
 use esync_shared::compare::compare;
 use esync_shared::play::play;
+use esync_words::beside::Beside;
 use esync_words::diagram::{Diagram, Pages};
 use esync_words::explain::Explained;
 use esync_words::play::{Replies, Telling};
@@ -36,6 +37,7 @@ where
 {
     let file = matches.get_str("FILE").unwrap_or("-");
     match name {
+        "run" if matches.get_flag("beside") => tell(rt, alloc, &mut Beside {}, file, streams),
         "run" => tell(rt, alloc, &mut Replies {}, file, streams),
         "draw" if matches.get_str("format") == Some("markdown") => {
             tell(rt, alloc, &mut Pages {}, file, streams)

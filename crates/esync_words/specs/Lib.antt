@@ -5,6 +5,7 @@ pub mod Words
 pub mod Perhaps
 pub mod WordsView
 pub mod WordsLaws
+pub mod Beside
 pub mod Commands
 pub mod CommandsLaws
 pub mod Text

@@ -1,6 +1,7 @@
 //! The language of scripts: lines, words and numbers, the commands that every machine has, what is printed, and the loop.
 #![tactic(auto)]
 
+pub mod beside;
 pub mod diagram;
 pub mod explain;
 pub mod fault;
