@@ -39,10 +39,10 @@ ReadsSome {T} IsClone IsInfallible Shows marks seen result after =
 pub record Reader : Type 0 where
   pub seen : ℕ
 
--- the same of who reads what passes a test
-pub record Judging (F : Type 0) : Type 0 where
-  pub test : F
+-- who waits for what is sought so
+pub record Seeking (S : Type 0) : Type 0 where
+  pub sought : S
   pub seen : ℕ
 
-abbrev pub judging_code : {F : Type 0} → Coded F → Coded (Judging F)
-judging_code {F} f = code_by (F × ℕ) (coded× f coded_ℕ) (λ r. (r.test, r.seen)) (λ p. record { test = p.0; seen = p.1 }) (λ _. refl)
+abbrev pub seeking_code : {S : Type 0} → Coded S → Coded (Seeking S)
+seeking_code {S} s = code_by (S × ℕ) (coded× s coded_ℕ) (λ r. (r.sought, r.seen)) (λ p. record { sought = p.0; seen = p.1 }) (λ _. refl)

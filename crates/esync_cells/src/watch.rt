@@ -8,8 +8,8 @@ ghost use Rattle.esync_cells.specs.Watched.{Tells, TellsIf};
 use esync_base::kept::Kept;
 use esync_base::waitqueue::{Context, Poll, Registered, WakerList, WakerRegistrations, Wakes};
 pub use handles::{
-    AnonRcv, AnonReceiver, Changed, ChangedAnd, DynAnonReceiver, DynReceiver, DynSender, Get,
-    GetAnd, Rcv, Receiver, Sender, Snd,
+    AnonRcv, AnonReceiver, Anything, Changed, ChangedAnd, DynAnonReceiver, DynReceiver, DynSender,
+    Get, GetAnd, News, Passing, PassingNews, Rcv, Receiver, Sender, Snd, Sought, Waiting,
 };
 pub use shared::{SharedWatch, Watch, WatchBehavior};
 use std::alloc::AllocError;

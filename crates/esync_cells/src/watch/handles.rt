@@ -165,25 +165,22 @@ impl<'a, B: WatchBehavior> Rcv<'a, B> {
     pub fn get<'s>(&'s mut self) -> Get<'s, 'a, B>
         ensures { result.seen ≡ self.old.seen }
     {
-        Get { receiver: self }
+        self.waits_for(Anything {})
     }
 
     /// The value, when there is one that passes the test.
     pub fn get_and<'s, F: Fn(&B::Value) -> bool>(&'s mut self, test: F) -> GetAnd<'s, 'a, B, F>
-        ensures test { result.test ≡ test }
+        ensures test { result.sought.test ≡ test }
         ensures seen { result.seen ≡ self.old.seen }
     {
-        GetAnd {
-            receiver: self,
-            test,
-        }
+        self.waits_for(Passing { test })
     }
 
     /// The value, when its version is newer than the one that was seen.
     pub fn changed<'s>(&'s mut self) -> Changed<'s, 'a, B>
         ensures { result.seen ≡ self.old.seen }
     {
-        Changed { receiver: self }
+        self.waits_for(News {})
     }
 
     /// The value, when it passes the test and its version is newer than the one that was seen.
@@ -191,12 +188,20 @@ impl<'a, B: WatchBehavior> Rcv<'a, B> {
         &'s mut self,
         test: F,
     ) -> ChangedAnd<'s, 'a, B, F>
-        ensures test { result.test ≡ test }
+        ensures test { result.sought.test ≡ test }
         ensures seen { result.seen ≡ self.old.seen }
     {
-        ChangedAnd {
+        self.waits_for(PassingNews { test })
+    }
+
+    // What is sought, when it is there.
+    fn waits_for<'s, S>(&'s mut self, sought: S) -> Waiting<'s, 'a, B, S>
+        ensures sought { result.sought ≡ sought }
+        ensures seen { result.seen ≡ self.old.seen }
+    {
+        Waiting {
             receiver: self,
-            test,
+            sought,
         }
     }
 
@@ -362,135 +367,139 @@ impl<'a, B: WatchBehavior> AnonRcv<'a, B> {
     }
 }
 
-/// The value on its way to a receiver: what `get` gives. It acts anew after it was ready.
-#[must_use]
-#[derive(Drop)]
-pub struct Get<'s, 'a, B: WatchBehavior> {
-    receiver: &'s mut Rcv<'a, B>,
-}
+/// What a poll of a watch answers.
+type Polled<B> = Result<Poll<<B as WatchBehavior>::Value>, AllocError>;
 
-impl<'s, 'a, B: WatchBehavior> Model for Get<'s, 'a, B> {
-    ghost use Rattle.esync_cells.specs.Watched.{Reader};
+/// What a receiver of a watch waits for.
+pub trait Sought<B: WatchBehavior> {
+    ghost use Rattle.std.specs.Prelude.{ℕ, Bool, Option, ⊤};
 
-    ghost Value = { Reader };
+    /// It can be looked for. Without a word of its own it always can.
+    ghost can_look: { Self → Type 0 } = { λ _. ⊤ };
 
-    ghost view = { λ a. a.receiver.now };
-}
+    /// Whether a value of some version is shown to who has seen that one.
+    ghost shows: { Self → ℕ → Option B.Value → ℕ → Bool → Type 0 };
 
-impl<'s, 'a, B: WatchBehavior> Get<'s, 'a, B> {
-    /// A clone of the value, whose version is marked as seen. Where there is none, the context's waker waits for one.
+    /// A clone of the value, if it is shown, and marks its version as seen. Elsewhere the context's waker waits for one.
     ///
     /// # Errors
     ///
     /// Where a clone has no memory the seen version stays, and nobody is registered.
-    pub fn poll(&mut self, cx: &Context<B::Waker>) -> Result<Poll<B::Value>, AllocError>
-        ensures { ReadsSome B.Value.is_clone B.Value.is_infallible Always (λ v. false) self.old.seen (polled result) self.new.seen }
-    {
-        let receiver = &mut *self.receiver;
-        receiver.watch.poll_get(&mut receiver.seen, cx)
+    fn poll(&self, watch: &B, seen: &mut u64, cx: &Context<B::Waker>) -> Polled<B>
+        requires place { 1 ≤ B.places }
+        requires can { can_look self.now }
+        ensures { ReadsSome B.Value.is_clone B.Value.is_infallible (shows self.now seen.old) (λ v. false) seen.old (polled result) seen.new };
+}
+
+/// The value.
+#[derive(Drop)]
+pub struct Anything {}
+
+impl<B: WatchBehavior> Sought<B> for Anything {
+    ghost use Rattle.esync_cells.specs.Watched.{Always};
+
+    ghost shows = { λ s seen. Always };
+
+    fn poll(&self, watch: &B, seen: &mut u64, cx: &Context<B::Waker>) -> Polled<B> {
+        watch.poll_get(seen, cx)
     }
 }
 
-/// A value that passes a test, on its way to a receiver: what `get_and` gives. It acts anew after it was ready.
-#[must_use]
+/// The value, if its version is newer than the one that was seen.
 #[derive(Drop)]
-pub struct GetAnd<'s, 'a, B: WatchBehavior, F> {
-    receiver: &'s mut Rcv<'a, B>,
-    test: F,
-}
+pub struct News {}
 
-impl<'s, 'a, B: WatchBehavior, F> Model for GetAnd<'s, 'a, B, F> {
-    ghost use Rattle.esync_cells.specs.Watched.{Judging, judging_code};
+impl<B: WatchBehavior> Sought<B> for News {
+    ghost use Rattle.esync_cells.specs.Watched.{WhereNewer};
 
-    ghost Value = { Judging F };
+    ghost shows = { λ s seen. WhereNewer seen };
 
-    ghost coded = { judging_code F.code };
-
-    ghost view = { λ a. record { test = a.test; seen = a.receiver.now.seen } };
-}
-
-impl<'s, 'a, B: WatchBehavior, F: Fn(&B::Value) -> bool> GetAnd<'s, 'a, B, F> {
-    /// A clone of the value that passes the test, whose version is marked as seen. Where there is none, the context's waker waits for
-    /// one.
-    ///
-    /// # Errors
-    ///
-    /// Where a clone has no memory the seen version stays, and nobody is registered.
-    pub fn poll(&mut self, cx: &Context<B::Waker>) -> Result<Poll<B::Value>, AllocError>
-        requires { F.IsAlwaysCallable self.old.test }
-        ensures test { self.new.test ≡ self.old.test }
-        ensures read { ReadsSome B.Value.is_clone B.Value.is_infallible (WherePassing (FnReturnsAt F.Fn self.old.test)) (λ v. false) self.old.seen (polled result) self.new.seen }
-    {
-        let test = &self.test;
-        let receiver = &mut *self.receiver;
-        receiver.watch.poll_get_and(test, &mut receiver.seen, cx)
+    fn poll(&self, watch: &B, seen: &mut u64, cx: &Context<B::Waker>) -> Polled<B> {
+        watch.poll_changed(seen, cx)
     }
 }
 
-/// News on its way to a receiver: what `changed` gives. It acts anew after it was ready.
-#[must_use]
+/// The value, if it passes the test.
 #[derive(Drop)]
-pub struct Changed<'s, 'a, B: WatchBehavior> {
-    receiver: &'s mut Rcv<'a, B>,
+pub struct Passing<F> {
+    pub test: F,
 }
 
-impl<'s, 'a, B: WatchBehavior> Model for Changed<'s, 'a, B> {
-    ghost use Rattle.esync_cells.specs.Watched.{Reader};
+impl<B: WatchBehavior, F: Fn(&B::Value) -> bool> Sought<B> for Passing<F> {
+    ghost use Rattle.std.specs.Fn.{FnReturnsAt};
+    ghost use Rattle.esync_cells.specs.Watched.{WherePassing};
 
-    ghost Value = { Reader };
+    ghost can_look = { λ s. F.IsAlwaysCallable s.test };
 
-    ghost view = { λ a. a.receiver.now };
-}
+    ghost shows = { λ s seen. WherePassing (FnReturnsAt F.Fn s.test) };
 
-impl<'s, 'a, B: WatchBehavior> Changed<'s, 'a, B> {
-    /// A clone of the value, if its version is newer than the one that was seen, and marks it. Elsewhere the context's waker waits for
-    /// one.
-    ///
-    /// # Errors
-    ///
-    /// Where a clone has no memory the seen version stays, and nobody is registered.
-    pub fn poll(&mut self, cx: &Context<B::Waker>) -> Result<Poll<B::Value>, AllocError>
-        ensures { ReadsSome B.Value.is_clone B.Value.is_infallible (WhereNewer self.old.seen) (λ v. false) self.old.seen (polled result) self.new.seen }
-    {
-        let receiver = &mut *self.receiver;
-        receiver.watch.poll_changed(&mut receiver.seen, cx)
+    fn poll(&self, watch: &B, seen: &mut u64, cx: &Context<B::Waker>) -> Polled<B> {
+        watch.poll_get_and(&self.test, seen, cx)
     }
 }
 
-/// News that pass a test, on their way to a receiver: what `changed_and` gives. It acts anew after it was ready.
+/// The value, if it passes the test and its version is newer than the one that was seen.
+#[derive(Drop)]
+pub struct PassingNews<F> {
+    pub test: F,
+}
+
+impl<B: WatchBehavior, F: Fn(&B::Value) -> bool> Sought<B> for PassingNews<F> {
+    ghost use Rattle.std.specs.Fn.{FnReturnsAt};
+    ghost use Rattle.esync_cells.specs.Watched.{WhereNewPassing};
+
+    ghost can_look = { λ s. F.IsAlwaysCallable s.test };
+
+    ghost shows = { λ s seen. WhereNewPassing (FnReturnsAt F.Fn s.test) seen };
+
+    fn poll(&self, watch: &B, seen: &mut u64, cx: &Context<B::Waker>) -> Polled<B> {
+        watch.poll_changed_and(&self.test, seen, cx)
+    }
+}
+
+/// The value on its way to a receiver: what `get` gives.
+pub type Get<'s, 'a, B> = Waiting<'s, 'a, B, Anything>;
+
+/// News on its way to a receiver: what `changed` gives.
+pub type Changed<'s, 'a, B> = Waiting<'s, 'a, B, News>;
+
+/// A value that passes a test, on its way to a receiver: what `get_and` gives.
+pub type GetAnd<'s, 'a, B, F> = Waiting<'s, 'a, B, Passing<F>>;
+
+/// News that pass a test, on their way to a receiver: what `changed_and` gives.
+pub type ChangedAnd<'s, 'a, B, F> = Waiting<'s, 'a, B, PassingNews<F>>;
+
+/// What is sought, on its way to a receiver. It acts anew after it was ready.
 #[must_use]
 #[derive(Drop)]
-pub struct ChangedAnd<'s, 'a, B: WatchBehavior, F> {
+pub struct Waiting<'s, 'a, B: WatchBehavior, S> {
     receiver: &'s mut Rcv<'a, B>,
-    test: F,
+    sought: S,
 }
 
-impl<'s, 'a, B: WatchBehavior, F> Model for ChangedAnd<'s, 'a, B, F> {
-    ghost use Rattle.esync_cells.specs.Watched.{Judging, judging_code};
+impl<'s, 'a, B: WatchBehavior, S> Model for Waiting<'s, 'a, B, S> {
+    ghost use Rattle.esync_cells.specs.Watched.{Seeking, seeking_code};
 
-    ghost Value = { Judging F };
+    ghost Value = { Seeking S };
 
-    ghost coded = { judging_code F.code };
+    ghost coded = { seeking_code S.code };
 
-    ghost view = { λ a. record { test = a.test; seen = a.receiver.now.seen } };
+    ghost view = { λ a. record { sought = a.sought; seen = a.receiver.now.seen } };
 }
 
-impl<'s, 'a, B: WatchBehavior, F: Fn(&B::Value) -> bool> ChangedAnd<'s, 'a, B, F> {
-    /// A clone of the value, if it passes the test and its version is newer than the one that was seen, and marks it. Elsewhere the
-    /// context's waker waits for one.
+impl<'s, 'a, B: WatchBehavior, S: Sought<B>> Waiting<'s, 'a, B, S> {
+    /// A clone of the value that is sought, whose version is marked as seen. Where there is none, the context's waker waits for one.
     ///
     /// # Errors
     ///
     /// Where a clone has no memory the seen version stays, and nobody is registered.
-    pub fn poll(&mut self, cx: &Context<B::Waker>) -> Result<Poll<B::Value>, AllocError>
-        requires { F.IsAlwaysCallable self.old.test }
-        ensures test { self.new.test ≡ self.old.test }
-        ensures read { ReadsSome B.Value.is_clone B.Value.is_infallible (WhereNewPassing (FnReturnsAt F.Fn self.old.test) self.old.seen) (λ v. false) self.old.seen (polled result) self.new.seen }
+    pub fn poll(&mut self, cx: &Context<B::Waker>) -> Polled<B>
+        requires { S.can_look self.old.sought }
+        ensures same { self.new.sought ≡ self.old.sought }
+        ensures read { ReadsSome B.Value.is_clone B.Value.is_infallible (S.shows self.old.sought self.old.seen) (λ v. false) self.old.seen (polled result) self.new.seen }
     {
-        let test = &self.test;
+        let sought = &self.sought;
         let receiver = &mut *self.receiver;
-        receiver
-            .watch
-            .poll_changed_and(test, &mut receiver.seen, cx)
+        sought.poll(receiver.watch, &mut receiver.seen, cx)
     }
 }

@@ -6,7 +6,7 @@ use crate::future::Future;
 use esync_base::waitqueue::{Context, Hand, Poll};
 use esync_cells::once_lock::OnceGet;
 use esync_cells::signal::SignalWait;
-use esync_cells::watch::{Changed, ChangedAnd, Get, GetAnd, WatchBehavior};
+use esync_cells::watch::{Sought, Waiting, WatchBehavior};
 use std::alloc::AllocError;
 
 /// Gives the value, which is taken.
@@ -27,43 +27,13 @@ impl<'a, T: Drop, W: Copy, H: Hand<W>> Future<W> for OnceGet<'a, T, W, H> {
     }
 }
 
-/// Gives a clone of the value, or the error where there was no memory for it.
-impl<B: WatchBehavior> Future<B::Waker> for Get<'_, '_, B> {
+/// Gives a clone of the value that is sought, or the error where there was no memory for it.
+impl<B: WatchBehavior, S: Sought<B> + Drop> Future<B::Waker> for Waiting<'_, '_, B, S> {
     type Output = Result<B::Value, AllocError>;
 
-    fn poll(&mut self, cx: &Context<B::Waker>) -> Poll<Result<B::Value, AllocError>> {
-        ready_or_refused(Get::poll(self, cx))
-    }
-}
-
-/// Gives a clone of the value that passes the test, or the error where there was no memory for it.
-impl<B: WatchBehavior, F: Fn(&B::Value) -> bool + Drop> Future<B::Waker> for GetAnd<'_, '_, B, F> {
-    type Output = Result<B::Value, AllocError>;
-
-    ghost can_poll = { λ judging. F.IsAlwaysCallable judging.test };
+    ghost can_poll = { λ waiting. S.can_look waiting.sought };
 
     fn poll(&mut self, cx: &Context<B::Waker>) -> Poll<Result<B::Value, AllocError>> {
-        ready_or_refused(GetAnd::poll(self, cx))
-    }
-}
-
-/// Gives a clone of the new value, or the error where there was no memory for it.
-impl<B: WatchBehavior> Future<B::Waker> for Changed<'_, '_, B> {
-    type Output = Result<B::Value, AllocError>;
-
-    fn poll(&mut self, cx: &Context<B::Waker>) -> Poll<Result<B::Value, AllocError>> {
-        ready_or_refused(Changed::poll(self, cx))
-    }
-}
-
-/// Gives a clone of the new value that passes the test, or the error where there was no memory for it.
-impl<B: WatchBehavior, F: Fn(&B::Value) -> bool + Drop> Future<B::Waker>
-    for ChangedAnd<'_, '_, B, F> {
-    type Output = Result<B::Value, AllocError>;
-
-    ghost can_poll = { λ judging. F.IsAlwaysCallable judging.test };
-
-    fn poll(&mut self, cx: &Context<B::Waker>) -> Poll<Result<B::Value, AllocError>> {
-        ready_or_refused(ChangedAnd::poll(self, cx))
+        ready_or_refused(Waiting::poll(self, cx))
     }
 }

@@ -63,7 +63,7 @@ impl<R: Wait> Drop for Receiver<'_, '_, R> {
 impl<'w, 'a, R: Wait + Abort> Receiver<'w, 'a, R> {
     /// The value, when there is one that passes the test.
     pub fn get_and<'s, F: Fn(&u32) -> bool>(&'s mut self, test: F) -> GetAnd<'s, 'w, 'a, R, F>
-        ensures { result.get.test ≡ test }
+        ensures { result.get.sought.test ≡ test }
     {
         GetAnd {
             rt: self.rt,
@@ -76,7 +76,7 @@ impl<'w, 'a, R: Wait + Abort> Receiver<'w, 'a, R> {
         &'s mut self,
         test: F,
     ) -> ChangedAnd<'s, 'w, 'a, R, F>
-        ensures { result.changed.test ≡ test }
+        ensures { result.changed.sought.test ≡ test }
     {
         ChangedAnd {
             rt: self.rt,
@@ -95,8 +95,8 @@ pub struct GetAnd<'s, 'w, 'a, R: Wait, F> {
 impl<R: Wait + Abort, F: Fn(&u32) -> bool> GetAnd<'_, '_, '_, R, F> {
     /// A poll with this waker answers this.
     pub fn poll(&mut self, waker: u64, polled: Poll<u32>)
-        requires { F.IsAlwaysCallable self.old.get.test }
-        ensures { self.new.get.test ≡ self.old.get.test }
+        requires { F.IsAlwaysCallable self.old.get.sought.test }
+        ensures { self.new.get.sought.test ≡ self.old.get.sought.test }
     {
         holds!(*self.rt; self.get.poll(&Context::from_waker(waker)) == Ok(polled));
     }
@@ -112,8 +112,8 @@ pub struct ChangedAnd<'s, 'w, 'a, R: Wait, F> {
 impl<R: Wait + Abort, F: Fn(&u32) -> bool> ChangedAnd<'_, '_, '_, R, F> {
     /// A poll with this waker answers this.
     pub fn poll(&mut self, waker: u64, polled: Poll<u32>)
-        requires { F.IsAlwaysCallable self.old.changed.test }
-        ensures { self.new.changed.test ≡ self.old.changed.test }
+        requires { F.IsAlwaysCallable self.old.changed.sought.test }
+        ensures { self.new.changed.sought.test ≡ self.old.changed.sought.test }
     {
         holds!(*self.rt; self.changed.poll(&Context::from_waker(waker)) == Ok(polled));
     }
