@@ -5,6 +5,6 @@ pub mod executor;
 mod queue;
 pub mod recorded;
 mod replies;
-mod suited;
+pub mod suited;
 mod task;
 mod turn;
