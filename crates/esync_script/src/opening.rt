@@ -292,10 +292,10 @@ macro_rules! at_places {
     };
 }
 
-// A call of a function of a log with four places for subscribers, at that of so many messages.
+// A call of `serve` over the pub-sub channel of so many messages. Its machine is spelled out, so that its bytes are known.
 macro_rules! at_logs {
-    ($n:literal, $serve:ident::<$($of:ident),*>($($argument:ident),*)) => {
-        $serve::<Log<u32, $n, 4>, $($of),*>($($argument),*)
+    ($n:literal, $serve:ident::<$words:ident, $($of:ident),*>($telling:ident, $first:ident, $($argument:ident),*)) => {
+        $serve::<$words, _, $($of),*>($telling, pubsub::<Log<u32, $n, 4>>($first), $($argument),*)
     };
 }
 
@@ -405,20 +405,6 @@ fn serve_pipe<T: Telling, R: Read + Drop, W: Write>(
     )
 }
 
-// A script over a pub-sub channel over this log.
-fn serve_log<L: LogStore<Message = u32> + Debug, T: Telling, R: Read + Drop, W: Write>(
-    telling: &mut T,
-    first: u64,
-    lines: &mut Lines<R>,
-    output: &mut W,
-) -> Result<(), Fault>
-    requires messages { 1 ≤ L.capacity }
-    requires subscribers { L.places ≡ 4 }
-    ensures { PlaysPubSub ⟦<u64 as PartialEq>⟧.eq T.tells L.capacity first lines.old.number lines.old.left (W.contents output.old) (W.contents output.new) result }
-{
-    serve::<PubSubWords, _, T, R, W>(telling, pubsub::<L>(first), lines, output)
-}
-
 fn serve_pubsub<T: Telling, R: Read + Drop, W: Write>(
     telling: &mut T,
     capacity: Capacity,
@@ -430,7 +416,7 @@ fn serve_pubsub<T: Telling, R: Read + Drop, W: Write>(
 {
     at_capacity!(
         capacity,
-        at_logs!(serve_log::<T, R, W>(telling, first, lines, output))
+        at_logs!(serve::<PubSubWords, T, R, W>(telling, first, lines, output))
     )
 }
 
