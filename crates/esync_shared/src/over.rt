@@ -6,7 +6,7 @@ use bumpalo::Bump;
 use esync_base::deque::Deque;
 use esync_base::ring_buffer::ByteRing;
 use esync_base::store::{ByteStore, Store};
-use esync_base::waitqueue::{Hand, TaskId, WakerList, Wakes};
+use esync_base::waitqueue::{Hand, TaskId, WakerList};
 use esync_cells::signal::Signal;
 use esync_cells::watch::{SharedWatch, Watch};
 use esync_channel::channel::SharedMailbox;
@@ -26,7 +26,7 @@ use esync_permits::semaphore::machine::{PermitCall, PermitHeard};
 use esync_permits::semaphore::{Amount, FairState, GreedyState, PermitState, SharedSemaphore};
 use esync_pipe::pipe::{DynamicReader, DynamicWriter, SharedPipe};
 use esync_priority::prio::{Kind, PrioQueue};
-use esync_pubsub::pubsub::{Log, LogStore, SharedPubSub};
+use esync_pubsub::pubsub::{LogStore, PubSubChannel, SharedPubSub};
 use esync_script::channel::ChannelWords;
 use esync_script::mutex::MutexWords;
 use esync_script::once::OnceWords;
@@ -213,21 +213,34 @@ pub fn pipe<R: Wait, W: Write>(
     }
 }
 
-// Over a pub-sub channel over this log, at which nobody is.
-fn topic<L: LogStore<Message = u32>, R: Wait, W: Write>(
+// Over this pub-sub channel, at which nobody is.
+fn log<
+    G: LogStore<Message = u32>,
+    S: WakerList<Waker = u64>,
+    P: WakerList<Waker = u64>,
+    H: Hand<u64>,
+    R: Wait,
+    W: Write,
+    const K: usize,
+>(
     stage: Stage<'_, '_, R>,
+    channel: &SharedPubSub<G, S, P, H, K>,
     script: &mut Script<'_>,
     output: &mut W,
-) -> Result<(), Fault>
-    requires messages { 1 ≤ L.capacity }
-    requires subscribers { L.places ≤ 4 }
-{
-    let channel: SharedPubSub<L, Wakes<u64, 4>, Wakes<u64, 4>, &Notes<'_, R>, 4> =
-        SharedPubSub::new(stage.notes);
-    match PubSub::new(stage.alloc, &channel, stage.doors) {
+) -> Result<(), Fault> {
+    match PubSub::new(stage.alloc, channel, stage.doors) {
         Ok(form) => serve::<PubSubWords, _, R, W>(stage, form, script, output),
         Err(AllocError) => Err(Fault::OutOfMemory),
     }
+}
+
+// Over the pub-sub channel of so many messages. It is spelled out, so that its bytes are known.
+macro_rules! topic {
+    ($n:literal, $of:ident, $stage:ident, $script:ident, $output:ident) => {{
+        let channel: PubSubChannel<u32, u64, &Notes<'_, $of>, $n, 4, 4, 4> =
+            PubSubChannel::new($stage.notes);
+        log($stage, &channel, $script, $output)
+    }};
 }
 
 /// Over a pub-sub channel, whose first message has the number 0: a shared channel begins nowhere else.
@@ -242,11 +255,11 @@ pub fn pubsub<R: Wait, W: Write>(
         return Err(Fault::NotACommand(1));
     }
     match capacity {
-        Capacity::One => topic::<Log<u32, 1, 4>, R, W>(stage, script, output),
-        Capacity::Two => topic::<Log<u32, 2, 4>, R, W>(stage, script, output),
-        Capacity::Three => topic::<Log<u32, 3, 4>, R, W>(stage, script, output),
-        Capacity::Four => topic::<Log<u32, 4, 4>, R, W>(stage, script, output),
-        Capacity::Eight => topic::<Log<u32, 8, 4>, R, W>(stage, script, output),
+        Capacity::One => topic!(1, R, stage, script, output),
+        Capacity::Two => topic!(2, R, stage, script, output),
+        Capacity::Three => topic!(3, R, stage, script, output),
+        Capacity::Four => topic!(4, R, stage, script, output),
+        Capacity::Eight => topic!(8, R, stage, script, output),
     }
 }
 
