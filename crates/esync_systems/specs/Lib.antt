@@ -1,0 +1,4 @@
+pub mod Pair
+pub mod PairLaws
+pub mod Parts
+pub mod Asking
