@@ -1,0 +1,9 @@
+pub mod Determined
+pub mod Certified
+pub mod Places
+pub mod Waking
+pub mod Alike
+pub mod Turning
+pub mod Flags
+pub mod Waiting
+pub mod Opening
