@@ -1,4 +1,4 @@
-pub mod Determined
+pub mod OneWorld
 pub mod Certified
 pub mod Places
 pub mod Waking
@@ -7,3 +7,4 @@ pub mod Turning
 pub mod Flags
 pub mod Waiting
 pub mod Opening
+pub mod Functional

@@ -6,3 +6,4 @@ pub mod Schedules
 pub mod Positions
 pub mod Certificates
 pub mod Verdicts
+pub mod Functional
