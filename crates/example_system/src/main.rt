@@ -1,0 +1,143 @@
+//! Systems of two mutexes, and of one channel: what is true of every schedule of their tasks.
+#![tactic(auto)]
+
+use esync_base::waitqueue::TaskId;
+use esync_channel::channel::ChannelState;
+use esync_channel::channel::machine::{ChannelAsk, ChannelCommand, ChannelRun};
+use esync_compared::channel::ChannelStates;
+use esync_compared::mutex::MutexStates;
+use esync_guards::mutex::Second;
+use esync_guards::mutex::machine::{Guarded, Lock, MutexCommand, MutexRun};
+use esync_history::executor::{Act, NewError};
+use esync_machine::primitive::Command;
+use esync_machine::requests::Requests;
+use esync_systems::compare::{ComparesBoth, ComparesRequests};
+use esync_systems::explore::{Verdict, explore};
+use esync_systems::pair::{Pair, PairAsk, PairCommand};
+use std::alloc::{AllocError, Global};
+use std::io;
+
+type Mutex = MutexRun<(u32, u32), u32, Second, TaskId, 3, 1>;
+
+type Channel = ChannelRun<u32, TaskId, 1, 8, 1>;
+
+type LockCommand = MutexCommand<(u32, u32), u32, TaskId>;
+
+type LockAct = Act<PairAsk<Lock, Lock>, PairCommand<LockCommand, LockCommand>>;
+
+type ChannelAct = Act<ChannelAsk<u32>, ChannelCommand<u32, TaskId>>;
+
+// The requests of the left mutex have the even numbers, and those of the right one the odd ones.
+fn lock_left(r: u8) -> LockAct {
+    Act::Await(2 * r as usize, PairAsk::AskLeft(Lock {}))
+}
+
+fn lock_right(r: u8) -> LockAct {
+    Act::Await(2 * r as usize + 1, PairAsk::AskRight(Lock {}))
+}
+
+fn unlock_left(r: u8) -> LockAct {
+    Act::Call(PairCommand::ToLeft(Command::End(r as usize)))
+}
+
+fn unlock_right(r: u8) -> LockAct {
+    Act::Call(PairCommand::ToRight(Command::End(r as usize)))
+}
+
+fn left_first(alloc: Global, r: u8) -> Result<Vec<LockAct>, AllocError> {
+    Ok(vec![in alloc;
+        lock_left(r),
+        lock_right(r),
+        unlock_right(r),
+        unlock_left(r),
+    ]?)
+}
+
+fn right_first(alloc: Global, r: u8) -> Result<Vec<LockAct>, AllocError> {
+    Ok(vec![in alloc;
+        lock_right(r),
+        lock_left(r),
+        unlock_left(r),
+        unlock_right(r),
+    ]?)
+}
+
+fn explore_mutexes(alloc: Global, tasks: &[Vec<LockAct>]) -> Result<Verdict, NewError> {
+    let mutexes: Pair<Mutex, Mutex, 6> = Pair {
+        left: Requests::new(Guarded::new((0, 0), Second {})),
+        right: Requests::new(Guarded::new((0, 0), Second {})),
+    };
+    let mutex = ComparesRequests {
+        states: MutexStates {},
+    };
+    let compares = ComparesBoth {
+        left: mutex,
+        right: mutex,
+    };
+    explore(alloc, &compares, mutexes, tasks, 1000)
+}
+
+// Two tasks, each of which takes both mutexes, in the other's order.
+fn opposite_orders(alloc: Global) -> Result<Vec<Vec<LockAct>>, AllocError> {
+    Ok(vec![in alloc; left_first(alloc, 0)?, right_first(alloc, 1)?]?)
+}
+
+// So many tasks, each of which takes the left mutex and then the right one.
+fn one_order(alloc: Global, count: u8) -> Result<Vec<Vec<LockAct>>, AllocError> {
+    let mut tasks = Vec::new(alloc);
+    for r in 0..count {
+        tasks.push(left_first(alloc, r)?)?;
+    }
+    Ok(tasks)
+}
+
+// Each consumer receives one message, and the last task sends so many.
+fn consumers(alloc: Global, count: usize, sent: usize) -> Result<Vec<Vec<ChannelAct>>, AllocError> {
+    let mut tasks = Vec::new(alloc);
+    let mut producer = Vec::new(alloc);
+    for r in 0..count {
+        tasks.push(vec![in alloc; Act::Await(r, ChannelAsk::Receive)]?)?;
+    }
+    for r in count..count.saturating_add(sent) {
+        producer.push(Act::Await(r, ChannelAsk::Send(7)))?;
+    }
+    tasks.push(producer)?;
+    Ok(tasks)
+}
+
+fn explore_channel(alloc: Global, tasks: &[Vec<ChannelAct>]) -> Result<Verdict, NewError> {
+    let channel: Channel = Requests::new(ChannelState::new());
+    let compares = ComparesRequests {
+        states: ChannelStates {},
+    };
+    explore(alloc, &compares, channel, tasks, 1000)
+}
+
+fn tell(rt: &impl Print, title: &str, found: Result<Verdict, NewError>) -> io::Result<()> {
+    match found {
+        Ok(verdict) => println!(rt; "{title}: {verdict}"),
+        Err(error) => println!(rt; "{title}: {error}"),
+    }
+}
+
+fn lock(alloc: Global, count: u8) -> Result<Verdict, NewError> {
+    explore_mutexes(alloc, &one_order(alloc, count)?)
+}
+
+fn lock_crosswise(alloc: Global) -> Result<Verdict, NewError> {
+    explore_mutexes(alloc, &opposite_orders(alloc)?)
+}
+
+fn consume(alloc: Global, count: usize, sent: usize) -> Result<Verdict, NewError> {
+    explore_channel(alloc, &consumers(alloc, count, sent)?)
+}
+
+fn main(rt: HostRuntime) -> io::Result<()> {
+    let alloc = rt.alloc();
+    tell(&rt, "two mutexes in opposite orders", lock_crosswise(alloc))?;
+    tell(&rt, "two mutexes in one order", lock(alloc, 2))?;
+    tell(&rt, "three tasks in one order", lock(alloc, 3))?;
+    tell(&rt, "one consumer", consume(alloc, 1, 1))?;
+    tell(&rt, "two consumers", consume(alloc, 2, 2))?;
+    tell(&rt, "two consumers, one message", consume(alloc, 2, 1))
+}

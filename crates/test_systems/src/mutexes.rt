@@ -1,0 +1,127 @@
+//! Tasks that take one mutex, or two.
+
+use crate::schedule;
+use esync_base::waitqueue::TaskId;
+use esync_compared::mutex::MutexStates;
+use esync_guards::mutex::Second;
+use esync_guards::mutex::machine::{Guarded, Lock, MutexCommand, MutexRun};
+use esync_history::executor::{Act, NewError};
+use esync_machine::primitive::Command;
+use esync_machine::requests::Requests;
+use esync_systems::compare::{ComparesBoth, ComparesRequests};
+use esync_systems::explore::{Verdict, explore};
+use esync_systems::pair::{Pair, PairAsk, PairCommand};
+use std::alloc::{AllocError, Global};
+
+type Mutex = MutexRun<(u32, u32), u32, Second, TaskId, 4, 1>;
+
+type OneCommand = MutexCommand<(u32, u32), u32, TaskId>;
+
+type OneAct = Act<Lock, OneCommand>;
+
+type BothAct = Act<PairAsk<Lock, Lock>, PairCommand<OneCommand, OneCommand>>;
+
+const MUTEX: ComparesRequests<MutexStates> = ComparesRequests {
+    states: MutexStates {},
+};
+
+fn mutex() -> Mutex {
+    Requests::new(Guarded::new((0, 0), Second {}))
+}
+
+// So many tasks, each of which locks the mutex and unlocks it.
+fn lockers(alloc: Global, count: usize) -> Result<Vec<Vec<OneAct>>, AllocError> {
+    let mut tasks = Vec::new(alloc);
+    for r in 0..count {
+        let task = vec![in alloc; Act::Await(r, Lock {}), Act::Call(Command::End(r))]?;
+        tasks.push(task)?;
+    }
+    Ok(tasks)
+}
+
+fn explore_one(alloc: Global, count: usize, limit: usize) -> Result<Verdict, NewError> {
+    explore(alloc, &MUTEX, mutex(), &lockers(alloc, count)?, limit)
+}
+
+// A task that takes the left mutex first, or the right one.
+fn takes_both(alloc: Global, r: u8, left_first: bool) -> Result<Vec<BothAct>, AllocError> {
+    let r = r as usize;
+    let left = Act::Await(2 * r, PairAsk::AskLeft(Lock {}));
+    let right = Act::Await(2 * r + 1, PairAsk::AskRight(Lock {}));
+    let end_left = Act::Call(PairCommand::ToLeft(Command::End(r)));
+    let end_right = Act::Call(PairCommand::ToRight(Command::End(r)));
+    if left_first {
+        Ok(vec![in alloc; left, right, end_right, end_left]?)
+    } else {
+        Ok(vec![in alloc; right, left, end_left, end_right]?)
+    }
+}
+
+fn takers(alloc: Global, orders: &[bool]) -> Result<Vec<Vec<BothAct>>, AllocError> {
+    let mut tasks = Vec::new(alloc);
+    for (r, left_first) in (0..u8::MAX).zip(orders) {
+        tasks.push(takes_both(alloc, r, *left_first)?)?;
+    }
+    Ok(tasks)
+}
+
+fn explore_both(alloc: Global, orders: &[bool], limit: usize) -> Result<Verdict, NewError> {
+    let both: Pair<Mutex, Mutex, 8> = Pair {
+        left: mutex(),
+        right: mutex(),
+    };
+    let compares = ComparesBoth {
+        left: MUTEX,
+        right: MUTEX,
+    };
+    explore(alloc, &compares, both, &takers(alloc, orders)?, limit)
+}
+
+// Two requests of one number.
+fn locks_twice(alloc: Global) -> Result<Vec<Vec<OneAct>>, AllocError> {
+    let locks = vec![in alloc; Act::Await(0, Lock {}), Act::Await(0, Lock {})]?;
+    Ok(vec![in alloc; locks]?)
+}
+
+#[test]
+fn no_task_has_ended(rt: HostRuntime) -> Result<(), NewError> {
+    assert!(&rt; explore_one(rt.alloc(), 0, 1)? == Verdict::AllEnd(0));
+    Ok(())
+}
+
+#[test]
+fn two_tasks_of_one_mutex_end(rt: HostRuntime) -> Result<(), NewError> {
+    assert!(&rt; explore_one(rt.alloc(), 2, 11)? == Verdict::TooMany(11));
+    assert!(&rt; explore_one(rt.alloc(), 2, 12)? == Verdict::AllEnd(5));
+    Ok(())
+}
+
+#[test]
+fn three_tasks_of_one_mutex_may_displace_one_another(rt: HostRuntime) -> Result<(), NewError> {
+    assert!(&rt; explore_one(rt.alloc(), 3, 55)? == Verdict::TooMany(55));
+    assert!(&rt; explore_one(rt.alloc(), 3, 56)? == Verdict::AllCanEnd);
+    Ok(())
+}
+
+#[test]
+fn one_order_ends(rt: HostRuntime) -> Result<(), NewError> {
+    let two = [true, true];
+    assert!(&rt; explore_both(rt.alloc(), &two, 23)? == Verdict::TooMany(23));
+    assert!(&rt; explore_both(rt.alloc(), &two, 24)? == Verdict::AllEnd(9));
+    Ok(())
+}
+
+#[test]
+fn opposite_orders_stall(rt: HostRuntime) -> Result<(), NewError> {
+    let schedule = schedule(rt.alloc(), &[0, 1, 0, 1])?;
+    assert!(&rt; explore_both(rt.alloc(), &[true, false], 1000)? == Verdict::Stalls(schedule));
+    Ok(())
+}
+
+#[test]
+fn a_number_that_is_used_twice_is_refused(rt: HostRuntime) -> Result<(), NewError> {
+    let tasks = locks_twice(rt.alloc())?;
+    let refused = explore(rt.alloc(), &MUTEX, mutex(), &tasks, 10);
+    assert!(&rt; matches!(refused, Err(NewError::NoSuch)));
+    Ok(())
+}
