@@ -139,5 +139,6 @@ fn main(rt: HostRuntime) -> io::Result<()> {
     tell(&rt, "three tasks in one order", lock(alloc, 3))?;
     tell(&rt, "one consumer", consume(alloc, 1, 1))?;
     tell(&rt, "two consumers", consume(alloc, 2, 2))?;
-    tell(&rt, "two consumers, one message", consume(alloc, 2, 1))
+    tell(&rt, "two consumers, one message", consume(alloc, 2, 1))?;
+    tell(&rt, "two consumers, no message", consume(alloc, 2, 0))
 }

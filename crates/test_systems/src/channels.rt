@@ -119,3 +119,11 @@ fn a_service_with_room_can_end(rt: HostRuntime) -> Result<(), NewError> {
     assert!(&rt; serve(rt.alloc(), 119)? == Verdict::AllCanEnd);
     Ok(())
 }
+
+#[test]
+fn two_consumers_wake_each_other_for_ever(rt: HostRuntime) -> Result<(), NewError> {
+    assert!(&rt; consume(rt.alloc(), 2, 0, 4)? == Verdict::TooMany(4));
+    let none = Verdict::NeverEnds(Vec::new(rt.alloc()));
+    assert!(&rt; consume(rt.alloc(), 2, 0, 5)? == none);
+    Ok(())
+}
