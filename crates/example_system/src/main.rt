@@ -1,18 +1,23 @@
 //! Systems of two mutexes, and of one channel: what is true of every schedule of their tasks.
 #![tactic(auto)]
 
+ghost use Rattle.std.specs.Prelude.{◌≡◌, map, Ok};
+ghost use Rattle.esync_systems.specs.Schedules.{opened, EveryScheduleCanEnd};
+
 use esync_base::waitqueue::TaskId;
 use esync_channel::channel::ChannelState;
 use esync_channel::channel::machine::{ChannelAsk, ChannelCommand, ChannelRun};
-use esync_compared::channel::ChannelStates;
+use esync_compared::channel::{ChannelStates, channel_is_functional};
 use esync_compared::mutex::MutexStates;
 use esync_guards::mutex::Second;
 use esync_guards::mutex::machine::{Guarded, Lock, MutexCommand, MutexRun};
 use esync_history::executor::{Act, NewError};
 use esync_machine::primitive::Command;
 use esync_machine::requests::Requests;
+use esync_machine::run::{Awaits, Machine};
 use esync_systems::compare::{ComparesBoth, ComparesRequests};
-use esync_systems::explore::{Verdict, explore};
+use esync_systems::determined::determined;
+use esync_systems::explore::{Verdict, explore, explore_pair};
 use esync_systems::pair::{Pair, PairAsk, PairCommand};
 use std::alloc::{AllocError, Global};
 use std::io;
@@ -74,7 +79,7 @@ fn explore_mutexes(alloc: Global, tasks: &[Vec<LockAct>]) -> Result<Verdict, New
         left: mutex,
         right: mutex,
     };
-    explore(alloc, &compares, mutexes, tasks, 1000)
+    explore_pair(alloc, &compares, mutexes, tasks, 1000)
 }
 
 // Two tasks, each of which takes both mutexes, in the other's order.
@@ -105,8 +110,16 @@ fn consumers(alloc: Global, count: usize, sent: usize) -> Result<Vec<Vec<Channel
     Ok(tasks)
 }
 
-fn explore_channel(alloc: Global, tasks: &[Vec<ChannelAct>]) -> Result<Verdict, NewError> {
-    let channel: Channel = Requests::new(ChannelState::new());
+// What a step of a channel answers and leaves is determined, so what is found holds of every schedule.
+fn explore_channel(
+    alloc: Global,
+    channel: Channel,
+    tasks: &[Vec<ChannelAct>],
+) -> Result<Verdict, NewError>
+    ensures { result ≡ Ok Verdict.AllCanEnd → EveryScheduleCanEnd ⟦<Channel as Machine>⟧.semantics.meaning ⟦<Channel as Awaits>⟧.starting (opened ⟦<Channel as Machine>⟧.semantics channel (map (λ acts. acts.items) tasks.now)) }
+{
+    channel_is_functional::<u32, 1>();
+    determined::<ChannelState<u32, TaskId, 1>, 1>();
     let compares = ComparesRequests {
         states: ChannelStates {},
     };
@@ -129,7 +142,11 @@ fn lock_crosswise(alloc: Global) -> Result<Verdict, NewError> {
 }
 
 fn consume(alloc: Global, count: usize, sent: usize) -> Result<Verdict, NewError> {
-    explore_channel(alloc, &consumers(alloc, count, sent)?)
+    explore_channel(
+        alloc,
+        Requests::new(ChannelState::new()),
+        &consumers(alloc, count, sent)?,
+    )
 }
 
 fn main(rt: HostRuntime) -> io::Result<()> {

@@ -8,7 +8,7 @@ use esync_compared::channel::ChannelStates;
 use esync_history::executor::{Act, NewError};
 use esync_machine::requests::Requests;
 use esync_systems::compare::{ComparesBoth, ComparesRequests};
-use esync_systems::explore::{Verdict, explore};
+use esync_systems::explore::{Verdict, explore, explore_pair};
 use esync_systems::pair::{Pair, PairAsk, PairCommand};
 use std::alloc::{AllocError, Global};
 
@@ -89,7 +89,7 @@ fn serve(alloc: Global, limit: usize) -> Result<Verdict, NewError> {
         left: CHANNEL,
         right: CHANNEL,
     };
-    explore(alloc, &compares, both, &service(alloc)?, limit)
+    explore_pair(alloc, &compares, both, &service(alloc)?, limit)
 }
 
 #[test]

@@ -9,7 +9,7 @@ use esync_history::executor::{Act, NewError};
 use esync_machine::primitive::Command;
 use esync_machine::requests::Requests;
 use esync_systems::compare::{ComparesBoth, ComparesRequests};
-use esync_systems::explore::{Verdict, explore};
+use esync_systems::explore::{Verdict, explore, explore_pair};
 use esync_systems::pair::{Pair, PairAsk, PairCommand};
 use std::alloc::{AllocError, Global};
 
@@ -74,7 +74,7 @@ fn explore_both(alloc: Global, orders: &[bool], limit: usize) -> Result<Verdict,
         left: MUTEX,
         right: MUTEX,
     };
-    explore(alloc, &compares, both, &takers(alloc, orders)?, limit)
+    explore_pair(alloc, &compares, both, &takers(alloc, orders)?, limit)
 }
 
 // Two requests of one number.
