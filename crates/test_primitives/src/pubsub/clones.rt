@@ -12,21 +12,33 @@ use std::alloc::{AllocError, Global};
 use std::cell::Cell;
 use std::process::Abort;
 
-/// A message that counts its clones, and whose clone has no memory while the cell says so.
+/// A message that counts its clones. Its next clone has no memory where the lowest bit of `refused` is set, the one behind it where the
+/// second lowest is, and so on.
 #[derive(Drop)]
-pub struct Counted<'a> {
-    is_refused: &'a Cell<bool>,
+pub struct Counted {
+    refused: Cell<u32>,
     pub clones: u32,
     text: &'static str,
 }
 
-impl Clone for Counted<'_> {
+// No clone is refused; the first one is; the first and the third; the first 32 are.
+const NONE: u32 = 0;
+
+const THE_FIRST: u32 = 1;
+
+const BUT_THE_SECOND: u32 = 5;
+
+const MANY: u32 = u32::MAX;
+
+impl Clone for Counted {
     fn clone(&self) -> Result<Self, AllocError> {
-        if self.is_refused.get() {
+        let refused = self.refused.get();
+        self.refused.set(refused / 2);
+        if refused % 2 == 1 {
             return Err(AllocError);
         }
         Ok(Counted {
-            is_refused: self.is_refused,
+            refused: Cell::new(refused / 2),
             clones: self.clones.saturating_add(1),
             text: self.text,
         })
@@ -34,24 +46,19 @@ impl Clone for Counted<'_> {
 }
 
 /// A message that wasn't cloned yet.
-pub fn message<'a>(is_refused: &'a Cell<bool>, text: &'static str) -> Counted<'a> {
+pub fn message(refused: u32, text: &'static str) -> Counted {
     Counted {
-        is_refused,
+        refused: Cell::new(refused),
         clones: 0,
         text,
     }
 }
 
-fn publishes<'a>(
-    rt: &impl Abort,
-    state: &mut Two<Counted<'a>, 2>,
-    is_refused: &'a Cell<bool>,
-    text: &'static str,
-) {
+fn publishes(rt: &impl Abort, state: &mut Two<Counted, 2>, refused: u32, text: &'static str) {
     let mut wakes: Wakes<u64, 2> = Wakes::new();
     holds!(rt;
         state
-            .publish_immediate(message(is_refused, text), &mut wakes)
+            .publish_immediate(message(refused, text), &mut wakes)
             .is_ok()
     );
 }
@@ -59,7 +66,7 @@ fn publishes<'a>(
 // A read gives a message with this text that was cloned so often.
 fn reads(
     rt: &impl Abort,
-    state: &mut Two<Counted<'_>, 2>,
+    state: &mut Two<Counted, 2>,
     id: &SubId,
     text: &'static str,
     clones: u32,
@@ -76,60 +83,48 @@ fn reads(
 }
 
 // Two read a message: the first one a clone of it.
-fn first_reads_a_clone<'a>(
-    rt: &impl Abort,
-    state: &mut Two<Counted<'a>, 2>,
-    is_refused: &'a Cell<bool>,
-) {
+fn first_reads_a_clone(rt: &impl Abort, state: &mut Two<Counted, 2>) {
     let first = joins(rt, state);
     let second = joins(rt, state);
-    publishes(rt, state, is_refused, "x");
+    publishes(rt, state, NONE, "x");
     reads(rt, state, &first, "x", 1);
     reads(rt, state, &second, "x", 0);
 }
 
 #[test]
 fn the_last_reader_is_given_the_message_itself(rt: HostRuntime) {
-    let is_refused = Cell::new(false);
-    let mut state: Two<Counted<'_>, 2> = PubSubState::new();
-    first_reads_a_clone(&rt, &mut state, &is_refused);
+    let mut state: Two<Counted, 2> = PubSubState::new();
+    first_reads_a_clone(&rt, &mut state);
 }
 
-// Two read a message, which the first one is refused at first.
-fn first_is_refused<'a>(
-    rt: &impl Abort,
-    state: &mut Two<Counted<'a>, 2>,
-    is_refused: &'a Cell<bool>,
-) {
+// Two read a message, which the first one is refused at first. The second one is given the message itself: a clone would be refused.
+fn first_is_refused(rt: &impl Abort, state: &mut Two<Counted, 2>) {
     let first = joins(rt, state);
     let second = joins(rt, state);
-    publishes(rt, state, is_refused, "x");
+    publishes(rt, state, BUT_THE_SECOND, "x");
     let mut wakes: Wakes<u64, 2> = Wakes::new();
     holds!(rt; state.is_subscriber(&first));
     holds!(rt; state.try_next_message(&first, &mut wakes).is_err());
     has(rt, state, &first, 1);
     same!(rt; state.len(), 1);
-    is_refused.set(false);
     reads(rt, state, &first, "x", 1);
-    is_refused.set(true);
     reads(rt, state, &second, "x", 0);
     same!(rt; state.len(), 0);
 }
 
 #[test]
 fn a_refused_clone_moves_nobody(rt: HostRuntime) {
-    let is_refused = Cell::new(true);
-    let mut state: Two<Counted<'_>, 2> = PubSubState::new();
-    first_is_refused(&rt, &mut state, &is_refused);
+    let mut state: Two<Counted, 2> = PubSubState::new();
+    first_is_refused(&rt, &mut state);
 }
 
 // One of two who lag is refused a pure read, and hears of its lag afterwards.
-fn lag_is_left<'a>(rt: &impl Abort, state: &mut Two<Counted<'a>, 2>, is_refused: &'a Cell<bool>) {
+fn lag_is_left(rt: &impl Abort, state: &mut Two<Counted, 2>) {
     let first = joins(rt, state);
     let _second = joins(rt, state);
-    publishes(rt, state, is_refused, "p");
-    publishes(rt, state, is_refused, "q");
-    publishes(rt, state, is_refused, "r");
+    publishes(rt, state, MANY, "p");
+    publishes(rt, state, MANY, "q");
+    publishes(rt, state, MANY, "r");
     let mut wakes: Wakes<u64, 2> = Wakes::new();
     holds!(rt; state.is_subscriber(&first));
     holds!(rt; state.try_next_message_pure(&first, &mut wakes).is_err());
@@ -146,15 +141,14 @@ fn lag_is_left<'a>(rt: &impl Abort, state: &mut Two<Counted<'a>, 2>, is_refused:
 
 #[test]
 fn a_refused_pure_read_leaves_its_lag(rt: HostRuntime) {
-    let is_refused = Cell::new(true);
-    let mut state: Two<Counted<'_>, 2> = PubSubState::new();
-    lag_is_left(&rt, &mut state, &is_refused);
+    let mut state: Two<Counted, 2> = PubSubState::new();
+    lag_is_left(&rt, &mut state);
 }
 
-type Topic<'a> = PubSubRun<Counted<'a>, u64, 2, 2, 2, 2, 1, 2>;
+type Topic = PubSubRun<Counted, u64, 2, 2, 2, 2, 1, 2>;
 
 // The text of the message that was read.
-fn text(reply: Option<&PubSubReply<Counted<'_>, u64, 2>>) -> Option<&'static str> {
+fn text(reply: Option<&PubSubReply<Counted, u64, 2>>) -> Option<&'static str> {
     match &reply?.answer {
         Answer::Gives(Heard::Read(WaitResult::Message(message))) => Some(message.text),
         Answer::Gives(Heard::ReadPure(message)) => Some(message.text),
@@ -164,16 +158,16 @@ fn text(reply: Option<&PubSubReply<Counted<'_>, u64, 2>>) -> Option<&'static str
 }
 
 // The reply tells of want of memory.
-fn is_refusal(reply: Option<&PubSubReply<Counted<'_>, u64, 2>>) -> bool {
+fn is_refusal(reply: Option<&PubSubReply<Counted, u64, 2>>) -> bool {
     reply.is_some_and(|reply| matches!(reply.answer, Answer::NoMemory))
 }
 
 // Two join, a message is published, and the first one's request of this kind is polled and refused.
-fn is_refused_at_first<'a>(
+fn is_refused_at_first(
     alloc: Global,
-    topic: &mut Topic<'a>,
-    message: Counted<'a>,
-    ask: Ask<Counted<'a>>,
+    topic: &mut Topic,
+    message: Counted,
+    ask: Ask<Counted>,
 ) -> Result<bool, AllocError> {
     let commands = vec![in alloc;
         Command::Call(Call::Join(0)),
@@ -187,35 +181,27 @@ fn is_refused_at_first<'a>(
 }
 
 // The text of the message that one more poll of the request reads.
-fn reads_at_last(alloc: Global, topic: &mut Topic<'_>) -> Result<Option<&'static str>, AllocError> {
+fn reads_at_last(alloc: Global, topic: &mut Topic) -> Result<Option<&'static str>, AllocError> {
     let replies = run_pubsub(alloc, topic, vec![in alloc; Command::Poll(0, 9)]?)?;
     Ok(text(replies.last()))
 }
 
 // A request of this kind whose clone is refused reads later.
-fn reads_later<'a>(
-    rt: &impl Abort,
-    alloc: Global,
-    is_refused: &'a Cell<bool>,
-    ask: Ask<Counted<'a>>,
-) {
-    is_refused.set(true);
-    let mut topic: Topic<'_> = Requests::new(Events::new_at(0));
-    let message = message(is_refused, "x");
+fn reads_later(rt: &impl Abort, alloc: Global, ask: Ask<Counted>) {
+    let mut topic: Topic = Requests::new(Events::new_at(0));
+    let message = message(THE_FIRST, "x");
     holds!(rt; is_refused_at_first(alloc, &mut topic, message, ask) == Ok(true));
-    is_refused.set(false);
     holds!(rt; reads_at_last(alloc, &mut topic) == Ok(Some("x")));
 }
 
 // As does one of each kind that reads.
-fn each_reads_later<'a>(rt: &impl Abort, alloc: Global, is_refused: &'a Cell<bool>) {
+fn each_reads_later(rt: &impl Abort, alloc: Global) {
     for ask in [Ask::Message(0), Ask::MessagePure(0), Ask::Stream(0)] {
-        reads_later(rt, alloc, is_refused, ask);
+        reads_later(rt, alloc, ask);
     }
 }
 
 #[test]
 fn a_request_whose_clone_is_refused_reads_later(rt: HostRuntime) {
-    let is_refused = Cell::new(true);
-    each_reads_later(&rt, rt.alloc(), &is_refused);
+    each_reads_later(&rt, rt.alloc());
 }
