@@ -1,8 +1,8 @@
 //! Times the state forms, and the shared forms over a lock, beside embassy-sync 0.6.2.
 //!
 //! Prints a line a case, `case ours_ns upstream_ns ratio`, and then the largest ratio. Times are nanoseconds for a message that
-//! goes in and comes out again. Arguments, where given, are the cases to run;
-//! `sizes` prints how many bytes each primitive takes, in place of times.
+//! goes in and comes out again. Arguments, where given, are the cases to run. The argument `sizes` prints how many bytes each
+//! primitive takes, and times nothing.
 mod cases;
 mod host_mutex;
 mod ours;
