@@ -4,7 +4,7 @@ use denote.Param.{layout, param, number}
 use denote.RattleType.{RattleType}
 use denote.Struct.Declared.{shape}
 use Rattle.esync_base.proofs.Parts.{Fits, part_fits}
-use Rattle.esync_base.specs.contracts.deque.Row.{the_row as places_row}
+use Rattle.esync_rows.specs.contracts.row.Row.{the_row as places_row}
 use Rattle.esync_base.specs.contracts.deque.Deque.{the_row}
 use Rattle.esync_base.specs.contracts.deque.Deque.TheInside.{the_type}
 

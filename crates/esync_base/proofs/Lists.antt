@@ -80,6 +80,9 @@ take_suc (x ∷ xs) (suc i) = ap (λ ys. x ∷ ys) (take_suc xs i)
 pub take_next : {A : Type 0} (xs : List A) (i : ℕ) → take (i + 1) xs ≡ take i xs ++ slot_wakers (slice_get xs i)
 take_next xs i = ap (λ k. take k xs) (let h : i + 1 ≡ suc i = omega arith in h) ∙ take_suc xs i
 
+pub take_more : {A : Type 0} (xs : List A) (i : ℕ) (x : A) → slice_get xs i ≡ Some x → take (i + 1) xs ≡ take i xs ++ x ∷ []
+take_more xs i x h = take_next xs i ∙ ap (λ o. take i xs ++ slot_wakers o) h
+
 -- a list with the wakers of another so far, and the next of them, if there is one
 pub hand_next : {A : Type 0} (us vs ws : List A) (i : ℕ) (o : Option A) → slice_get vs i ≡ o → ws ≡ us ++ take i vs → ws ++ slot_wakers o ≡ us ++ take (i + 1) vs
 hand_next us vs ws i o at so_far =

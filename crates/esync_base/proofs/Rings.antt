@@ -1,18 +1,18 @@
 -- A ring after each of its calls.
 use Rattle.std.proofs.Common.{◌≡◌, ℕ, zero, suc, ◌+◌, ◌-◌, ◌<◌, ◌≤◌, Bool, true, false, not, List, [], ◌∷◌, ◌++◌, length, Option, Some, None, refl, sym, ap, ◌∙◌, inl, inr, ◌⊎◌, ◌≢◌, get_or, set, take, drop, append_assoc, length-append, length-set, arith}
-use Rattle.std.specs.Prelude.{map, slice_get, ◌↔◌, IsTrue}
+use Rattle.std.specs.Prelude.{map, slice_get, ◌↔◌, IsTrue, IsSome}
 use Rattle.std.specs.List.{remove}
 use Rattle.std.proofs.Math.ListN.{replicate}
-use Rattle.std.proofs.lemmas.List.{length-replicate, append-nil, replicate_more, take-append-drop, drop-replicate, take-replicate, replicate-append-replicate}
+use Rattle.std.proofs.lemmas.List.{length-replicate, append-nil, get_or-set_other, set-set, replicate_more, take-append-drop, drop-replicate, take-replicate, replicate-append-replicate}
 use Rattle.std.proofs.Math.Seq.{take-append_seam, drop-append_seam}
-use Rattle.std.proofs.lemmas.Option.{slice_get_cases}
 use Rattle.std.proofs.lemmas.List.Edits.{length-remove}
 use Rattle.std.proofs.lemmas.List.{length_push}
 use Rattle.esync_base.specs.Rows.{items_of, row_of}
 use Rattle.esync_base.specs.Ring.{Ringed, next, slot}
-use Rattle.esync_base.specs.Places.{read_from, items_from, IsRing, closed}
+use Rattle.esync_base.specs.Places.{read_from, items_from, IsRing, closed, HoldsBehind}
 use Rattle.esync_base.proofs.Lists.{items_of-row, set_is, get-row}
 use Rattle.esync_base.proofs.Places.{slot-is, next-within, lt_or_le, slot-next, slot-add, slot-round, slot-apart}
+use Rattle.esync_base.proofs.Stretches.{slot-within}
 use Rattle.esync_base.proofs.Turned.{read-set, read-get, read-next, length-closed, read-closed, gathered, gathered-removed}
 
 -- a row that is read as these items is a ring of them
@@ -32,11 +32,62 @@ laid_as n row start end full xs laid places fits first last filled =
       is,
     )
 
-pub new_ring : {A : Type 0} (n : ℕ) → IsRing {A = A} n (replicate n None) 0 0 false × (items_from {A = A} 0 (replicate n None) ≡ [])
-new_ring n =
-    laid_as n (replicate n None) 0 0 false []
-    (append-nil (replicate n None) ∙ ap (λ k. replicate k None) (let e : n ≡ n - 0 = omega arith in e))
-    (length-replicate n None) (omega arith) (omega arith) refl (λ t. absurd cc, λ m. absurd (omega arith))
+pub new_ring : {A : Type 0} (n start : ℕ) → start ≤ n - 1 → IsRing {A = A} n (replicate n None) start start false × (items_from {A = A} start (replicate n None) ≡ [])
+new_ring n start h =
+    laid_as n (replicate n None) start start false []
+    (ap (λ t. t ++ take start (replicate n None)) (drop-replicate start n None)
+    ∙ ap (λ t. replicate (n - start) None ++ t) (take-replicate start n None (omega arith))
+    ∙ replicate-append-replicate (n - start) start None
+    ∙ ap (λ k. replicate k None) (let e : n - start + start ≡ n - 0 = omega arith in e))
+    (length-replicate n None) (omega arith) h refl (λ t. absurd cc, λ m. absurd (omega arith))
+
+pub same_ring : {A : Type 0} (r s : Ringed A) → r.items ≡ s.items → r.front ≡ s.front → r ≡ s
+same_ring r s e f = λ i. record { items = e i; front = f i }
+
+pub set_or_not : {X : Type 0} (xs : List (Option X)) (i j : ℕ) → get_or xs j None ≡ None → get_or (set xs i None) j None ≡ None
+set_or_not [] i j h = h
+set_or_not (x ∷ xs) zero zero h = refl
+set_or_not (x ∷ xs) zero (suc j) h = h
+set_or_not (x ∷ xs) (suc i) zero h = h
+set_or_not (x ∷ xs) (suc i) (suc j) h = set_or_not xs i j h
+
+pub none_after_none : {X : Type 0} (xs : List (Option X)) (i : ℕ) → get_or (set xs i None) i None ≡ None
+none_after_none [] i = refl
+none_after_none (x ∷ xs) zero = refl
+none_after_none (x ∷ xs) (suc i) = none_after_none xs i
+
+nothing_in : {X : Type 0} (m i : ℕ) → get_or (replicate {A = Option X} m None) i None ≡ None
+nothing_in zero i = refl
+nothing_in (suc m) zero = refl
+nothing_in (suc m) (suc i) = nothing_in m i
+
+nothing_behind : {X : Type 0} (xs : List X) (m : ℕ) → get_or (map Some xs ++ replicate m None) (length xs) None ≡ None
+nothing_behind [] m = nothing_in m 0
+nothing_behind (x ∷ xs) m = nothing_behind xs m
+
+some_at : {X : Type 0} (xs : List X) (i : ℕ) → i < length xs → IsSome (slice_get xs i)
+some_at [] i h = absurd (omega arith)
+some_at (x ∷ xs) zero h = refl
+some_at (x ∷ xs) (suc i) h = some_at xs i (omega arith)
+
+-- one step of a gap towards the back: the place behind it is free then, and those behind that one are as they were
+module _ {A : Type 0} (n : ℕ) (row : List (Option A)) (gap k : ℕ) (below : gap < n) (fewer : suc k < n) (long : length row ≡ n) (free : get_or row gap None ≡ None) (held : HoldsBehind n row gap (suc k)) where
+  gap_apart : (j : ℕ) → suc j < n → slot n gap (suc j) ≢ gap
+  gap_apart j h e = absurd (let m = slot-apart n gap (suc j) (omega arith) (omega arith) (omega arith) e in omega arith)
+
+  pub gap_free : (v : Option A) → get_or (set (set row (next n gap) None) gap v) (next n gap) None ≡ None
+  gap_free v =
+      get_or-set_other (set row (next n gap) None) gap (next n gap) v None (gap_apart 0 (omega arith))
+      ∙ none_after_none row (next n gap)
+
+  pub gap_held : (v : Option A) → HoldsBehind n (set (set row (next n gap) None) gap v) (next n gap) k
+  gap_held v j h =
+      let at : slot n (next n gap) (suc j) ≡ slot n gap (suc (suc j)) = sym (slot-next n gap (suc j)) in
+      let same : get_or (set (set row (next n gap) None) gap v) (slot n (next n gap) (suc j)) None ≡ get_or row (slot n gap (suc (suc j))) None =
+      get_or-set_other (set row (next n gap) None) gap _ v None (λ e. gap_apart (suc j) (omega arith) (sym at ∙ e))
+      ∙ get_or-set_other row (next n gap) _ None None (λ e. absurd (let w = next-within n gap in let m = slot-apart n (next n gap) (suc j) w (omega arith) (omega arith) e in omega arith))
+      ∙ ap (λ p. get_or row p None) at in
+      rw same (held (suc j) (omega arith))
 
 turned-same : {X : Type 0} (xs ys : List X) (m : ℕ) (v : X) → xs ++ ys ≡ replicate m v → ys ++ xs ≡ replicate m v
 turned-same xs ys m v h =
@@ -80,6 +131,24 @@ module _ {A : Type 0} (n : ℕ) (row : List (Option A)) (start end : ℕ) (full 
       read-get n start row i d r.places r.first (omega arith)
       ∙ ap (λ t. get_or t i d) r.laid
       ∙ get-row held (replicate (n - length held) None) i d h
+
+  pub free_at_end : length held < n → get_or row end None ≡ None
+  free_at_end h =
+      ap (λ k. get_or row k None) r.last
+      ∙ read-get n start row (length held) None r.places r.first h
+      ∙ ap (λ t. get_or t (length held) None) r.laid
+      ∙ nothing_behind held (n - length held)
+
+  pub held_at : (i : ℕ) → i < length held → IsSome (get_or row (slot n start i) None)
+  held_at i h = rw (item_at i None h) (some_at held i h)
+
+  -- no place of an empty ring holds an item
+  pub empty_row : held ≡ [] → row ≡ replicate n None
+  empty_row e =
+      let g = r.first in
+      let p = r.places in
+      let all : read_from start row ≡ replicate n None = r.laid ∙ ap (row_of n) e ∙ ap (λ k. replicate k None) (let z : n - 0 ≡ n = omega arith in z) in
+      sym (take-append-drop start row) ∙ turned-same (drop start row) (take start row) n None all
 
   pub pushed : length held < n → (w : A) (full2 : Bool) → (IsTrue full2 ↔ (next n end ≡ start))
       → IsRing n (set row end (Some w)) start (next n end) full2 × (items_from start (set row end (Some w)) ≡ held ++ w ∷ [])
@@ -157,11 +226,9 @@ module _ {A : Type 0} (n : ℕ) (row : List (Option A)) (start end : ℕ) (full 
   -- an empty ring can begin at place 0
   pub cleared : held ≡ [] → IsRing n row 0 0 full × (items_from 0 row ≡ [])
   cleared e =
-      let g = r.first in
       let p = r.places in
-      let all : read_from start row ≡ replicate n None = r.laid ∙ ap (row_of n) e ∙ ap (λ k. replicate k None) (let z : n - 0 ≡ n = omega arith in z) in
       laid_as n row 0 0 full []
-      (append-nil row ∙ sym (take-append-drop start row) ∙ turned-same (drop start row) (take start row) n None all ∙ ap (λ k. replicate k None) (let z : n ≡ n - 0 = omega arith in z))
+      (append-nil row ∙ empty_row e ∙ ap (λ k. replicate k None) (let z : n ≡ n - 0 = omega arith in z))
       r.places (omega arith) (omega arith) refl
       (λ t. (sym (ap length e) ∙ (r.filled.0 t).0, (r.filled.0 t).1), λ m. r.filled.1 (ap length e ∙ m.0, m.1))
 
@@ -187,22 +254,41 @@ module _ {A : Type 0} (n : ℕ) (row : List (Option A)) (start end : ℕ) (full 
 
   -- the same of what a caller sees
   module _ (seen : Ringed A) (is : record { items = held; front = start } ≡ seen) where
-    pub item_seen : (i place : ℕ) (x : Option A) → i < length seen.items → place ≡ slot n seen.front i → x ≡ get_or row place x → x ≡ slice_get seen.items i
+    pub is_held : (i place : ℕ) → i < length seen.items → place ≡ slot n seen.front i → IsSome (get_or row place None)
+    is_held i place h at =
+        let h = rw (← is) at h in
+        let at = rw (← is) at at in
+        rw at (held_at i h)
+
+    pub item_seen : (i place : ℕ) (x : A) → i < length seen.items → place ≡ slot n seen.front i → get_or row place None ≡ Some x → Some x ≡ slice_get seen.items i
     item_seen i place x h at e =
         let h = rw (← is) at h in
         let at = rw (← is) at at in
-        rw (← is) (e ∙ ap (λ k. get_or row k x) at ∙ item_at i x h)
+        rw (← is) (sym e ∙ ap (λ k. get_or row k None) at ∙ item_at i None h)
 
-    pub none_seen : (i place : ℕ) (x : Option A) → i < length seen.items → place ≡ slot n seen.front i → x ≡ get_or row place x → x ≡ None → ⊥
-    none_seen i place x h at e none =
-        elim (slice_get_cases seen.items i).1 [ inl s ↦ let k = s.2 in let l = item_seen i place x h at e in cc | inr s ↦ omega arith ]
-
-    pub replaced_seen : (i place : ℕ) → i < length seen.items → place ≡ slot n seen.front i → (w : A) (row2 : List (Option A)) → row2 ≡ set row place (Some w)
+    pub replaced_seen : (i place : ℕ) → i < length seen.items → place ≡ slot n seen.front i → (w : A) (row1 row2 : List (Option A)) → row1 ≡ set row place None → row2 ≡ set row1 place (Some w)
         → IsRing n row2 start end full × (items_from start row2 ≡ set seen.items i w)
-    replaced_seen i place h at w row2 e =
+    replaced_seen i place h at w row1 row2 e1 e2 =
         let h = rw (← is) at h in
         let at = rw (← is) at at in
-        rw (e, at, ← is) (replaced i h w)
+        rw (e2, e1, set-set row place None (Some w), at, ← is) (replaced i h w)
+
+    -- the row out of which an item was taken: its place is free, and the items behind it are there
+    pub holds_behind : (i place k : ℕ) → i < length seen.items → place ≡ slot n seen.front i → k + 1 + i ≡ length seen.items → (row1 : List (Option A)) → row1 ≡ set row place None
+        → (k < n) × (length row1 ≡ n) × (get_or row1 place None ≡ None) × HoldsBehind n row1 place k
+    holds_behind i place k h at count row1 e1 =
+        let h = rw (← is) at h in
+        let at = rw (← is) at at in
+        let count = rw (← is) at count in
+        let f = r.fits in (
+          omega arith,
+          ap length e1 ∙ length-set row place None ∙ r.places,
+          ap (λ t. get_or t place None) e1 ∙ none_after_none row place,
+          λ j l.
+              let there : slot n place (suc j) ≡ slot n start (i + suc j) = ap (λ p. slot n p (suc j)) at ∙ slot-add n start i (suc j) in
+              let apart : slot n place (suc j) ≢ place = λ e. absurd (let w = slot-within n start i r.first (omega arith) in let m = slot-apart n place (suc j) (omega arith) (omega arith) (omega arith) e in omega arith) in
+              rw (e1, get_or-set_other row place (slot n place (suc j)) None None apart, there) (held_at (i + suc j) (omega arith)),
+        )
 
     pub removed_seen : (i place k : ℕ) → i < length seen.items → place ≡ slot n seen.front i → k + 1 + i ≡ length seen.items
         → (row1 row2 : List (Option A)) (end2 : ℕ) → row1 ≡ set row place None → row2 ≡ closed n row1 place k → end2 ≡ slot n place k
@@ -213,24 +299,21 @@ module _ {A : Type 0} (n : ℕ) (row : List (Option A)) (start end : ℕ) (full 
         let count = rw (← is) at count in
         rw (e2, e3, e1, at, ← is) (removed i k h count)
 
-    -- what leaves, and the ring that stays
-    pub record Pops (x : Option A) (row2 : List (Option A)) (start2 : ℕ) : Type 0 where
-      pub item : A
-      pub leaves : x ≡ Some item
-      pub items : seen.items ≡ item ∷ items_from start2 row2
+    -- the ring that stays when its first item leaves
+    pub record Pops (x : A) (row2 : List (Option A)) (start2 : ℕ) : Type 0 where
+      pub items : seen.items ≡ x ∷ items_from start2 row2
       pub ring : IsRing n row2 start2 end false
       pub places : (i : ℕ) → slot n start2 i ≡ slot n seen.front (suc i)
 
-    pub pops : (x : Option A) (row2 : List (Option A)) (start2 : ℕ) → seen.items ≢ [] → x ≡ get_or row start x → row2 ≡ set row start None → start2 ≡ next n start → Pops x row2 start2
+    pub pops : (x : A) (row2 : List (Option A)) (start2 : ℕ) → seen.items ≢ [] → get_or row start None ≡ Some x → row2 ≡ set row start None → start2 ≡ next n start → Pops x row2 start2
     pops x row2 start2 some e e2 e3 = elim (nil_or_cons held) [
       | inl z ↦ absurd (some (rw (← is) z))
       | inr c ↦
           let p = popped c.0 c.1 c.2 in
           let l = ap length c.2 in
+          let same : c.0 ≡ x = (let t = sym e ∙ item_at 0 None (omega arith) ∙ ap (λ xs. slice_get xs 0) c.2 in cc) in
           record {
-            item = c.0;
-            leaves = e ∙ item_at 0 x (omega arith) ∙ ap (λ xs. slice_get xs 0) c.2;
-            items = rw (e2, e3, p.1, ← is) c.2;
+            items = rw (e2, e3, p.1, ← is) (c.2 ∙ ap (λ y. y ∷ c.1) same);
             ring = rw (e2, e3) p.0;
             places = λ i. ap (λ f. slot n f i) e3 ∙ sym (slot-next n start i) ∙ ap (λ (v : Ringed A). slot n v.front (suc i)) is;
           }

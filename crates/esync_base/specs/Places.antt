@@ -1,5 +1,5 @@
 -- How the items of a ring lie in its row of places.
-use Rattle.std.specs.Prelude.{◌≡◌, ◌↔◌, ℕ, zero, suc, ◌-◌, ◌<◌, ◌≤◌, List, ◌++◌, Option, None, Bool, IsTrue, length, take, drop, slice_set, slice_index_or}
+use Rattle.std.specs.Prelude.{◌≡◌, ◌↔◌, ℕ, zero, suc, ◌-◌, ◌<◌, ◌≤◌, List, ◌++◌, Option, None, IsSome, Bool, IsTrue, length, take, drop, slice_set, slice_index_or}
 use Rattle.esync_base.specs.Rows.{items_of, row_of}
 use Rattle.esync_base.specs.Ring.{next, slot}
 
@@ -28,3 +28,7 @@ moved row i j = slice_set (slice_set row i None) j (slice_index_or row i None)
 abbrev pub closed : {A : Type 0} → ℕ → List (Option A) → ℕ → ℕ → List (Option A)
 closed n row gap zero = row
 closed n row gap (suc k) = closed n (moved row (next n gap) gap) (next n gap) k
+
+-- the k places behind place i each hold an item
+abbrev pub HoldsBehind : {A : Type 0} → ℕ → List (Option A) → ℕ → ℕ → Type 0
+HoldsBehind n row i k = (j : ℕ) → j < k → IsSome (slice_index_or row (slot n i (suc j)) None)

@@ -1,12 +1,13 @@
 //! A queue of fixed capacity that takes no memory.
-ghost use Rattle.std.specs.Prelude.{◌≡◌, ℕ, suc, ◌-◌, ◌<◌, ◌≤◌, ◌++◌, [], ◌∷◌, length, slice_get, slice_set, slice_index_or, option_copied, Some, None, ◌↔◌, IsTrue, OnOk, OnErr, OnSome, IfSome, IfErr, IfNone};
+ghost use Rattle.std.specs.Prelude.{◌≡◌, ℕ, suc, ◌-◌, ◌<◌, ◌≤◌, ◌++◌, [], ◌∷◌, length, get_or, slice_get, slice_set, option_copied, Some, None, ◌↔◌, IsTrue, OnOk, OnErr, OnSome, IfSome, IfErr, IfNone};
 ghost use Rattle.std.specs.List.{remove};
 ghost use Rattle.std.proofs.Math.ListN.{replicate};
 ghost use Rattle.esync_base.specs.Ring.{next, slot};
-ghost use Rattle.esync_base.specs.Places.{closed};
+ghost use Rattle.esync_base.specs.Places.{closed, HoldsBehind};
 
 use crate::kept::Kept;
 use crate::store::Store;
+use esync_rows::row::Row;
 use std::alloc::AllocError;
 use std::fmt;
 use std::marker::Model;
@@ -20,85 +21,30 @@ fn behind<const N: usize>(i: usize) -> usize
     if i + 1 < N { i + 1 } else { 0 }
 }
 
-// N places.
-#[derive(Drop)]
-struct Row<T, const N: usize> {
-    places: [Option<T>; N],
-}
-
-impl<T: Copy, const N: usize> Clone for Row<T, N> {
-    ghost use Rattle.std.specs.Prelude.{◌≡◌};
-
-    ghost is_clone = { λ s r. r ≡ s };
-
-    ghost is_infallible = { λ _. Unit {0} };
-
-    fn clone(&self) -> Result<Self, AllocError> {
-        Ok(*self)
+// Moves the items behind an empty place one place towards it, and says which place is empty then.
+fn close<T, const N: usize>(row: &mut Row<T, N>, gap: usize, count: usize) -> usize
+    requires below { gap < N }
+    requires fewer { count < N }
+    requires places { length row.old ≡ N }
+    requires empty { get_or row.old gap None ≡ None }
+    requires held { HoldsBehind N row.old gap count }
+    ensures places { row.new ≡ closed N row.old gap count }
+    ensures gap { result ≡ slot N gap count }
+{
+    let mut gap = gap;
+    for _moved in 0..count {
+        let next = behind::<N>(gap);
+        let item = row.take(next);
+        row.put(gap, item);
+        gap = next;
     }
-}
-
-impl<T: Copy, const N: usize> Copy for Row<T, N> {}
-
-impl<T: Drop, const N: usize> Row<T, N> {
-    fn new() -> Self
-        ensures { result.places ≡ replicate N None }
-    {
-        Row {
-            places: [const { None }; N],
-        }
-    }
-
-    fn get(&self, i: usize) -> &Option<T>
-        requires { i < N }
-        ensures { result.now ≡ slice_index_or self.now.places i result.now }
-    {
-        &self.places[i]
-    }
-
-    fn put(&mut self, i: usize, item: T)
-        requires { i < N }
-        ensures { self.new.places ≡ slice_set self.old.places i (Some item) }
-    {
-        self.places[i] = Some(item);
-    }
-
-    fn take(&mut self, i: usize) -> Option<T>
-        requires { i < N }
-        ensures places { self.new.places ≡ slice_set self.old.places i None }
-        ensures item { result ≡ slice_index_or self.old.places i result }
-    {
-        self.places[i].take()
-    }
-
-    fn replace(&mut self, i: usize, item: T) -> Option<T>
-        requires { i < N }
-        ensures places { self.new.places ≡ slice_set self.old.places i (Some item) }
-        ensures item { result ≡ slice_index_or self.old.places i result }
-    {
-        self.places[i].replace(item)
-    }
-
-    // Moves the items behind an empty place one place towards it, and says which place is empty then.
-    fn close(&mut self, gap: usize, count: usize) -> usize
-        requires below { gap < N }
-        requires places { length self.old.places ≡ N }
-        ensures places { self.new.places ≡ closed N self.old.places gap count }
-        ensures gap { result ≡ slot N gap count }
-    {
-        let mut gap = gap;
-        for _moved in 0..count {
-            let next = behind::<N>(gap);
-            let item = self.take(next);
-            self.places[gap] = item;
-            gap = next;
-        }
-        gap
-    }
+    gap
 }
 
 /// At most `N` items, oldest first, in a ring of `N` places.
-#[derive(Drop)]
+///
+/// The first item gives each place its bytes, which takes time in proportion to `N`. The bytes of an item that was taken stay in
+/// its place until another item is written over them, as in upstream's containers.
 pub struct Deque<T, const N: usize> {
     row: Row<T, N>,
     start: usize,
@@ -114,9 +60,9 @@ impl<T, const N: usize> Model for Deque<T, N> {
 
     ghost coded = { ringed_code T.code };
 
-    ghost view = { λ a. record { items = items_from a.start a.row.places; front = a.start } };
+    ghost view = { λ a. record { items = items_from a.start a.row; front = a.start } };
 
-    ghost invariant = { λ a. IsRing N a.row.places a.start a.end a.full };
+    ghost invariant = { λ a. IsRing N a.row a.start a.end a.full };
 }
 
 /// The items, oldest first, as a list.
@@ -130,18 +76,65 @@ impl<T: Drop + fmt::Debug, const N: usize> fmt::Debug for Deque<T, N> {
     }
 }
 
+impl<T, const N: usize> Deque<T, N> {
+    // The places of a ring that holds no item.
+    fn into_row(self) -> Row<T, N>
+        requires { self.items ≡ [] }
+        ensures { result ≡ replicate N None }
+    {
+        let Self {
+            row,
+            start: _,
+            end: _,
+            full: _,
+        } = self;
+        row
+    }
+
+    // An empty ring whose next item goes to this place.
+    fn new_at(start: usize) -> Self
+        requires { start ≤ N - 1 }
+        ensures items { result.items ≡ [] }
+        ensures front { result.front ≡ start }
+    {
+        Deque {
+            row: Row::new(),
+            start,
+            end: start,
+            full: false,
+        }
+    }
+
+    // Puts an item behind the others, where there is room.
+    fn append(&mut self, item: T)
+        requires { length self.old.items < N }
+        ensures items { self.new.items ≡ self.old.items ++ item ∷ [] }
+        ensures front { self.new.front ≡ self.old.front }
+    {
+        // The place is read once: a write to the row might have changed it, for what the compiler knows.
+        let end = self.end;
+        let next = behind::<N>(end);
+        self.row.put(end, item);
+        self.end = next;
+        self.full = next == self.start;
+    }
+}
+
+impl<T: Drop, const N: usize> Drop for Deque<T, N> {
+    fn drop(self) {
+        let mut ring = self;
+        ring.clear();
+        ring.into_row().free();
+    }
+}
+
 impl<T: Drop, const N: usize> Deque<T, N> {
-    /// An empty ring.
+    /// An empty ring. It takes no time for its places, which get their bytes with the first item.
     pub fn new() -> Self
         ensures items { result.items ≡ [] }
         ensures front { result.front ≡ 0 }
     {
-        Deque {
-            row: Row::new(),
-            start: 0,
-            end: 0,
-            full: false,
-        }
+        Deque::new_at(0)
     }
 
     /// How many items are held.
@@ -167,7 +160,8 @@ impl<T: Drop, const N: usize> Deque<T, N> {
 
     /// As many items are held as there is room for.
     pub fn is_full(&self) -> bool
-        ensures { IsTrue result ↔ (length self.now.items ≡ N) }
+        ensures answer { IsTrue result ↔ (length self.now.items ≡ N) }
+        ensures within { length self.now.items ≤ N }
     {
         self.full || N == 0
     }
@@ -184,12 +178,7 @@ impl<T: Drop, const N: usize> Deque<T, N> {
         if self.is_full() {
             return Err(item);
         }
-        // The place is read once: a write to the row might have changed it, for what the compiler knows.
-        let end = self.end;
-        let next = behind::<N>(end);
-        self.row.put(end, item);
-        self.end = next;
-        self.full = next == self.start;
+        self.append(item);
         Ok(())
     }
 
@@ -208,7 +197,7 @@ impl<T: Drop, const N: usize> Deque<T, N> {
         let item = self.row.take(start);
         self.start = behind::<N>(start);
         self.full = false;
-        item
+        Some(item)
     }
 
     /// The oldest item.
@@ -227,10 +216,7 @@ impl<T: Drop, const N: usize> Deque<T, N> {
         requires { i < length self.now.items }
         ensures { Some result.now ≡ slice_get self.now.items i }
     {
-        let Some(item) = self.row.get(self.slot_of(i)) else {
-            unreachable!()
-        };
-        item
+        self.row.get(self.slot_of(i))
     }
 
     /// Puts an item in the place of item `i`, and gives that one back.
@@ -241,9 +227,8 @@ impl<T: Drop, const N: usize> Deque<T, N> {
         ensures replaced { Some result ≡ slice_get self.old.items i }
     {
         let place = self.slot_of(i);
-        let Some(replaced) = self.row.replace(place, item) else {
-            unreachable!()
-        };
+        let replaced = self.row.take(place);
+        self.row.put(place, item);
         replaced
     }
 
@@ -256,10 +241,8 @@ impl<T: Drop, const N: usize> Deque<T, N> {
     {
         let gap = self.slot_of(i);
         let count = self.len() - 1 - i;
-        let Some(removed) = self.row.take(gap) else {
-            unreachable!()
-        };
-        self.end = self.row.close(gap, count);
+        let removed = self.row.take(gap);
+        self.end = close(&mut self.row, gap, count);
         self.full = false;
         removed
     }
@@ -333,13 +316,21 @@ impl<T: Drop, const N: usize> Store for Deque<T, N> {
     }
 }
 
+impl<T: Copy, const N: usize> Deque<T, N> {
+    // A ring of the same items, in the same places.
+    fn copied(&self) -> Self
+        ensures { result ≡ self.now }
+    {
+        let mut copy = Deque::new_at(self.start);
+        for i in 0..self.len() {
+            copy.append(*self.get(i));
+        }
+        copy
+    }
+}
+
 impl<T: Copy, const N: usize> Kept for Deque<T, N> {
     fn kept(&self) -> Result<Self, AllocError> {
-        Ok(Deque {
-            row: self.row,
-            start: self.start,
-            end: self.end,
-            full: self.full,
-        })
+        Ok(self.copied())
     }
 }

@@ -8,10 +8,10 @@ pub invariant_of-self : goal.invariant_of-self
 invariant_of-self g c =
     let a = c.self-2.inside in
     let none : length c.loop-item.self.items ≡ 0 = omega arith in
-    (cleared g.row.N a.row.places a.start a.end a.full c.self-2.invariant (nil_from_length _ (ap (λ (v : Ringed _). length v.items) c.self-2.view_is ∙ none))).0
+    (cleared g.row.N a.row a.start a.end a.full c.self-2.invariant (nil_from_length _ (ap (λ (v : Ringed _). length v.items) c.self-2.view_is ∙ none))).0
 
 pub returns-clause-items : goal.returns-clause-items
 returns-clause-items g c =
     let a = c.self-2.inside in
     let none : length c.loop-item.self.items ≡ 0 = omega arith in
-    (cleared g.row.N a.row.places a.start a.end a.full c.self-2.invariant (nil_from_length _ (ap (λ (v : Ringed _). length v.items) c.self-2.view_is ∙ none))).1
+    (cleared g.row.N a.row a.start a.end a.full c.self-2.invariant (nil_from_length _ (ap (λ (v : Ringed _). length v.items) c.self-2.view_is ∙ none))).1
