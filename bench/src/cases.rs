@@ -34,7 +34,7 @@ const fn program(name: &'static str, case: &'static str, upstream: Pass) -> Case
     }
 }
 
-pub const CASES: [Case; 42] = [
+pub const CASES: [Case; 45] = [
     state(
         "channel_ping_pong_4",
         ours::ping_pong_4,
@@ -74,6 +74,21 @@ pub const CASES: [Case; 42] = [
         "channel_fill_drain_4096",
         ours::fill_drain_4096,
         upstream::fill_drain::<NoopRawMutex, 4096>,
+    ),
+    state(
+        "channel_first_message_4",
+        ours::first_message_4,
+        upstream::first_messages::<NoopRawMutex, 4>,
+    ),
+    state(
+        "channel_first_message_64",
+        ours::first_message_64,
+        upstream::first_messages::<NoopRawMutex, 64>,
+    ),
+    state(
+        "channel_first_message_1024",
+        ours::first_message_1024,
+        upstream::first_messages::<NoopRawMutex, 1024>,
     ),
     state(
         "channel_wait_and_wake",

@@ -34,6 +34,9 @@ exports! {
     fill_drain_64 = esync_bench_channel_fill_drain_64;
     fill_drain_1024 = esync_bench_channel_fill_drain_1024;
     fill_drain_4096 = esync_bench_channel_fill_drain_4096;
+    first_message_4 = esync_bench_channel_first_message_4;
+    first_message_64 = esync_bench_channel_first_message_64;
+    first_message_1024 = esync_bench_channel_first_message_1024;
     wait_and_wake = esync_bench_channel_wait_and_wake;
     priority_fill_drain_4 = esync_bench_priority_fill_drain_4;
     priority_fill_drain_64 = esync_bench_priority_fill_drain_64;

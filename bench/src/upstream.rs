@@ -107,6 +107,20 @@ pub fn fill_drain<M: RawMutex, const N: usize>(messages: &[u32]) -> Answer {
 }
 
 #[inline(never)]
+pub fn first_messages<M: RawMutex, const N: usize>(messages: &[u32]) -> Answer {
+    let turn = Turn::new();
+    let mut total = 0u64;
+    for message in messages {
+        let channel = Channel::<M, u32, N>::new();
+        let _ = channel.try_send(*message);
+        turn.next();
+        total = total.wrapping_add(channel.try_receive().unwrap_or(0).into());
+        turn.next();
+    }
+    answer(total, 0)
+}
+
+#[inline(never)]
 fn wait_and_wake_through<M: RawMutex>(
     channel: &Channel<M, u32, 4>,
     messages: &[u32],

@@ -5,7 +5,7 @@ use crate::threads::Line;
 use embassy_sync::channel::TrySendError;
 use embassy_sync::waitqueue::{Context, Hand, Poll, TaskId};
 use esync_tasks::future::Future;
-use esync_tasks::runtime::Runtime;
+use esync_tasks::runtime::{RunOn, Runtime};
 use std::alloc::Global;
 use std::sync::Wait;
 use std::thread::Threads;
@@ -86,16 +86,10 @@ pub fn four_and_four<R: Wait + Threads + Sync, H: Hand<TaskId> + Sync + Send>(
     line: &Line<H, 64>,
     count: u32,
 ) -> Option<u64> {
-    let tasks = [
-        share_of(line, 0, count),
-        share_of(line, 1, count),
-        share_of(line, 2, count),
-        share_of(line, 3, count),
-        share_of(line, 4, count),
-        share_of(line, 5, count),
-        share_of(line, 6, count),
-        share_of(line, 7, count),
-    ];
+    let mut tasks = Vec::with_capacity(alloc, 8).ok()?;
+    for task in 0..8usize {
+        let _ = tasks.push(share_of(line, task, count));
+    }
     match runtime.run_on(rt, alloc, 4, tasks) {
         Ok(totals) => Some(sum(totals.as_slice())),
         Err(_) => None,
@@ -150,16 +144,10 @@ pub fn ring<R: Wait + Threads + Sync, H: Hand<TaskId> + Sync + Send>(
     count: u32,
 ) -> Option<u64> {
     let _ = lines[0].try_send(0);
-    let tasks = [
-        hop_of(lines, 0, count),
-        hop_of(lines, 1, count),
-        hop_of(lines, 2, count),
-        hop_of(lines, 3, count),
-        hop_of(lines, 4, count),
-        hop_of(lines, 5, count),
-        hop_of(lines, 6, count),
-        hop_of(lines, 7, count),
-    ];
+    let mut tasks = Vec::with_capacity(alloc, 8).ok()?;
+    for task in 0..8usize {
+        let _ = tasks.push(hop_of(lines, task, count));
+    }
     match runtime.run_on(rt, alloc, 2, tasks) {
         Ok(totals) => Some(sum(totals.as_slice())),
         Err(_) => None,

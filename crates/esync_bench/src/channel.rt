@@ -66,6 +66,22 @@ impl<S: Summed> Carrier for Mailbox<S, TaskId> {
     }
 }
 
+// Each message is the first of a channel that is made for it, and is received.
+#[inline(never)]
+fn first_messages<S: Summed>(messages: &[u32], woken: &mut [u64], turn: &Turn) -> u64
+    requires room { 0 < S.keeping.capacity }
+    requires fits { sum messages.now < 2 ^ 64 }
+    ensures { result ≡ sum messages.now }
+{
+    let mut total = 0;
+    for message in messages {
+        let mut channel: Mailbox<S, TaskId> = Mailbox::new();
+        channel.send(*message, woken, turn);
+        total += u64::from(channel.receive(woken, turn));
+    }
+    total
+}
+
 type State<const N: usize> = ChannelState<u32, TaskId, N>;
 
 #[unsafe(no_mangle)]
@@ -130,6 +146,30 @@ pub extern "C" fn esync_bench_channel_fill_drain_4096(messages: &[u32], woken: &
     ensures { result ≡ sum messages.now }
 {
     fill_and_drain(&mut State::<4096>::new(), messages, woken, &Turn::new())
+}
+
+#[unsafe(no_mangle)]
+pub extern "C" fn esync_bench_channel_first_message_4(messages: &[u32], woken: &mut [u64]) -> u64
+    requires { sum messages.now < 2 ^ 64 }
+    ensures { result ≡ sum messages.now }
+{
+    first_messages::<Deque<u32, 4>>(messages, woken, &Turn::new())
+}
+
+#[unsafe(no_mangle)]
+pub extern "C" fn esync_bench_channel_first_message_64(messages: &[u32], woken: &mut [u64]) -> u64
+    requires { sum messages.now < 2 ^ 64 }
+    ensures { result ≡ sum messages.now }
+{
+    first_messages::<Deque<u32, 64>>(messages, woken, &Turn::new())
+}
+
+#[unsafe(no_mangle)]
+pub extern "C" fn esync_bench_channel_first_message_1024(messages: &[u32], woken: &mut [u64]) -> u64
+    requires { sum messages.now < 2 ^ 64 }
+    ensures { result ≡ sum messages.now }
+{
+    first_messages::<Deque<u32, 1024>>(messages, woken, &Turn::new())
 }
 
 #[unsafe(no_mangle)]

@@ -25,6 +25,9 @@ pub enum RunError<T> {
     /// Another run of this runtime isn't over.
     #[error("the runtime runs other tasks")]
     Busy(T),
+    /// There are more tasks than the runtime runs at a time, or fewer.
+    #[error("the runtime runs another number of tasks")]
+    Count(T),
     /// There was no memory for what the tasks give.
     #[error("there was no memory for the tasks")]
     NoMemory(T),
@@ -36,7 +39,7 @@ impl<T> RunError<T> {
         ensures { result ≡ tasks_of self }
     {
         match self {
-            RunError::Busy(tasks) | RunError::NoMemory(tasks) => tasks,
+            RunError::Busy(tasks) | RunError::Count(tasks) | RunError::NoMemory(tasks) => tasks,
         }
     }
 }
@@ -255,14 +258,18 @@ impl<R: Wait, const N: usize> Runtime<'_, R, N> {
     fn begin<F: Future<TaskId, Output: Drop>>(
         &self,
         alloc: Global,
-        tasks: [F; N],
-    ) -> Result<(Vec<Mutex<Slot<F, F::Output>>>, Vec<F::Output>), RunError<[F; N]>>
-        requires { All F.can_poll tasks }
+        tasks: Vec<F>,
+    ) -> Result<(Vec<Mutex<Slot<F, F::Output>>>, Vec<F::Output>), RunError<Vec<F>>>
+        requires { All F.can_poll tasks.items }
+        ensures tasks { IfOk result (λ begun. vec_len tasks ≡ N) }
         ensures count { IfOk result (λ begun. vec_len begun.0 ≡ N) }
         ensures empty { IfOk result (λ begun. begun.1.items ≡ []) }
         ensures room { IfOk result (λ begun. N ≤ vec_capacity begun.1) }
         ensures returned { IfErr result (λ error. tasks_of error ≡ tasks) }
     {
+        if tasks.len() != N {
+            return Err(RunError::Count(tasks));
+        }
         if !self.board.lock(self.rt).begin() {
             return Err(RunError::Busy(tasks));
         }
@@ -284,20 +291,21 @@ impl<R: Wait, const N: usize> Runtime<'_, R, N> {
         self.board.lock(self.rt).is_busy = false;
     }
 
-    /// Runs the tasks on this thread, until all are over, and gives what each of them gave, in order.
+    /// Runs `N` tasks on this thread, until all are over, and gives what each of them gave, in order.
     ///
     /// A task is polled once at first, and then only when it was woken. The board's lock isn't held meanwhile.
     ///
     /// # Errors
     ///
-    /// `Busy` where another run isn't over, and `NoMemory` where there is no memory: no task was polled, and all come back.
+    /// `Count` where there aren't `N` tasks, `Busy` where another run isn't over, and `NoMemory` where there is no memory: no task
+    /// was polled, and all come back.
     pub fn run<F: Future<TaskId, Output: Drop>>(
         &self,
         alloc: Global,
-        tasks: [F; N],
-    ) -> Result<Vec<F::Output>, RunError<[F; N]>>
-        requires { All F.can_poll tasks }
-        ensures count { IfOk result (λ outputs. vec_len outputs ≡ N) }
+        tasks: Vec<F>,
+    ) -> Result<Vec<F::Output>, RunError<Vec<F>>>
+        requires { All F.can_poll tasks.items }
+        ensures count { IfOk result (λ outputs. vec_len outputs ≡ vec_len tasks) }
         ensures returned { IfErr result (λ error. tasks_of error ≡ tasks) }
     {
         let (slots, room) = self.begin(alloc, tasks)?;
@@ -308,28 +316,37 @@ impl<R: Wait, const N: usize> Runtime<'_, R, N> {
     }
 }
 
-impl<R: Wait + Sync, const N: usize> Runtime<'_, R, N> {
-    /// Runs the tasks on so many threads, as `run` does on one. No two threads poll one task at a time.
+/// Runs tasks on several threads. It is a trait, since whether a task may be sent is found of the type of the tasks alone, and not
+/// beside the number of a `Runtime`.
+pub trait RunOn {
+    /// Runs the tasks on so many threads, as `Runtime::run` does on one. No two threads poll one task at a time.
     ///
     /// A thread that sleeps is called where two tasks wait for their turn, or where no thread is awake. So a poll that takes long
     /// can keep one other task waiting that was woken meanwhile.
     ///
-    /// Where a thread can't be made, fewer threads run the tasks, and at least this one does.
-    ///
     /// # Errors
     ///
-    /// `Busy` where another run isn't over, and `NoMemory` where there is no memory: no task was polled, and all come back.
-    pub fn run_on<T: Threads + Sync, F: Future<TaskId, Output: Drop + Send> + Send>(
+    /// As of `Runtime::run`: no task was polled, and all come back.
+    fn run_on<T: Threads + Sync, F: Future<TaskId, Output: Drop + Send> + Send>(
         &self,
         rt: &T,
         alloc: Global,
         threads: usize,
-        tasks: [F; N],
-    ) -> Result<Vec<F::Output>, RunError<[F; N]>>
-        requires { All F.can_poll tasks }
-        ensures count { IfOk result (λ outputs. vec_len outputs ≡ N) }
-        ensures returned { IfErr result (λ error. tasks_of error ≡ tasks) }
-    {
+        tasks: Vec<F>,
+    ) -> Result<Vec<F::Output>, RunError<Vec<F>>>
+        requires { All F.can_poll tasks.items }
+        ensures count { IfOk result (λ outputs. vec_len outputs ≡ vec_len tasks) }
+        ensures returned { IfErr result (λ error. tasks_of error ≡ tasks) };
+}
+
+impl<R: Wait + Sync, const N: usize> RunOn for Runtime<'_, R, N> {
+    fn run_on<T: Threads + Sync, F: Future<TaskId, Output: Drop + Send> + Send>(
+        &self,
+        rt: &T,
+        alloc: Global,
+        threads: usize,
+        tasks: Vec<F>,
+    ) -> Result<Vec<F::Output>, RunError<Vec<F>>> {
         let (slots, room) = self.begin(alloc, tasks)?;
         let work = |_thread: usize|
             requires { vec_len slots ≡ N }

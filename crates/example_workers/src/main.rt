@@ -8,7 +8,7 @@ use embassy_sync::semaphore::{Acquire, GreedySemaphore, PermitState, SharedSemap
 use embassy_sync::waitqueue::{Context, Hand, Poll, TaskId};
 use esync_tasks::forms::Permits;
 use esync_tasks::future::Future;
-use esync_tasks::runtime::Runtime;
+use esync_tasks::runtime::{RunOn, Runtime};
 use std::alloc::Global;
 use std::io;
 use std::sync::Wait;
@@ -103,17 +103,19 @@ fn run<'a, R: Wait + Threads + Sync, H: Hand<TaskId> + Sync + Send>(
     hand: &'a H,
     shop: &'a Shop,
 ) -> u64 {
-    let workers = [
-        new_worker(pool, hand, shop),
-        new_worker(pool, hand, shop),
-        new_worker(pool, hand, shop),
-        new_worker(pool, hand, shop),
-        new_worker(pool, hand, shop),
-        new_worker(pool, hand, shop),
-        new_worker(pool, hand, shop),
-        new_worker(pool, hand, shop),
-    ];
     let mut jobs: u64 = 0;
+    let Ok(workers) = vec![in alloc;
+        new_worker(pool, hand, shop),
+        new_worker(pool, hand, shop),
+        new_worker(pool, hand, shop),
+        new_worker(pool, hand, shop),
+        new_worker(pool, hand, shop),
+        new_worker(pool, hand, shop),
+        new_worker(pool, hand, shop),
+        new_worker(pool, hand, shop),
+    ] else {
+        return jobs;
+    };
     if let Ok(done) = runtime.run_on(rt, alloc, 2, workers) {
         for count in &done {
             jobs = jobs.wrapping_add(*count);

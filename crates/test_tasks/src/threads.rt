@@ -4,7 +4,7 @@ use esync_base::waitqueue::{Hand, TaskId};
 use esync_channel::channel::Channel;
 use esync_notes::same;
 use esync_tasks::parking::Parking;
-use esync_tasks::runtime::Runtime;
+use esync_tasks::runtime::{RunOn, Runtime};
 use std::alloc::Global;
 use std::sync::Wait;
 use std::thread::{self, Threads};
@@ -59,12 +59,14 @@ fn exchange<'l, R: Wait + Threads + Sync, H: Hand<TaskId> + Send + Sync>(
     one: &'l Line<H>,
     other: &'l Line<H>,
 ) -> u64 {
-    let tasks = [
+    let Ok(tasks) = vec![in alloc;
         sender_of(one),
         sender_of(other),
         receiver_of(other),
         receiver_of(one),
-    ];
+    ] else {
+        return 0;
+    };
     match runtime.run_on(rt, alloc, threads, tasks) {
         Ok(outputs) => outputs[2].wrapping_add(outputs[3]),
         Err(_) => 0,
@@ -91,7 +93,10 @@ fn run_often<R: Wait + Threads + Sync, H: Hand<TaskId> + Sync>(
 ) -> u64 {
     let mut polls: u64 = 0;
     for _run in 0..200u32 {
-        if let Ok(outputs) = runtime.run_on(rt, alloc, 3, [yielding(hand, 2), yielding(hand, 0)]) {
+        let Ok(tasks) = vec![in alloc; yielding(hand, 2), yielding(hand, 0)] else {
+            return 0;
+        };
+        if let Ok(outputs) = runtime.run_on(rt, alloc, 3, tasks) {
             polls = polls.wrapping_add(outputs[0]).wrapping_add(outputs[1]);
         }
     }

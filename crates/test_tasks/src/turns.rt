@@ -19,7 +19,10 @@ fn run_yields<R: Wait, H: Hand<TaskId>>(
     alloc: Global,
     hand: &H,
 ) -> [u64; 2] {
-    match runtime.run(alloc, [yielding(hand, 3), yielding(hand, 0)]) {
+    let Ok(tasks) = vec![in alloc; yielding(hand, 3), yielding(hand, 0)] else {
+        return [0, 0];
+    };
+    match runtime.run(alloc, tasks) {
         Ok(polls) => [polls[0], polls[1]],
         Err(_) => [0, 0],
     }
@@ -61,7 +64,10 @@ fn run_line<R: Wait, H: Hand<TaskId>>(
     alloc: Global,
     line: &Line<H>,
 ) -> [u64; 2] {
-    match runtime.run(alloc, [sender_of(line), receiver_of(line)]) {
+    let Ok(tasks) = vec![in alloc; sender_of(line), receiver_of(line)] else {
+        return [0, 0];
+    };
+    match runtime.run(alloc, tasks) {
         Ok(outputs) => [outputs[0], outputs[1]],
         Err(_) => [0, 0],
     }
@@ -82,15 +88,15 @@ fn order<'l, R: Wait, H: Hand<TaskId>>(
     line: &'l Notes<H>,
     hand: &'l H,
 ) -> [u64; 8] {
-    let _ = runtime.run(
-        alloc,
-        [
-            writing(line, hand, 2),
-            writing(line, hand, 1),
-            writing(line, hand, 2),
-        ],
-    );
     let mut turns = [9; 8];
+    let Ok(tasks) = vec![in alloc;
+        writing(line, hand, 2),
+        writing(line, hand, 1),
+        writing(line, hand, 2),
+    ] else {
+        return turns;
+    };
+    let _ = runtime.run(alloc, tasks);
     for turn in &mut turns {
         if let Ok(task) = line.try_receive() {
             *turn = task;
@@ -119,14 +125,19 @@ impl<R: Wait> Future<TaskId> for Nested<'_, R> {
     type Output = bool;
 
     fn poll(&mut self, _cx: &Context<TaskId>) -> Poll<bool> {
-        let task = SleepsOnce { has_slept: true };
-        let refused = self.runtime.run(self.alloc, [task]);
+        let Ok(tasks) = vec![in self.alloc; SleepsOnce { has_slept: true }] else {
+            return Poll::Ready(false);
+        };
+        let refused = self.runtime.run(self.alloc, tasks);
         Poll::Ready(matches!(refused, Err(RunError::Busy(_))))
     }
 }
 
 fn run_nested<'a, R: Wait>(runtime: &'a Runtime<'a, R, 1>, alloc: Global) -> bool {
-    match runtime.run(alloc, [Nested { runtime, alloc }]) {
+    let Ok(tasks) = vec![in alloc; Nested { runtime, alloc }] else {
+        return false;
+    };
+    match runtime.run(alloc, tasks) {
         Ok(refused) => refused[0],
         Err(_) => false,
     }
@@ -139,10 +150,29 @@ fn a_second_run_is_refused(rt: HostRuntime) {
     holds!(rt; run_nested(&runtime, rt.alloc()));
 }
 
+// Of a runtime for two tasks: whether one task comes back.
+fn run_one<R: Wait, H: Hand<TaskId>>(runtime: &Runtime<'_, R, 2>, alloc: Global, hand: &H) -> bool {
+    let Ok(tasks) = vec![in alloc; yielding(hand, 0)] else {
+        return false;
+    };
+    match runtime.run(alloc, tasks) {
+        Err(RunError::Count(tasks)) => tasks.len() == 1,
+        _ => false,
+    }
+}
+
+#[test]
+fn another_number_of_tasks_is_refused(rt: HostRuntime) {
+    let runtime: Runtime<'_, HostRuntime, 2> = Runtime::new(&rt);
+    let hand = &runtime;
+    holds!(rt; run_one(&runtime, rt.alloc(), &hand));
+    same!(rt; run_yields(&runtime, rt.alloc(), &hand), [4, 1]);
+}
+
 #[test]
 fn no_tasks_are_over_at_once(rt: HostRuntime) {
     let runtime: Runtime<'_, HostRuntime, 0> = Runtime::new(&rt);
-    let none: [Nested<'_, HostRuntime>; 0] = [];
+    let none: Vec<Nested<'_, HostRuntime>> = Vec::new(rt.alloc());
     holds!(rt; runtime.run(rt.alloc(), none).is_ok());
 }
 
@@ -170,7 +200,8 @@ fn share<R: Wait, H: Hand<TaskId>>(
 ) -> Option<u64> {
     let mut seat = parking.seat(0)?;
     let _waits = line.poll_receive(&Context::from_waker(seat.task()));
-    let _ = runtime.run(alloc, [Posts { line }]);
+    let tasks = vec![in alloc; Posts { line }].ok()?;
+    let _ = runtime.run(alloc, tasks);
     seat.block_on(SleepsOnce { has_slept: false });
     line.try_receive().ok()
 }

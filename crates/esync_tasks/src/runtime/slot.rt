@@ -60,20 +60,16 @@ impl<F: Future<TaskId, Output: Drop>> Slot<F, F::Output> {
 }
 
 /// The tasks of a run, each under a lock of its own, or the tasks where there is no memory.
-pub(crate) fn slots_of<F: Future<TaskId, Output: Drop>, const N: usize>(
+pub(crate) fn slots_of<F: Future<TaskId, Output: Drop>>(
     alloc: Global,
-    tasks: [F; N],
-) -> Result<Vec<Mutex<Slot<F, F::Output>>>, [F; N]>
-    requires { All F.can_poll tasks }
-    ensures count { IfOk result (λ slots. vec_len slots ≡ N) }
+    tasks: Vec<F>,
+) -> Result<Vec<Mutex<Slot<F, F::Output>>>, Vec<F>>
+    requires { All F.can_poll tasks.items }
+    ensures count { IfOk result (λ slots. vec_len slots ≡ vec_len tasks) }
     ensures returned { IfErr result (λ back. back ≡ tasks) }
 {
-    let Ok(mut slots) = Vec::with_capacity(alloc, N) else {
+    let Ok(mut slots) = Vec::with_capacity(alloc, tasks.len()) else {
         return Err(tasks);
-    };
-    let tasks = match Vec::from_array(alloc, tasks) {
-        Ok(tasks) => tasks,
-        Err(refused) => return Err(refused.value),
     };
     for task in tasks {
         let _ = slots.push(Mutex::new(Slot::new(task)));

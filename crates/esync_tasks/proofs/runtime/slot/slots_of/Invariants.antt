@@ -7,5 +7,5 @@ invariant-loop-task g l =
     (goal.iterator-loop-task g).can_next l.task-iterator
     × (goal.iterator-loop-task g).is_finite l.task-iterator
     × All g.F.Future.can_poll l.task-iterator.rest.items
-    × (vec_len l.slots + length l.task-iterator.rest.items ≡ g.row.N)
-    × (g.row.N ≤ vec_capacity l.slots)
+    × (vec_len l.slots + length l.task-iterator.rest.items ≡ vec_len l.fn.tasks)
+    × (vec_len l.fn.tasks ≤ vec_capacity l.slots)
