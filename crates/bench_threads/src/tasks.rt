@@ -5,7 +5,7 @@ use crate::threads::Line;
 use embassy_sync::channel::TrySendError;
 use embassy_sync::waitqueue::{Context, Hand, Poll, TaskId};
 use esync_tasks::future::Future;
-use esync_tasks::runtime::{RunOn, Runtime};
+use esync_tasks::runtime::{Runtime, run_on};
 use std::alloc::Global;
 use std::sync::Wait;
 use std::thread::Threads;
@@ -90,7 +90,7 @@ pub fn four_and_four<R: Wait + Threads + Sync, H: Hand<TaskId> + Sync + Send>(
     for task in 0..8usize {
         let _ = tasks.push(share_of(line, task, count));
     }
-    match runtime.run_on(rt, alloc, 4, tasks) {
+    match run_on(runtime, rt, alloc, 4, tasks) {
         Ok(totals) => Some(sum(totals.as_slice())),
         Err(_) => None,
     }
@@ -148,7 +148,7 @@ pub fn ring<R: Wait + Threads + Sync, H: Hand<TaskId> + Sync + Send>(
     for task in 0..8usize {
         let _ = tasks.push(hop_of(lines, task, count));
     }
-    match runtime.run_on(rt, alloc, 2, tasks) {
+    match run_on(runtime, rt, alloc, 2, tasks) {
         Ok(totals) => Some(sum(totals.as_slice())),
         Err(_) => None,
     }

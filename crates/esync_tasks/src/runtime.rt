@@ -1,11 +1,11 @@
 //! Tasks that are polled when they were woken, on one thread or on several.
-ghost use Rattle.std.specs.Prelude.{◌≡◌, ◌↔◌, slice_get, Some, IsTrue, true, false, ◌+◌, ◌<◌, ◌≤◌, ◌^◌, [], All, IfOk, IfErr, IfSome, vec_len, vec_capacity};
+ghost use Rattle.std.specs.Prelude.{ℕ, ◌≡◌, ◌↔◌, slice_get, Some, IsTrue, true, false, ◌+◌, ◌<◌, ◌≤◌, ◌^◌, [], All, IfOk, IfErr, IfSome, vec_len, vec_capacity};
 ghost use Rattle.std.specs.Bool.{OnTrue, OnFalse};
 ghost use Rattle.esync_tasks.specs.Refused.{tasks_of};
 ghost use Rattle.esync_tasks.specs.RunQueue.{all_queued, woken, rested, ended, IsRunning, HasEnded};
 ghost use Rattle.esync_base.specs.Room.{WakesFitInMemory};
 
-mod slot;
+pub mod slot;
 
 use crate::future::Future;
 use crate::run_queue::{RunQueue, TaskState};
@@ -222,70 +222,6 @@ impl<R: Wait, const N: usize> Runtime<'_, R, N> {
         }
     }
 
-    // Gives turns until all tasks are over.
-    fn work<F: Future<TaskId, Output: Drop>>(&self, slots: &Vec<Mutex<Slot<F, F::Output>>>)
-        requires { vec_len slots.now ≡ N }
-    {
-        self.board.lock(self.rt).count(true);
-        for _ in self.rt.forever() {
-            let Some(task) = self.next() else {
-                return;
-            };
-            self.turn(&slots[task], task);
-        }
-    }
-
-    // What the tasks gave, in order. All are over by now. No clause carries that out of the locks, so it polls one that isn't.
-    fn outputs<F: Future<TaskId, Output: Drop>>(
-        &self,
-        slots: Vec<Mutex<Slot<F, F::Output>>>,
-        room: Vec<F::Output>,
-    ) -> Vec<F::Output>
-        requires count { vec_len slots ≡ N }
-        requires empty { room.items ≡ [] }
-        requires room { N ≤ vec_capacity room }
-        ensures { vec_len result ≡ N }
-    {
-        let mut outputs = room;
-        for slot in slots {
-            let cx = self.context(outputs.len());
-            let _ = outputs.push(slot.into_inner().output(self.rt, &cx));
-        }
-        outputs
-    }
-
-    // Begins a run of these tasks, with room for what they give.
-    fn begin<F: Future<TaskId, Output: Drop>>(
-        &self,
-        alloc: Global,
-        tasks: Vec<F>,
-    ) -> Result<(Vec<Mutex<Slot<F, F::Output>>>, Vec<F::Output>), RunError<Vec<F>>>
-        requires { All F.can_poll tasks.items }
-        ensures tasks { IfOk result (λ begun. vec_len tasks ≡ N) }
-        ensures count { IfOk result (λ begun. vec_len begun.0 ≡ N) }
-        ensures empty { IfOk result (λ begun. begun.1.items ≡ []) }
-        ensures room { IfOk result (λ begun. N ≤ vec_capacity begun.1) }
-        ensures returned { IfErr result (λ error. tasks_of error ≡ tasks) }
-    {
-        if tasks.len() != N {
-            return Err(RunError::Count(tasks));
-        }
-        if !self.board.lock(self.rt).begin() {
-            return Err(RunError::Busy(tasks));
-        }
-        let Ok(room) = Vec::with_capacity(alloc, N) else {
-            self.end();
-            return Err(RunError::NoMemory(tasks));
-        };
-        match slots_of(alloc, tasks) {
-            Ok(slots) => Ok((slots, room)),
-            Err(tasks) => {
-                self.end();
-                Err(RunError::NoMemory(tasks))
-            }
-        }
-    }
-
     // Ends a run.
     fn end(&self) {
         self.board.lock(self.rt).is_busy = false;
@@ -310,51 +246,126 @@ impl<R: Wait, const N: usize> Runtime<'_, R, N> {
     {
         let (slots, room) = self.begin(alloc, tasks)?;
         self.work(&slots);
-        let outputs = self.outputs(slots, room);
-        self.end();
-        Ok(outputs)
+        Ok(self.finish(slots, room))
     }
 }
 
-/// Runs tasks on several threads. It is a trait, since whether a task may be sent is found of the type of the tasks alone, and not
-/// beside the number of a `Runtime`.
-pub trait RunOn {
-    /// Runs the tasks on so many threads, as `Runtime::run` does on one. No two threads poll one task at a time.
-    ///
-    /// A thread that sleeps is called where two tasks wait for their turn, or where no thread is awake. So a poll that takes long
-    /// can keep one other task waiting that was woken meanwhile.
+/// What a run on several threads needs of a runtime, whatever the number of its tasks.
+pub trait Turns {
+    /// How many tasks it runs at a time.
+    ghost places: { ℕ };
+
+    /// Begins a run of these tasks, with room for what they give.
     ///
     /// # Errors
     ///
-    /// As of `Runtime::run`: no task was polled, and all come back.
-    fn run_on<T: Threads + Sync, F: Future<TaskId, Output: Drop + Send> + Send>(
+    /// Those of `Runtime::run`: no task was polled, and all come back.
+    fn begin<F: Future<TaskId, Output: Drop>>(
         &self,
-        rt: &T,
         alloc: Global,
-        threads: usize,
         tasks: Vec<F>,
-    ) -> Result<Vec<F::Output>, RunError<Vec<F>>>
+    ) -> Result<(Vec<Mutex<Slot<F, F::Output>>>, Vec<F::Output>), RunError<Vec<F>>>
         requires { All F.can_poll tasks.items }
-        ensures count { IfOk result (λ outputs. vec_len outputs ≡ vec_len tasks) }
+        ensures tasks { IfOk result (λ begun. vec_len tasks ≡ places) }
+        ensures count { IfOk result (λ begun. vec_len begun.0 ≡ places) }
+        ensures empty { IfOk result (λ begun. begun.1.items ≡ []) }
+        ensures room { IfOk result (λ begun. places ≤ vec_capacity begun.1) }
         ensures returned { IfErr result (λ error. tasks_of error ≡ tasks) };
+
+    /// Gives turns until all tasks are over.
+    fn work<F: Future<TaskId, Output: Drop>>(&self, slots: &Vec<Mutex<Slot<F, F::Output>>>)
+        requires { vec_len slots.now ≡ places };
+
+    /// Ends the run, and gives what the tasks gave, in order.
+    fn finish<F: Future<TaskId, Output: Drop>>(
+        &self,
+        slots: Vec<Mutex<Slot<F, F::Output>>>,
+        room: Vec<F::Output>,
+    ) -> Vec<F::Output>
+        requires count { vec_len slots ≡ places }
+        requires empty { room.items ≡ [] }
+        requires room { places ≤ vec_capacity room }
+        ensures { vec_len result ≡ places };
 }
 
-impl<R: Wait + Sync, const N: usize> RunOn for Runtime<'_, R, N> {
-    fn run_on<T: Threads + Sync, F: Future<TaskId, Output: Drop + Send> + Send>(
+impl<R: Wait, const N: usize> Turns for Runtime<'_, R, N> {
+    ghost places = { N };
+
+    fn begin<F: Future<TaskId, Output: Drop>>(
         &self,
-        rt: &T,
         alloc: Global,
-        threads: usize,
         tasks: Vec<F>,
-    ) -> Result<Vec<F::Output>, RunError<Vec<F>>> {
-        let (slots, room) = self.begin(alloc, tasks)?;
-        let work = |_thread: usize|
-            requires { vec_len slots ≡ N }
-        { self.work(&slots) };
-        let _ = thread::map_indices(rt, alloc, threads, &work);
-        self.work(&slots);
-        let outputs = self.outputs(slots, room);
-        self.end();
-        Ok(outputs)
+    ) -> Result<(Vec<Mutex<Slot<F, F::Output>>>, Vec<F::Output>), RunError<Vec<F>>> {
+        if tasks.len() != N {
+            return Err(RunError::Count(tasks));
+        }
+        if !self.board.lock(self.rt).begin() {
+            return Err(RunError::Busy(tasks));
+        }
+        let Ok(room) = Vec::with_capacity(alloc, N) else {
+            self.end();
+            return Err(RunError::NoMemory(tasks));
+        };
+        match slots_of(alloc, tasks) {
+            Ok(slots) => Ok((slots, room)),
+            Err(tasks) => {
+                self.end();
+                Err(RunError::NoMemory(tasks))
+            }
+        }
     }
+
+    fn work<F: Future<TaskId, Output: Drop>>(&self, slots: &Vec<Mutex<Slot<F, F::Output>>>) {
+        self.board.lock(self.rt).count(true);
+        for _ in self.rt.forever() {
+            let Some(task) = self.next() else {
+                return;
+            };
+            self.turn(&slots[task], task);
+        }
+    }
+
+    // All tasks are over by now. No clause carries that out of the locks, so it polls one that isn't.
+    fn finish<F: Future<TaskId, Output: Drop>>(
+        &self,
+        slots: Vec<Mutex<Slot<F, F::Output>>>,
+        room: Vec<F::Output>,
+    ) -> Vec<F::Output> {
+        let mut outputs = room;
+        for slot in slots {
+            let cx = self.context(outputs.len());
+            let _ = outputs.push(slot.into_inner().output(self.rt, &cx));
+        }
+        self.end();
+        outputs
+    }
+}
+
+/// Runs the tasks on so many threads, as `Runtime::run` does on one. No two threads poll one task at a time.
+///
+/// A thread that sleeps is called where two tasks wait for their turn, or where no thread is awake. So a poll that takes long
+/// can keep one other task waiting that was woken meanwhile. It is no method of `Runtime`: beside that type's number it would
+/// not be found that the tasks may be sent.
+///
+/// # Errors
+///
+/// Those of `Runtime::run`: no task was polled, and all come back.
+pub fn run_on<B: Turns + Sync, T: Threads + Sync, F: Future<TaskId, Output: Drop + Send> + Send>(
+    runtime: &B,
+    rt: &T,
+    alloc: Global,
+    threads: usize,
+    tasks: Vec<F>,
+) -> Result<Vec<F::Output>, RunError<Vec<F>>>
+    requires { All F.can_poll tasks.items }
+    ensures count { IfOk result (λ outputs. vec_len outputs ≡ vec_len tasks) }
+    ensures returned { IfErr result (λ error. tasks_of error ≡ tasks) }
+{
+    let (slots, room) = runtime.begin(alloc, tasks)?;
+    let work = |_thread: usize|
+        requires { vec_len slots ≡ B.places }
+    { runtime.work(&slots) };
+    let _ = thread::map_indices(rt, alloc, threads, &work);
+    runtime.work(&slots);
+    Ok(runtime.finish(slots, room))
 }

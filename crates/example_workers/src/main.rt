@@ -8,7 +8,7 @@ use embassy_sync::semaphore::{Acquire, GreedySemaphore, PermitState, SharedSemap
 use embassy_sync::waitqueue::{Context, Hand, Poll, TaskId};
 use esync_tasks::forms::Permits;
 use esync_tasks::future::Future;
-use esync_tasks::runtime::{RunOn, Runtime};
+use esync_tasks::runtime::{Runtime, run_on};
 use std::alloc::Global;
 use std::io;
 use std::sync::Wait;
@@ -116,7 +116,7 @@ fn run<'a, R: Wait + Threads + Sync, H: Hand<TaskId> + Sync + Send>(
     ] else {
         return jobs;
     };
-    if let Ok(done) = runtime.run_on(rt, alloc, 2, workers) {
+    if let Ok(done) = run_on(runtime, rt, alloc, 2, workers) {
         for count in &done {
             jobs = jobs.wrapping_add(*count);
         }

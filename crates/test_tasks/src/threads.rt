@@ -4,7 +4,7 @@ use esync_base::waitqueue::{Hand, TaskId};
 use esync_channel::channel::Channel;
 use esync_notes::same;
 use esync_tasks::parking::Parking;
-use esync_tasks::runtime::{RunOn, Runtime};
+use esync_tasks::runtime::{Runtime, run_on};
 use std::alloc::Global;
 use std::sync::Wait;
 use std::thread::{self, Threads};
@@ -67,7 +67,7 @@ fn exchange<'l, R: Wait + Threads + Sync, H: Hand<TaskId> + Send + Sync>(
     ] else {
         return 0;
     };
-    match runtime.run_on(rt, alloc, threads, tasks) {
+    match run_on(runtime, rt, alloc, threads, tasks) {
         Ok(outputs) => outputs[2].wrapping_add(outputs[3]),
         Err(_) => 0,
     }
@@ -96,7 +96,7 @@ fn run_often<R: Wait + Threads + Sync, H: Hand<TaskId> + Sync>(
         let Ok(tasks) = vec![in alloc; yielding(hand, 2), yielding(hand, 0)] else {
             return 0;
         };
-        if let Ok(outputs) = runtime.run_on(rt, alloc, 3, tasks) {
+        if let Ok(outputs) = run_on(runtime, rt, alloc, 3, tasks) {
             polls = polls.wrapping_add(outputs[0]).wrapping_add(outputs[1]);
         }
     }

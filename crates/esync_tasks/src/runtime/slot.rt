@@ -1,4 +1,4 @@
-// A task of a run, and what it gave.
+//! A task of a run, and what it gave.
 ghost use Rattle.std.specs.Prelude.{◌≡◌, ◌↔◌, IsTrue, IfOk, IfErr, All, vec_len};
 ghost use Rattle.esync_tasks.specs.Joined.{IsReady, MayGive};
 
@@ -10,7 +10,7 @@ use std::sync::{Mutex, Wait};
 
 /// A task, or what it gave once it is over. It can always be polled.
 #[derive(Drop)]
-pub(crate) struct Slot<F: Future<TaskId>, X> {
+pub struct Slot<F: Future<TaskId>, X> {
     half: Half<F, X>,
 }
 

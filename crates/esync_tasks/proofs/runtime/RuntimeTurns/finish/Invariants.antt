@@ -1,6 +1,6 @@
 use Rattle.std.proofs.Common.{◌≡◌, ◌+◌, ◌≤◌, vec_len, length}
 use Rattle.std.specs.Prelude.{vec_capacity}
-use Rattle.esync_tasks.proofs.runtime.Runtime.outputs.Given as goal
+use Rattle.esync_tasks.proofs.runtime.RuntimeTurns.finish.Given as goal
 
 abbrev pub invariant-loop-slot : goal.invariant-loop-slot
 invariant-loop-slot g l =
