@@ -1,9 +1,8 @@
 -- What an audit looks at, entry by entry, and what a shared call tells.
-use Rattle.std.proofs.Common.{◌≡◌, ◌≤◌, ◌↔◌, IsTrue, Bool, true, false, Option, Some, None, length, refl, sym, ap, ◌∙◌}
+use Rattle.std.proofs.Common.{◌≡◌, ◌≤◌, ◌↔◌, IsTrue, Bool, true, false, Option, Some, None, length, sym, ap, ◌∙◌}
 use Rattle.std.specs.Prelude.{Result, Ok, Err, IfOk, OnOk}
 use Rattle.esync_machine.specs.Runs.{Semantics}
 use Rattle.esync_history.specs.Journal.{Recording, Seated, Replays, IsRecorded, WasRecorded}
-use Rattle.esync_history.specs.declared.recorded.Entry.{Entry}
 use Rattle.esync_history.specs.declared.recorded.Receipt.{Receipt}
 
 module _ {E : Type 0} (same : E → E → Bool) (x : E) where

@@ -2,7 +2,7 @@
 use Rattle.std.proofs.Common.{◌≡◌, ℕ, zero, suc, ◌+◌, ◌<◌, Bool, true, false, List, [], ◌∷◌, ◌++◌, length, take, Option, Some, None, inl, inr, refl, sym, ap, subst, ◌∙◌, arith, length-take, append-nil}
 use Rattle.std.specs.Prelude.{slice_get, slice_set}
 use Rattle.std.specs.List.{list_all}
-use Rattle.esync_base.specs.Listed.{is_in, NoTwice}
+use Rattle.esync_base.specs.Listed.{is_in}
 use Rattle.esync_base.specs.ListedLaws.{true_or_false, same_or_not, has_number-front, has_number-behind, has_number-before, distinct_back}
 use Rattle.esync_base.specs.declared.waitqueue.TaskId.{TaskId}
 use Rattle.esync_history.specs.Line.{Line, put_last}

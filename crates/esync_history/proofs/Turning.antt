@@ -17,15 +17,6 @@ module _ {Command Reply : Type 0} (M : Meaning Command Reply TaskId) where
   poll_told w r s true request polls e stands = (polls, stands, inl (e.0 refl, refl))
   poll_told w r s false request polls e stands = (polls, stands, inr ((λ p. let t = e.1 p in absurd cc), refl))
 
-  -- the act of a task that stands at a call
-  pub called : {Ask : Type 0} (starting : ℕ → Ask → Command) (w : TaskId) (request : Option ℕ) (acts behind : List (Act Ask Command)) (act : Act Ask Command) (c : Command) (s : Step M.Object Command Reply) (left : Todo Ask Command) → request ≡ None → acts ≡ act ∷ behind → act ≡ Call c → s.command ≡ c → left.request ≡ None → left.acts ≡ behind → Acts M starting w request acts (s ∷ []) true left
-  called starting w (Some r) acts behind act c s left e f a h q l = absurd cc
-  called starting w None [] behind act c s left e f a h q l = absurd cc
-  called starting w None (Await r ask ∷ acts) behind act c s left e f a h q l = absurd cc
-  called {Ask} starting w None (Call d ∷ acts) behind act c s left e f a h q l =
-      let same : ◌≡◌ {A = Act Ask Command} (Call d) (Call c) = cc in
-      (s, refl, cc, refl, q, cc)
-
   -- an act takes one or two steps
   act_steps : {Ask : Type 0} (starting : ℕ → Ask → Command) (w : TaskId) (request : Option ℕ) (acts : List (Act Ask Command)) (steps : List (Step M.Object Command Reply)) (back : Bool) (left : Todo Ask Command) → Acts M starting w request acts steps back left → (1 ≤ length steps) × (length steps ≤ 2)
   act_steps starting w (Some r) acts steps back left h = (omega (arith, ap length h.1), omega (arith, ap length h.1))

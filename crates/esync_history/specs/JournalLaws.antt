@@ -1,13 +1,13 @@
 -- A journal replays, and may be extended by a turn.
-use Rattle.std.specs.Prelude.{◌≡◌, ◌==◌, ◌+◌, ℕ, List, [], ◌∷◌, ◌++◌}
-use Rattle.std.proofs.Common.{sym, subst, ap, ◌∙◌, arith}
+use Rattle.std.specs.Prelude.{◌≡◌, ℕ, List, [], ◌∷◌, ◌++◌}
+use Rattle.std.proofs.Common.{sym, subst, ◌∙◌, arith}
 use Rattle.std.proofs.lemmas.List.{map-append}
 use Rattle.std.proofs.lemmas.List.Sums.{sum_by-append}
 use Rattle.esync_base.specs.ListedLaws.{equal_number, unequal_number}
 use Rattle.esync_machine.specs.Runs.{Semantics, GoodRun, IsRun, OwedAreIdle}
 use Rattle.esync_machine.specs.Histories.{Turn, History}
 use Rattle.esync_machine.specs.HistoriesLaws.{longer, good_run_of, good_run_by, good_run_by-steps, are_owed}
-use Rattle.esync_history.specs.Journal.{count_of, CountsOne, IsKept, Replays, Owing, commands_of, replies_of}
+use Rattle.esync_history.specs.Journal.{CountsOne, IsKept, Replays, Owing, commands_of, replies_of}
 use Rattle.esync_history.specs.declared.recorded.Entry.{Entry}
 
 pub counts_one : {C A : Type 0} (seat : ℕ) (journal : List (Entry C A)) (e : Entry C A) → e.seat ≡ seat → CountsOne seat journal (journal ++ e ∷ [])

@@ -5,6 +5,7 @@ use Rattle.std.specs.List.{flat_map, list_all}
 use Rattle.esync_base.specs.declared.waitqueue.TaskId.{TaskId}
 use Rattle.esync_machine.specs.Runs.{Meaning, Semantics, Step, GoodRunOf}
 use Rattle.esync_machine.specs.Histories.{Through}
+use Rattle.esync_history.specs.declared.act.Heard.{Heard}
 use Rattle.esync_history.specs.declared.executor.Act.{Act}
 use Rattle.esync_history.specs.declared.executor.Act.TheVariants.{Await, Call}
 use Rattle.esync_history.specs.declared.executor.Outcome.{Outcome}
@@ -53,6 +54,15 @@ module _ {Command Reply : Type 0} (M : Meaning Command Reply TaskId) where
 
 -- of a machine, and the commands that start what is asked for at a number
 module _ {S Ask Command Reply : Type 0} (X : Semantics S Command Reply TaskId) (starting : ℕ → Ask → Command) where
+  -- The current act of a task, by some steps of the machine from the one state to the other: what was answered in them, and what the task has
+  -- still to do after it.
+  abbrev pub DoesAct : TaskId → Todo Ask Command → S → Heard Reply → S → Todo Ask Command → Type 0
+  DoesAct w task old heard new left =
+      (steps : List (Step X.meaning.Object Command Reply))
+      × Through X old steps new
+      × Gave X.meaning steps heard.first heard.second
+      × Acts X.meaning starting w task.request task.acts steps heard.back left
+
   -- A turn of the task at the front of the queue: it does its current act, by these steps of the machine. If the act is over then,
   -- the last answer is what it answered.
   pub record IsTurn (old new : Executing S Ask Command Reply) : Type 0 where

@@ -1,6 +1,6 @@
 use Rattle.std.proofs.Common.{◌∷◌, ◌++◌, [], sym, ap, ◌∙◌}
 use Rattle.esync_history.proofs.Answering.{last_told}
-use Rattle.esync_history.proofs.turn.Heard.into_last.Goals as goal
+use Rattle.esync_history.proofs.act.Heard.into_last.Goals as goal
 
 pub returns : goal.returns
 returns g c =
