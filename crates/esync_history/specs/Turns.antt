@@ -63,6 +63,14 @@ module _ {S Ask Command Reply : Type 0} (X : Semantics S Command Reply TaskId) (
       × Gave X.meaning steps heard.first heard.second
       × Acts X.meaning starting w task.request task.acts steps heard.back left
 
+  -- the same of a task that stands at an Await of this request, whatever acts come after it
+  abbrev pub GoesOn : TaskId → ℕ → S → Heard Reply → S → Type 0
+  GoesOn w r old heard new = (acts : List (Act Ask Command)) → DoesAct w (record { request = Some r; acts = acts }) old heard new (record { request = heard.request; acts = acts })
+
+  -- the same of a task that begins this act, whatever acts come after it
+  abbrev pub Begins : TaskId → Act Ask Command → S → Heard Reply → S → Type 0
+  Begins w act old heard new = (acts : List (Act Ask Command)) → DoesAct w (record { request = None; acts = act ∷ acts }) old heard new (record { request = heard.request; acts = acts })
+
   -- A turn of the task at the front of the queue: it does its current act, by these steps of the machine. If the act is over then,
   -- the last answer is what it answered.
   pub record IsTurn (old new : Executing S Ask Command Reply) : Type 0 where
