@@ -6,20 +6,9 @@ use Rattle.esync_base.specs.Listed.{is_in}
 use Rattle.esync_base.specs.ListedLaws.{true_or_false, same_or_not, has_number-front, has_number-behind, has_number-before, distinct_back}
 use Rattle.esync_base.specs.declared.waitqueue.TaskId.{TaskId}
 use Rattle.esync_history.specs.Line.{Line, put_last}
+use Rattle.esync_history.specs.StandingLaws.{get_set_other}
 use Rattle.esync_history.specs.Todo.{Todo, has_ended, numbers_from, unended, put_back_task, put_back, woken, requeued, IsUnendedTask, IsUnended, IsOrderly}
 use Rattle.esync_history.proofs.Lines.{same_line}
-
-pub get_set_here : {A : Type 0} (xs : List A) (i : ℕ) (x y : A) → slice_get xs i ≡ Some x → slice_get (slice_set xs i y) i ≡ Some y
-get_set_here [] i x y e = absurd cc
-get_set_here (z ∷ xs) zero x y e = refl
-get_set_here (z ∷ xs) (suc i) x y e = get_set_here xs i x y e
-
-pub get_set_other : {A : Type 0} (xs : List A) (i j : ℕ) (y : A) → (j ≡ i → ⊥) → slice_get (slice_set xs i y) j ≡ slice_get xs j
-get_set_other [] i j y ne = refl
-get_set_other (z ∷ xs) zero zero y ne = absurd (ne refl)
-get_set_other (z ∷ xs) zero (suc j) y ne = refl
-get_set_other (z ∷ xs) (suc i) zero y ne = refl
-get_set_other (z ∷ xs) (suc i) (suc j) y ne = get_set_other xs i j y (λ e. ne (ap suc e))
 
 pub length_set : {A : Type 0} (xs : List A) (i : ℕ) (y : A) → length (slice_set xs i y) ≡ length xs
 length_set [] i y = refl

@@ -4,5 +4,6 @@ pub mod Todo
 pub mod Suited
 pub mod Turns
 pub mod Standing
+pub mod StandingLaws
 pub mod Journal
 pub mod JournalLaws

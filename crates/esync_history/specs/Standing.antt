@@ -27,11 +27,15 @@ module _ {S Command Reply : Type 0} (X : Semantics S Command Reply TaskId) where
   abbrev pub IsStanding : S → ℕ → TaskId → Type 0
   IsStanding m r w = (X.meaning.IsLive (X.object m) r → ⊥) ⊎ X.Owes m r w
 
-  -- The tasks use different numbers, and each that is neither queued nor ended stands at such a request.
-  pub record AreStanding {Ask : Type 0} (m : S) (tasks : List (Todo Ask Command)) (queue : List ℕ) : Type 0 where
+  -- The tasks use different numbers, and each that has neither ended nor a turn stands at such a request.
+  pub record AreStandingBut {Ask : Type 0} (HasTurn : ℕ → Type 0) (m : S) (tasks : List (Todo Ask Command)) : Type 0 where
     pub apart : (j k : ℕ) (s t : Todo Ask Command) (r : ℕ) → slice_get tasks j ≡ Some s → slice_get tasks k ≡ Some t → Uses r s → Uses r t → j ≡ k
     pub plain : (k : ℕ) (t : Todo Ask Command) → slice_get tasks k ≡ Some t → ArePlain X.meaning t.acts
-    pub idle : (k : ℕ) (t : Todo Ask Command) → slice_get tasks k ≡ Some t → has_ended t ≡ false → is_in k queue ≡ false → (r : ℕ) × (t.request ≡ Some r) × IsStanding m r (record { 0 = k })
+    pub idle : (k : ℕ) (t : Todo Ask Command) → slice_get tasks k ≡ Some t → has_ended t ≡ false → (HasTurn k → ⊥) → (r : ℕ) × (t.request ≡ Some r) × IsStanding m r (record { 0 = k })
+
+  -- the same where the tasks that have a turn are queued
+  abbrev pub AreStanding : {Ask : Type 0} → S → List (Todo Ask Command) → List ℕ → Type 0
+  AreStanding m tasks queue = AreStandingBut (λ k. is_in k queue ≡ true) m tasks
 
   -- What holds between two turns. What was heard has a place for each task, and room for the answers of all acts that are left.
   pub record IsBetweenTurns {Ask : Type 0} (m : S) (tasks : List (Todo Ask Command)) (queue : Line) (heard : Answered Reply) : Type 0 where

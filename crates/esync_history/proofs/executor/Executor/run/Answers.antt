@@ -3,7 +3,7 @@ use Rattle.esync_history.specs.Todo.{act_counts}
 use Rattle.esync_history.specs.Turns.{Turns, Tells}
 use Rattle.esync_history.proofs.Turning.{ran}
 use Rattle.esync_history.proofs.Answering.{turns_counts}
-use Rattle.esync_history.proofs.Stalling.{all_stalled}
+use Rattle.esync_history.proofs.Stalling.{stalled_if_empty}
 use Rattle.esync_history.proofs.executor.Executor.run.Goals as goal
 
 pub loop-turn-init : goal.loop-turn-init
@@ -34,13 +34,13 @@ pub returns-then-not-take_turn-clause-stalled : goal.returns-then-not-take_turn-
 returns-then-not-take_turn-clause-stalled g c e =
     let new = c.take_turn.new.self in
     let told = subst (λ o. Tells o new) e c.outcome.ensures.tells in
-    all_stalled g.M.Machine.semantics g.met.M.Machine.idle g.met.M.Machine.pending g.met.M.Machine.no_such new.machine new.tasks new.queue c.outcome.ensures.standing told.1
+    stalled_if_empty g.M.Machine.semantics g.met.M.Machine.idle g.met.M.Machine.pending g.met.M.Machine.no_such new.machine new.tasks new.queue c.outcome.ensures.standing told.1
 
 pub returns-clause-stalled : goal.returns-clause-stalled
 returns-clause-stalled g c e =
     let new = c.loop-turn.self in
     let told = subst (λ o. Tells o new) e c.outcome-2.ensures.tells in
-    all_stalled g.M.Machine.semantics g.met.M.Machine.idle g.met.M.Machine.pending g.met.M.Machine.no_such new.machine new.tasks new.queue c.outcome-2.ensures.standing told.1
+    stalled_if_empty g.M.Machine.semantics g.met.M.Machine.idle g.met.M.Machine.pending g.met.M.Machine.no_such new.machine new.tasks new.queue c.outcome-2.ensures.standing told.1
 
 pub returns-then-not-take_turn-clause-counts : goal.returns-then-not-take_turn-clause-counts
 returns-then-not-take_turn-clause-counts g c =
