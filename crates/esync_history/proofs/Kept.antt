@@ -2,6 +2,7 @@
 use Rattle.std.proofs.Common.{◌≡◌, ℕ, zero, suc, ◌+◌, ◌<◌, Bool, true, false, List, [], ◌∷◌, ◌++◌, length, take, Option, Some, None, inl, inr, refl, sym, ap, subst, ◌∙◌, arith, length-take, append-nil}
 use Rattle.std.specs.Prelude.{slice_get, slice_set}
 use Rattle.std.specs.List.{list_all}
+use Rattle.std.proofs.lemmas.List.{length-set}
 use Rattle.esync_base.specs.Listed.{is_in}
 use Rattle.esync_base.specs.ListedLaws.{true_or_false, same_or_not, has_number-front, has_number-behind, has_number-before, distinct_back}
 use Rattle.esync_base.specs.declared.waitqueue.TaskId.{TaskId}
@@ -9,11 +10,6 @@ use Rattle.esync_history.specs.Line.{Line, put_last}
 use Rattle.esync_history.specs.StandingLaws.{get_set_other}
 use Rattle.esync_history.specs.Todo.{Todo, has_ended, numbers_from, unended, put_back_task, put_back, woken, requeued, IsUnendedTask, IsUnended, IsOrderly}
 use Rattle.esync_history.proofs.Lines.{same_line}
-
-pub length_set : {A : Type 0} (xs : List A) (i : ℕ) (y : A) → length (slice_set xs i y) ≡ length xs
-length_set [] i y = refl
-length_set (z ∷ xs) zero y = refl
-length_set (z ∷ xs) (suc i) y = ap suc (length_set xs i y)
 
 module _ {Ask Command : Type 0} (tasks : List (Todo Ask Command)) where
   -- a task that is there and hasn't ended is put at the back
@@ -55,7 +51,7 @@ module _ {Ask Command : Type 0} (tasks : List (Todo Ask Command)) where
   -- the task at the front leaves the queue, and its acts change
   pub orderly_taken : (room : ℕ) (behind : List ℕ) (k : ℕ) (left : Todo Ask Command) → IsOrderly tasks (record { room = room; numbers = k ∷ behind }) → IsOrderly (slice_set tasks k left) (record { room = room; numbers = behind })
   orderly_taken room behind k left o = record {
-    room = o.room ∙ sym (length_set tasks k left);
+    room = o.room ∙ sym (length-set tasks k left);
     distinct = o.distinct.1;
     unended = λ j q. elim (same_or_not j k) [
       | inl s ↦ absurd (let h = o.distinct.0 in let i : is_in k behind ≡ true = subst (λ x. is_in x behind ≡ true) s q in cc)

@@ -2,11 +2,12 @@ use Rattle.std.proofs.Common.{◌≡◌, ◌+◌, ◌∷◌, refl, sym, ap, subs
 use Rattle.std.specs.Prelude.{slice_set}
 use Rattle.std.specs.Option.{option_to_list}
 use Rattle.std.proofs.lemmas.Option.{slice_get_read}
+use Rattle.std.proofs.lemmas.List.{length-set}
 use Rattle.esync_history.specs.Answered.{noted}
 use Rattle.esync_history.specs.Todo.{Executing, acts_left, requeued}
 use Rattle.esync_history.specs.Turns.{IsTurn, wakes_in}
 use Rattle.esync_history.proofs.Answering.{one_if, over_told, acts_counted, has_room, room_after, length-noted}
-use Rattle.esync_history.proofs.Kept.{length_set, orderly_turn}
+use Rattle.esync_history.proofs.Kept.{orderly_turn}
 use Rattle.esync_history.specs.StandingLaws.{same_task}
 use Rattle.esync_history.proofs.Stalling.{standing_after_turn}
 use Rattle.esync_history.proofs.executor.Executor.take_turn.Given.{Over}
@@ -71,7 +72,7 @@ invariant_of-self-2 g c =
     record {
       orderly = orderly_turn c.self.inside.tasks.items c.deref.result.now c.self.inside.queue c.pop.new.self c.requeue.new.queue c.in-Some.number c.do_act-heard.new.task wakers heard.back c.self.invariant.orderly c.in-Some.ensures.front c.in-Some.ensures.room c.deref.ensures.value c.requeue.ensures;
       standing = standing_after_turn g.M.Machine.semantics g.M.Awaits.starting g.met.M.Awaits.keeps g.met.M.Awaits.starts (λ v w e. same_task v w (sym (g.met.M.Awaits.same v w) ∙ e)) (before g c) (after g c) (turn g c) c.self.invariant.standing;
-      places = ap (λ a. length a.replies) c.note.ensures.3 ∙ length-noted c.self.inside.replies.replies c.in-Some.number c.is_none-over.result c.note.ensures.0 ∙ c.self.invariant.places ∙ sym (length_set c.self.inside.tasks.items c.in-Some.number t.left);
+      places = ap (λ a. length a.replies) c.note.ensures.3 ∙ length-noted c.self.inside.replies.replies c.in-Some.number c.is_none-over.result c.note.ensures.0 ∙ c.self.invariant.places ∙ sym (length-set c.self.inside.tasks.items c.in-Some.number t.left);
       room = ap (λ a. a.room) c.note.ensures.3 ∙ room_after c.self.inside.tasks.items c.self.inside.replies.room c.in-Some.number t.task t.left c.is_none-over.result c.self.invariant.room t.there (acts_counted g.M.Machine.semantics.meaning g.M.Awaits.starting (record { 0 = t.number }) t.task t.steps t.back t.left t.act ∙ ap (λ b. acts_left t.left + one_if b) (sym (is_over g c)));
     }
 
