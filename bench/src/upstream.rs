@@ -112,6 +112,8 @@ pub fn first_messages<M: RawMutex, const N: usize>(messages: &[u32]) -> Answer {
     let mut total = 0u64;
     for message in messages {
         let channel = Channel::<M, u32, N>::new();
+        // So it stands in memory, as ours does.
+        std::hint::black_box(&channel);
         let _ = channel.try_send(*message);
         turn.next();
         total = total.wrapping_add(channel.try_receive().unwrap_or(0).into());
