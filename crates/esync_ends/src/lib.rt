@@ -31,7 +31,7 @@ struct Tried {
 /// Each such end is played from the beginning, with the lines behind it. Then each request that waits is polled with its last
 /// waker, in a play of its own. One that is answered Ready has to have been told: its waker was handed out in its last poll or
 /// since. Where it wasn't, one line says so, as `after line 3, end 1: request 2 is Ready and was not told`. The last line says
-/// how many ends and polls were tried.
+/// how many ends and polls were tried. An end or a poll that is answered NoSuch isn't one: who leaves ends its requests.
 ///
 /// | Status | The script | Written to `errors` |
 /// |---|---|---|
@@ -128,14 +128,18 @@ fn try_line<P: Player, W: Write>(
     for request in 0..REQS {
         if standing_of(&so_far, &printed, request) != Standing::Free {
             let ended = script.with_end(alloc, line, request)?;
-            tried.ends = tried.ends.saturating_add(1);
             try_end(alloc, player, &ended, line, request, tried, output)?;
         }
     }
     Ok(())
 }
 
-// Polls each request that waits behind an end.
+// Whether the reply says that nothing of this number is there.
+fn is_no_such(reply: &str) -> bool {
+    reply.starts_with("Err(NoSuch)")
+}
+
+// Polls each request that waits behind an end, unless there was nothing to end.
 fn try_end<P: Player, W: Write>(
     alloc: Global,
     player: &P,
@@ -146,9 +150,17 @@ fn try_end<P: Player, W: Write>(
     output: &mut W,
 ) -> Result<(), Fault> {
     let printed = player.play(alloc, ended)?;
+    // Line 1 has no reply, so that of the end is the one of this number.
+    let reply = printed.lines().skip(line.saturating_sub(1)).next();
+    if reply.is_some_and(is_no_such) {
+        return Ok(());
+    }
+    tried.ends = tried.ends.saturating_add(1);
     for request in 0..REQS {
         if let Standing::Waits { waker, is_told } = standing_of(ended, &printed, request) {
-            let is_ready = is_ready(alloc, player, ended, request, waker)?;
+            let Some(is_ready) = is_ready(alloc, player, ended, request, waker)? else {
+                continue;
+            };
             tried.polls = tried.polls.saturating_add(1);
             if is_ready && !is_told {
                 tried.untold = tried.untold.saturating_add(1);
@@ -162,18 +174,21 @@ fn try_end<P: Player, W: Write>(
     Ok(())
 }
 
-// The request, polled behind the script, is answered Ready.
+// Whether the request, polled behind the script, is answered Ready, if it is there.
 fn is_ready<P: Player>(
     alloc: Global,
     player: &P,
     script: &str,
     request: u64,
     waker: u64,
-) -> Result<bool, Fault> {
+) -> Result<Option<bool>, Fault> {
     let polled = format!(in alloc; "{script}poll {request} {waker}\n").map_err(
         |_| Fault::OutOfMemory,
     )?;
     let printed = player.play(alloc, &polled)?;
-    let last = printed.lines().last();
-    Ok(last.is_some_and(|answer| answer.starts_with("Ready")))
+    match printed.lines().last() {
+        Some(reply) if is_no_such(reply) => Ok(None),
+        Some(reply) => Ok(Some(reply.starts_with("Ready"))),
+        None => Ok(None),
+    }
 }
