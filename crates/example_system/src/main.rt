@@ -68,7 +68,7 @@ fn right_first(alloc: Global, r: u8) -> Result<Vec<LockAct>, AllocError> {
 }
 
 fn explore_mutexes(alloc: Global, tasks: &[Vec<LockAct>]) -> Result<Verdict, NewError> {
-    let mutexes: Pair<Mutex, Mutex, 6> = Pair {
+    let mutexes: Pair<Mutex, Mutex> = Pair {
         left: Requests::new(Guarded::new((0, 0), Second {})),
         right: Requests::new(Guarded::new((0, 0), Second {})),
     };

@@ -81,7 +81,7 @@ fn service(alloc: Global) -> Result<Vec<Vec<ServiceAct>>, AllocError> {
 }
 
 fn serve(alloc: Global, limit: usize) -> Result<Verdict, NewError> {
-    let both: Pair<Channel, Channel, 8> = Pair {
+    let both: Pair<Channel, Channel> = Pair {
         left: channel(),
         right: channel(),
     };

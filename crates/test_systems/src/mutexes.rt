@@ -15,6 +15,9 @@ use std::alloc::{AllocError, Global};
 
 type Mutex = MutexRun<(u32, u32), u32, Second, TaskId, 4, 1>;
 
+// A mutex with room for one request.
+type Narrow = MutexRun<(u32, u32), u32, Second, TaskId, 1, 1>;
+
 type OneCommand = MutexCommand<(u32, u32), u32, TaskId>;
 
 type OneAct = Act<Lock, OneCommand>;
@@ -66,7 +69,7 @@ fn takers(alloc: Global, orders: &[bool]) -> Result<Vec<Vec<BothAct>>, AllocErro
 }
 
 fn explore_both(alloc: Global, orders: &[bool], limit: usize) -> Result<Verdict, NewError> {
-    let both: Pair<Mutex, Mutex, 8> = Pair {
+    let both: Pair<Mutex, Mutex> = Pair {
         left: mutex(),
         right: mutex(),
     };
@@ -75,6 +78,25 @@ fn explore_both(alloc: Global, orders: &[bool], limit: usize) -> Result<Verdict,
         right: MUTEX,
     };
     explore_pair(alloc, &compares, both, &takers(alloc, orders)?, limit)
+}
+
+// Two tasks, where the left mutex has no number for the second one's request.
+fn explore_narrow(alloc: Global) -> Result<Verdict, NewError> {
+    let both: Pair<Narrow, Mutex> = Pair {
+        left: Requests::new(Guarded::new((0, 0), Second {})),
+        right: mutex(),
+    };
+    let compares = ComparesBoth {
+        left: MUTEX,
+        right: MUTEX,
+    };
+    explore_pair(
+        alloc,
+        &compares,
+        both,
+        &takers(alloc, &[true, false])?,
+        1000,
+    )
 }
 
 // Two requests of one number.
@@ -123,5 +145,11 @@ fn a_number_that_is_used_twice_is_refused(rt: HostRuntime) -> Result<(), NewErro
     let tasks = locks_twice(rt.alloc())?;
     let refused = explore(rt.alloc(), &MUTEX, mutex(), &tasks, 10);
     assert!(&rt; matches!(refused, Err(NewError::NoSuch)));
+    Ok(())
+}
+
+#[test]
+fn a_number_that_one_part_lacks_is_refused(rt: HostRuntime) -> Result<(), NewError> {
+    assert!(&rt; matches!(explore_narrow(rt.alloc()), Err(NewError::NoSuch)));
     Ok(())
 }
