@@ -112,8 +112,10 @@ fn main(rt: HostRuntime) -> anyhow::Result<()> {
             }
             _ => {
                 let runtime: Runtime<'_, HostRuntime, 8> = Runtime::new(&rt);
-                let lines = array::from_fn(|_| Channel::new(&runtime));
-                tasks::ring(&rt, &runtime, alloc, &lines, count)
+                let lines: [Line<&Runtime<'_, HostRuntime, 8>, 1>; 8] = array::from_fn(
+                    |_| Channel::new(&runtime),
+                );
+                tasks::ring(&rt, &runtime, alloc, &lines[..], count)
             }
         };
         let total = total.context("out of memory")?;

@@ -1,4 +1,5 @@
 //! Messages between tasks of a runtime.
+ghost use Rattle.std.specs.Prelude.{◌≡◌, length};
 ghost use Rattle.esync_tasks.specs.Polled.{IfReady, OnPending};
 
 use crate::threads::Line;
@@ -125,7 +126,9 @@ impl<H: Hand<TaskId>> Future<TaskId> for Hop<'_, H> {
     }
 }
 
-fn hop_of<H: Hand<TaskId>>(lines: &[Line<H, 1>; 8], task: usize, count: u32) -> Hop<'_, H> {
+fn hop_of<H: Hand<TaskId>>(lines: &[Line<H, 1>], task: usize, count: u32) -> Hop<'_, H>
+    requires { length lines.now ≡ 8 }
+{
     Hop {
         from: &lines[task % 8],
         to: &lines[task.wrapping_add(1) % 8],
@@ -140,9 +143,11 @@ pub fn ring<R: Wait + Threads + Sync, H: Hand<TaskId> + Sync + Send>(
     rt: &R,
     runtime: &Runtime<'_, R, 8>,
     alloc: Global,
-    lines: &[Line<H, 1>; 8],
+    lines: &[Line<H, 1>],
     count: u32,
-) -> Option<u64> {
+) -> Option<u64>
+    requires { length lines.now ≡ 8 }
+{
     let _ = lines[0].try_send(0);
     let mut tasks = Vec::with_capacity(alloc, 8).ok()?;
     for task in 0..8usize {
