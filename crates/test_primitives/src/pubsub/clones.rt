@@ -18,7 +18,7 @@ use std::process::Abort;
 pub struct Counted {
     refused: Cell<u32>,
     pub clones: u32,
-    text: &'static str,
+    letter: char,
 }
 
 // No clone is refused; the first one is; the first and the third; the first 32 are.
@@ -40,42 +40,36 @@ impl Clone for Counted {
         Ok(Counted {
             refused: Cell::new(refused / 2),
             clones: self.clones.saturating_add(1),
-            text: self.text,
+            letter: self.letter,
         })
     }
 }
 
 /// A message that wasn't cloned yet.
-pub fn message(refused: u32, text: &'static str) -> Counted {
+pub fn message(refused: u32, letter: char) -> Counted {
     Counted {
         refused: Cell::new(refused),
         clones: 0,
-        text,
+        letter,
     }
 }
 
-fn publishes(rt: &impl Abort, state: &mut Two<Counted, 2>, refused: u32, text: &'static str) {
+fn publishes(rt: &impl Abort, state: &mut Two<Counted, 2>, refused: u32, letter: char) {
     let mut wakes: Wakes<u64, 2> = Wakes::new();
     holds!(rt;
         state
-            .publish_immediate(message(refused, text), &mut wakes)
+            .publish_immediate(message(refused, letter), &mut wakes)
             .is_ok()
     );
 }
 
-// A read gives a message with this text that was cloned so often.
-fn reads(
-    rt: &impl Abort,
-    state: &mut Two<Counted, 2>,
-    id: &SubId,
-    text: &'static str,
-    clones: u32,
-) {
+// A read gives a message of this letter that was cloned so often.
+fn reads(rt: &impl Abort, state: &mut Two<Counted, 2>, id: &SubId, letter: char, clones: u32) {
     let mut wakes: Wakes<u64, 2> = Wakes::new();
     holds!(rt; state.is_subscriber(id));
     match state.try_next_message(id, &mut wakes) {
         Ok(Some(WaitResult::Message(message))) => {
-            same!(rt; message.text, text);
+            same!(rt; message.letter, letter);
             same!(rt; message.clones, clones);
         }
         _ => rt.abort(),
@@ -86,9 +80,9 @@ fn reads(
 fn first_reads_a_clone(rt: &impl Abort, state: &mut Two<Counted, 2>) {
     let first = joins(rt, state);
     let second = joins(rt, state);
-    publishes(rt, state, NONE, "x");
-    reads(rt, state, &first, "x", 1);
-    reads(rt, state, &second, "x", 0);
+    publishes(rt, state, NONE, 'x');
+    reads(rt, state, &first, 'x', 1);
+    reads(rt, state, &second, 'x', 0);
 }
 
 #[test]
@@ -101,14 +95,14 @@ fn the_last_reader_is_given_the_message_itself(rt: HostRuntime) {
 fn first_is_refused(rt: &impl Abort, state: &mut Two<Counted, 2>) {
     let first = joins(rt, state);
     let second = joins(rt, state);
-    publishes(rt, state, BUT_THE_SECOND, "x");
+    publishes(rt, state, BUT_THE_SECOND, 'x');
     let mut wakes: Wakes<u64, 2> = Wakes::new();
     holds!(rt; state.is_subscriber(&first));
     holds!(rt; state.try_next_message(&first, &mut wakes).is_err());
     has(rt, state, &first, 1);
     same!(rt; state.len(), 1);
-    reads(rt, state, &first, "x", 1);
-    reads(rt, state, &second, "x", 0);
+    reads(rt, state, &first, 'x', 1);
+    reads(rt, state, &second, 'x', 0);
     same!(rt; state.len(), 0);
 }
 
@@ -147,12 +141,12 @@ fn a_refused_pure_read_leaves_its_lag(rt: HostRuntime) {
 
 type Topic = PubSubRun<Counted, u64, 2, 2, 2, 2, 1, 2>;
 
-// The text of the message that was read.
-fn text(reply: Option<&PubSubReply<Counted, u64, 2>>) -> Option<&'static str> {
+// The letter of the message that was read.
+fn letter(reply: Option<&PubSubReply<Counted, u64, 2>>) -> Option<char> {
     match &reply?.answer {
-        Answer::Gives(Heard::Read(WaitResult::Message(message))) => Some(message.text),
-        Answer::Gives(Heard::ReadPure(message)) => Some(message.text),
-        Answer::Gives(Heard::Streamed(Some(message))) => Some(message.text),
+        Answer::Gives(Heard::Read(WaitResult::Message(message))) => Some(message.letter),
+        Answer::Gives(Heard::ReadPure(message)) => Some(message.letter),
+        Answer::Gives(Heard::Streamed(Some(message))) => Some(message.letter),
         _ => None,
     }
 }
@@ -180,18 +174,18 @@ fn is_refused_at_first(
     Ok(is_refusal(replies.last()))
 }
 
-// The text of the message that one more poll of the request reads.
-fn reads_at_last(alloc: Global, topic: &mut Topic) -> Result<Option<&'static str>, AllocError> {
+// The letter of the message that one more poll of the request reads.
+fn reads_at_last(alloc: Global, topic: &mut Topic) -> Result<Option<char>, AllocError> {
     let replies = run_pubsub(alloc, topic, vec![in alloc; Command::Poll(0, 9)]?)?;
-    Ok(text(replies.last()))
+    Ok(letter(replies.last()))
 }
 
 // A request of this kind whose clone is refused reads later.
 fn reads_later(rt: &impl Abort, alloc: Global, ask: Ask<Counted>) {
     let mut topic: Topic = Requests::new(Events::new_at(0));
-    let message = message(THE_FIRST, "x");
+    let message = message(THE_FIRST, 'x');
     holds!(rt; is_refused_at_first(alloc, &mut topic, message, ask) == Ok(true));
-    holds!(rt; reads_at_last(alloc, &mut topic) == Ok(Some("x")));
+    holds!(rt; reads_at_last(alloc, &mut topic) == Ok(Some('x')));
 }
 
 // As does one of each kind that reads.
