@@ -116,9 +116,9 @@ fn a_refused_clone_moves_nobody(rt: HostRuntime) {
 fn lag_is_left(rt: &impl Abort, state: &mut Two<Counted, 2>) {
     let first = joins(rt, state);
     let _second = joins(rt, state);
-    publishes(rt, state, MANY, "p");
-    publishes(rt, state, MANY, "q");
-    publishes(rt, state, MANY, "r");
+    publishes(rt, state, MANY, 'p');
+    publishes(rt, state, MANY, 'q');
+    publishes(rt, state, MANY, 'r');
     let mut wakes: Wakes<u64, 2> = Wakes::new();
     holds!(rt; state.is_subscriber(&first));
     holds!(rt; state.try_next_message_pure(&first, &mut wakes).is_err());
