@@ -31,7 +31,7 @@ struct Tried {
 /// Each such end is played from the beginning, with the lines behind it. Then each request that waits is polled with its last
 /// waker, in a play of its own. One that is answered Ready has to have been told: its waker was handed out in its last poll or
 /// since. Where it wasn't, one line says so, as `after line 3, end 1: request 2 is Ready and was not told`. The last line says
-/// how many ends and polls were tried. An end or a poll that is answered NoSuch isn't one: who leaves ends its requests.
+/// how many ends and polls were tried. One that is answered `NoSuch` doesn't count: a subscriber that leaves ends its requests.
 ///
 /// | Status | The script | Written to `errors` |
 /// |---|---|---|

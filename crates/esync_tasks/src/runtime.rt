@@ -344,8 +344,11 @@ impl<R: Wait, const N: usize> Turns for Runtime<'_, R, N> {
 /// Runs the tasks on so many threads, as `Runtime::run` does on one. No two threads poll one task at a time.
 ///
 /// A thread that sleeps is called where two tasks wait for their turn, or where no thread is awake. So a poll that takes long
-/// can keep one other task waiting that was woken meanwhile. It is no method of `Runtime`: beside that type's number it would
-/// not be found that the tasks may be sent.
+/// can keep one other task waiting that was woken meanwhile.
+///
+/// Where a thread can't be made, fewer threads run the tasks, and at least this one does.
+///
+/// It is no method of `Runtime`: beside that type's number the checker doesn't find that the tasks may be sent.
 ///
 /// # Errors
 ///
