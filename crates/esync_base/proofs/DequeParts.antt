@@ -10,7 +10,7 @@ use Rattle.esync_base.specs.contracts.deque.Deque.TheInside.{the_type}
 
 module _ (T N : RattleType) where
   places : Fits (the_row T N) → Fits (places_row T N)
-  places = part_fits (shape (the_type T N)) (layout (places_row T N)) _ 0 refl
+  places = part_fits (shape (the_type T N)) (layout (places_row T N)) _ 3 refl
 
 -- as the methods name them
 pub places_fit : (T : RattleType) (N : ℕ) → Fits (the_row (param 0 T) (param 1 (number N))) → Fits (places_row (param 0 T) (param 1 (number N)))

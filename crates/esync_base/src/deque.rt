@@ -46,10 +46,11 @@ fn close<T, const N: usize>(row: &mut Row<T, N>, gap: usize, count: usize) -> us
 /// The first item gives each place its bytes, which takes time in proportion to `N`. The bytes of an item that was taken stay in
 /// its place until another item is written over them, as in upstream's containers.
 pub struct Deque<T, const N: usize> {
-    row: Row<T, N>,
+    // The row is last: what lies behind a large one is out of reach of a processor's short offsets.
     start: usize,
     end: usize,
     full: bool,
+    row: Row<T, N>,
 }
 
 impl<T, const N: usize> Model for Deque<T, N> {

@@ -301,8 +301,8 @@ impl<const N: usize> ByteRow<N> {
 /// At most `N` bytes, oldest first, in a ring of `N` places.
 #[derive(Debug, Drop)]
 pub struct ByteRing<const N: usize> {
-    row: ByteRow<N>,
     ring: RingBuffer<N>,
+    row: ByteRow<N>,
 }
 
 impl<const N: usize> Model for ByteRing<N> {

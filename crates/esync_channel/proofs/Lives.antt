@@ -13,5 +13,5 @@ module _ (κ s w : Lft) (in_s : κ ⊑ s) (in_w : κ ⊑ w) where
   slot : κ ⊑ (w ++ []) ++ (((w ++ []) ++ ((w ++ []) ++ [])) ++ [])
   slot = joined one (joined (joined one (joined one (⊑_static κ))) (⊑_static κ))
 
-  pub mailbox_lives : κ ⊑ (s ++ (w ++ [])) ++ (s ++ (((w ++ []) ++ (((w ++ []) ++ ((w ++ []) ++ [])) ++ [])) ++ (((w ++ []) ++ (((w ++ []) ++ ((w ++ []) ++ [])) ++ [])) ++ [])))
-  mailbox_lives = joined (joined in_s one) (joined in_s (joined slot (joined slot (⊑_static κ))))
+  pub mailbox_lives : κ ⊑ (s ++ (w ++ [])) ++ (((w ++ []) ++ (((w ++ []) ++ ((w ++ []) ++ [])) ++ [])) ++ (((w ++ []) ++ (((w ++ []) ++ ((w ++ []) ++ [])) ++ [])) ++ (s ++ [])))
+  mailbox_lives = joined (joined in_s one) (joined slot (joined slot (joined in_s (⊑_static κ))))

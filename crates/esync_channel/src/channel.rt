@@ -62,9 +62,9 @@ pub type ChannelState<T, W, const N: usize> = Mailbox<Deque<T, N>, W>;
 /// The state of a channel: its messages, and a waker each of who waits for a message and of who waits for room.
 #[derive(Debug, Drop)]
 pub struct Mailbox<S, W> {
-    queue: S,
     receiver_waker: WakerRegistration<W>,
     senders_waker: WakerRegistration<W>,
+    queue: S,
 }
 
 impl<S: Kept, W: Copy> Kept for Mailbox<S, W> {

@@ -205,6 +205,8 @@ impl<'c, R: ByteStore, H: Hand<TaskId>> Lent<'c, R, H> {
 }
 
 impl<R: ByteStore, H: Hand<TaskId>> DynamicPipe for Lent<'_, R, H> {
+    ghost places = { λ _. R.capacity };
+
     fn capacity(&self) -> usize {
         DynamicPipe::capacity(self.pipe)
     }

@@ -15,7 +15,7 @@ use Rattle.esync_log.specs.contracts.log.held.Held.TheInside.{the_type as held_t
 -- whatever its messages and its numbers are
 module _ (T CAP SUBS : RattleType) where
   held : Fits (log_row T CAP SUBS) → Fits (held_row T CAP)
-  held = part_fits (shape (log_type T CAP SUBS)) (layout (held_row T CAP)) _ 0 refl
+  held = part_fits (shape (log_type T CAP SUBS)) (layout (held_row T CAP)) _ 3 refl
 
   positions : Fits (log_row T CAP SUBS) → Fits (positions_row SUBS)
   positions = part_fits (shape (log_type T CAP SUBS)) (layout (positions_row SUBS)) _ 2 refl

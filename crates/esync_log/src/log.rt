@@ -88,10 +88,10 @@ impl<const SUBS: usize> Positions<SUBS> {
 #[derive_where(Debug; T: fmt::Debug + Drop)]
 #[derive(Drop)]
 pub struct Log<T, const CAP: usize, const SUBS: usize> {
-    held: Held<T, CAP>,
     next: u64,
-    positions: Positions<SUBS>,
     subscribers: usize,
+    positions: Positions<SUBS>,
+    held: Held<T, CAP>,
 }
 
 impl<T, const CAP: usize, const SUBS: usize> Model for Log<T, CAP, SUBS> {

@@ -83,8 +83,8 @@ impl<T: Ord> Kind<T> for Min {
 /// The first item gives each place its bytes, which takes time in proportion to `N`. The bytes of an item that was taken
 /// stay in its place until another item is written over them, as in upstream's containers.
 pub struct PrioQueue<T, K: Kind<T>, const N: usize> {
-    row: Row<T, N>,
     len: usize,
+    row: Row<T, N>,
     kind: PhantomData<K>,
 }
 

@@ -65,10 +65,10 @@ pub type PubSubState<T, W, const CAP: usize, const SUBS: usize, const PUBS: usiz
 #[derive_where(Debug; G: fmt::Debug, S: fmt::Debug, P: fmt::Debug)]
 #[derive(Drop)]
 pub struct PubSubOver<G: LogStore, S: WakerList, P: WakerList<Waker = S::Waker>> {
-    log: G,
     publishers: usize,
     subscriber_wakers: WakerRegistrations<S>,
     publisher_wakers: WakerRegistrations<P>,
+    log: G,
 }
 
 impl<G: LogStore, S: WakerList, P: WakerList<Waker = S::Waker>> Model for PubSubOver<G, S, P> {

@@ -154,13 +154,15 @@ impl<'h, 's, B: PubSubBehavior<Waker = TaskId>> Model for SinkAdapter<'h, 's, B>
 }
 
 impl<'h, 's, B: PubSubBehavior<Waker = TaskId>> SinkAdapter<'h, 's, B> {
-    /// The sink of a publisher, whose channel wakes by this hand. Whoever polls the adapter leaves its waker at the task's place.
-    /// `None` where the hand has no such place.
+    /// The sink of a publisher, whose channel wakes by this hand, with the message that it stores. Whoever polls the adapter leaves its
+    /// waker at the task's place. `None` where the hand has no such place.
     pub fn new<R: Wait>(
         sink: PubSink<'s, B>,
         hand: &'h Registrations<'_, R>,
         task: TaskId,
-    ) -> Option<Self> {
+    ) -> Option<Self>
+        ensures { IfSome result (λ adapter. adapter.stored ≡ sink.entry) }
+    {
         match hand.place(task) {
             Some(registration) => Some(SinkAdapter {
                 sink,

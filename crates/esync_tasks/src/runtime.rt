@@ -117,7 +117,7 @@ impl<const N: usize> Board<N> {
 /// Runs `N` tasks at a time. Task `k` of a run polls with the waker `TaskId(k)`, or `TaskId(at + k)` behind other tasks.
 ///
 /// A reference to it is the hand of the shared forms that the tasks use. A waker that names no task wakes nobody, and so does
-/// one of an earlier run.
+/// each between two runs. One of an earlier run wakes the task of its number, which is polled once more.
 #[derive(Drop)]
 pub struct Runtime<'a, R, const N: usize> {
     rt: &'a R,
@@ -241,7 +241,9 @@ impl<R: Wait, const N: usize> Runtime<'_, R, N> {
         tasks: Vec<F>,
     ) -> Result<Vec<F::Output>, RunError<Vec<F>>>
         requires { All F.can_poll tasks.items }
-        ensures count { IfOk result (λ outputs. vec_len outputs ≡ vec_len tasks) }
+        ensures tasks { IfOk result (λ outputs. vec_len tasks ≡ N) }
+        ensures count { IfOk result (λ outputs. vec_len outputs ≡ N) }
+        ensures another { IfErr result (λ error. error ≡ RunError.Count tasks → vec_len tasks ≡ N → ⊥) }
         ensures returned { IfErr result (λ error. tasks_of error ≡ tasks) }
     {
         let (slots, room) = self.begin(alloc, tasks)?;
@@ -270,6 +272,7 @@ pub trait Turns {
         ensures count { IfOk result (λ begun. vec_len begun.0 ≡ places) }
         ensures empty { IfOk result (λ begun. begun.1.items ≡ []) }
         ensures room { IfOk result (λ begun. places ≤ vec_capacity begun.1) }
+        ensures another { IfErr result (λ error. error ≡ RunError.Count tasks → vec_len tasks ≡ places → ⊥) }
         ensures returned { IfErr result (λ error. tasks_of error ≡ tasks) };
 
     /// Gives turns until all tasks are over.
@@ -344,7 +347,8 @@ impl<R: Wait, const N: usize> Turns for Runtime<'_, R, N> {
 /// Runs the tasks on so many threads, as `Runtime::run` does on one. No two threads poll one task at a time.
 ///
 /// A thread that sleeps is called where two tasks wait for their turn, or where no thread is awake. So a poll that takes long
-/// can keep one other task waiting that was woken meanwhile.
+/// can keep one other task waiting that was woken meanwhile, and a poll that doesn't return before that task has had its turn
+/// never does: a task that has to wait answers Pending.
 ///
 /// Where a thread can't be made, fewer threads run the tasks, and at least this one does.
 ///
@@ -361,7 +365,9 @@ pub fn run_on<B: Turns + Sync, T: Threads + Sync, F: Future<TaskId, Output: Drop
     tasks: Vec<F>,
 ) -> Result<Vec<F::Output>, RunError<Vec<F>>>
     requires { All F.can_poll tasks.items }
-    ensures count { IfOk result (λ outputs. vec_len outputs ≡ vec_len tasks) }
+    ensures tasks { IfOk result (λ outputs. vec_len tasks ≡ B.places) }
+    ensures count { IfOk result (λ outputs. vec_len outputs ≡ B.places) }
+    ensures another { IfErr result (λ error. error ≡ RunError.Count tasks → vec_len tasks ≡ B.places → ⊥) }
     ensures returned { IfErr result (λ error. tasks_of error ≡ tasks) }
 {
     let (slots, room) = runtime.begin(alloc, tasks)?;

@@ -75,10 +75,15 @@ fn explain<'a>(alloc: Global) -> Result<Command<'a>, AllocError> {
 }
 
 fn check<'a>(alloc: Global) -> Result<Command<'a>, AllocError> {
+    let json = Arg::new(alloc, "json")
+        .long("json")
+        .action(ArgAction::SetTrue)
+        .help("A line of JSON for each run, also for one that can't be judged");
     Command::new(alloc, "check")
         .about(
             "Says whether a recorded run, lines COMMAND => ANSWER | WAKERS behind line 1, is a run of its primitive",
         )
+        .arg(json)?
         .arg(files(
             alloc,
             "The recorded runs; standard input where it is - or left out",

@@ -11,6 +11,7 @@ use std::sync::Wait;
 mod arguments;
 mod bad_line;
 mod inputs;
+mod judged;
 mod language;
 mod source;
 mod stopped;

@@ -1,10 +1,10 @@
 //! What each command of the tool does.
 use crate::Streams;
 use crate::inputs::{hint, read_all, reasoned, status, text_of, with_reason};
+use crate::judged::{check, check_as_json, unjudged_as_json};
 use crate::source::Keeping;
 use crate::stopped::Stopped;
 use clap::ArgMatches;
-use esync_check::{Verdict, check_script, print_verdict};
 use esync_ends::try_ends;
 use esync_forms::form::{Door, Doors};
 use esync_script::{play_buffered, play_script};
@@ -44,6 +44,9 @@ where
         }
         "draw" => tell(rt, alloc, &mut Diagram {}, file, streams),
         "explain" => explain(rt, alloc, file, streams),
+        "check" if matches.get_flag("json") => {
+            with_files(rt, alloc, Work::CheckAsJson, matches, streams)
+        }
         "check" => with_files(rt, alloc, Work::Check, matches, streams),
         "ends" => with_files(rt, alloc, Work::Ends, matches, streams),
         _ if matches.get_flag("compare") => with_files(rt, alloc, Work::Compare, matches, streams),
@@ -163,6 +166,7 @@ fn explained_of<S: Read + Drop, O: Write + Drop, N: Write + Drop>(
 #[derive(Clone, Copy)]
 enum Work {
     Check,
+    CheckAsJson,
     Ends,
     Shared,
     Compare,
@@ -184,7 +188,7 @@ where
     E: Write + Drop,
 {
     let names = matches.get_strs("FILE").unwrap_or(&["-"]);
-    let are_several = names.len() > 1;
+    let are_counted = names.len() > 1 && !matches!(what, Work::CheckAsJson);
     let mut greatest = 0;
     let mut counts = Counts::default();
     for name in names {
@@ -195,12 +199,12 @@ where
             errors,
             ..
         } = streams;
-        let heading = are_several.then_some(*name);
+        let heading = are_counted.then_some(*name);
         let outcome = with_text(rt, alloc, what, name, heading, input, output);
         counts.count(&outcome);
         greatest = status(name, outcome, errors).max(greatest);
     }
-    if are_several {
+    if are_counted {
         writeln!(streams.output, "{} files: {counts}", names.len())?;
         streams.output.flush()?;
     }
@@ -255,23 +259,47 @@ where
     I: Read + Drop,
     O: Write,
 {
-    let bytes = read_all(rt, alloc, name, input)?;
-    let text = text_of(alloc, &bytes)?;
     let behind = if matches!(what, Work::Shared) {
         "\n"
     } else {
         " "
     };
     let mut told = Vec::new(alloc);
-    let holds = match what {
-        Work::Check => check(alloc, text, &mut told),
-        Work::Ends => try_ends(alloc, text, &mut told).map_err(Stopped::from),
-        Work::Shared => played(rt, alloc, text, &mut told),
-        Work::Compare => compared(rt, alloc, text, &mut told),
-    };
+    let outcome = gone_through(rt, alloc, what, name, input, &mut told);
+    if let (Work::CheckAsJson, Err(stopped)) = (what, &outcome) {
+        // (where there is no memory for the line, the text on standard error stands alone)
+        if unjudged_as_json(alloc, name, stopped, &mut told).is_err() {
+            told.clear();
+        }
+    }
     if !told.is_empty() {
         write_told(heading, behind, &told, output)?;
     }
+    outcome
+}
+
+// Reads a whole file, and does it with its text: whether it holds, and what is told of it.
+fn gone_through<R, I>(
+    rt: &R,
+    alloc: Global,
+    what: Work,
+    name: &str,
+    input: &mut I,
+    told: &mut Vec<u8>,
+) -> Result<bool, Stopped>
+where
+    R: Files + Wait,
+    I: Read + Drop,
+{
+    let bytes = read_all(rt, alloc, name, input)?;
+    let text = text_of(alloc, &bytes)?;
+    let holds = match what {
+        Work::Check => check(alloc, text, told),
+        Work::CheckAsJson => check_as_json(alloc, name, text, told),
+        Work::Ends => try_ends(alloc, text, told).map_err(Stopped::from),
+        Work::Shared => played(rt, alloc, text, told),
+        Work::Compare => compared(rt, alloc, text, told),
+    };
     holds.map_err(|stopped| reasoned(alloc, stopped, text))
 }
 
@@ -287,13 +315,6 @@ fn write_told<O: Write>(
     }
     output.write_all(told)?;
     output.flush()
-}
-
-// Whether a recorded run is one, which is written.
-fn check<O: Write>(alloc: Global, text: &str, output: &mut O) -> Result<bool, Stopped> {
-    let verdict = check_script(alloc, text)?;
-    print_verdict(text, &verdict, output)?;
-    Ok(matches!(verdict, Verdict::Run(_)))
 }
 
 // Plays a script over a shared form, and writes its replies.

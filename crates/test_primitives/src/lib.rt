@@ -14,5 +14,7 @@ mod pipes;
 #[cfg(test)]
 mod pubsub;
 #[cfg(test)]
+mod stopping;
+#[cfg(test)]
 mod watch;
 pub mod zerocopy;

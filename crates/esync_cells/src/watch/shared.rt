@@ -150,6 +150,9 @@ pub struct SharedWatch<T, L: WakerList, H, const K: usize> {
 
 impl<T: Clone + Drop, L: WakerList, H: Hand<L::Waker>, const K: usize> SharedWatch<T, L, H, K> {
     /// No value, at version 0.
+    ///
+    /// A call hands out at most `K` wakers: as many as may wait have to fit, and `K` has to be below 65536. A caller who takes `K` as a
+    /// number of its own compares it, as by `N <= K && K < 65536`.
     pub fn new(hand: H) -> Self
         requires room { L.room ≤ K }
         requires small { K < 65536 }
@@ -159,7 +162,7 @@ impl<T: Clone + Drop, L: WakerList, H: Hand<L::Waker>, const K: usize> SharedWat
         }
     }
 
-    /// This value, at version 0: nobody has news of it.
+    /// This value, at version 0: nobody has news of it. `K` as for `new`.
     pub fn new_with(value: T, hand: H) -> Self
         requires room { L.room ≤ K }
         requires small { K < 65536 }

@@ -138,17 +138,19 @@ impl<'a, T, W: Copy + Eq, H: Hand<W>> LockFuture<'a, T, W, H> {
 }
 
 /// What a guard unlocks at its end. No other crate can name it, so that nothing but the end of a guard unlocks.
+///
+/// It is used up by that, and a guard asks no `Drop` of it: a guard whose end unlocks twice, or not at all, doesn't compile.
 pub trait Unlocks {
     type Rt: Wait;
 
     /// Unlocks, and wakes who waits.
-    fn unlock(&self);
+    fn unlock(self);
 }
 
 impl<T, W: Copy + Eq, H: Hand<W>> Unlocks for &Mutex<T, W, H> {
     type Rt = H::Rt;
 
-    fn unlock(&self) {
+    fn unlock(self) {
         step!(self.state, |state, wakes| state.unlock(&mut wakes))
     }
 }
@@ -179,7 +181,7 @@ impl<M: Unlocks, G: Drop> Guard<M, G> {
     }
 }
 
-impl<M: Unlocks + Drop, G: Drop> Drop for Guard<M, G> {
+impl<M: Unlocks, G: Drop> Drop for Guard<M, G> {
     fn drop(self) {
         self.put_back().unlock();
     }
@@ -219,7 +221,6 @@ impl<M: Unlocks, G: Holds> Guard<M, G> {
     /// Unlocks, as a drop does.
     pub fn end(self)
     where
-        M: Drop,
         G: Drop,
     {
         drop(self);
@@ -290,7 +291,6 @@ impl<M: Unlocks, G: Holds, U, P: Projection<G::Value, U>> MappedGuard<M, G, U, P
     /// Unlocks, as a drop does.
     pub fn end(self)
     where
-        M: Drop,
         G: Drop,
         P: Drop,
     {

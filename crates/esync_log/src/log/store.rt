@@ -7,7 +7,7 @@ use super::{Exhausted, Log, TryPublishError, WaitResult};
 use std::alloc::AllocError;
 
 /// Messages with consecutive numbers, of which at most a fixed number are held, and a fixed number of places for subscribers.
-pub trait LogStore: Drop {
+pub trait LogStore {
     type Message: Clone;
 
     ghost use Rattle.std.specs.Prelude.{ℕ};

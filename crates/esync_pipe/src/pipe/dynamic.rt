@@ -1,5 +1,5 @@
 //! The ends of a pipe whose type doesn't say how many bytes it can hold, and their futures.
-ghost use Rattle.std.specs.Prelude.{◌≡◌, ◌≤◌, IfOk, OnErr, length, drop};
+ghost use Rattle.std.specs.Prelude.{ℕ, ◌≡◌, ◌≤◌, IfOk, OnErr, length, drop};
 ghost use Rattle.esync_pipe.specs.Polls.{IfReady, KeepsCopy};
 
 use super::{SharedPipe, TryReadError, TryWriteError};
@@ -10,8 +10,12 @@ use std::marker::Model;
 
 /// What the ends of a pipe need of it, whatever its capacity. Who has a pipe makes the reference to its `dyn`.
 pub trait DynamicPipe {
+    /// How many bytes the pipe can hold.
+    ghost places: { Self → ℕ };
+
     /// How many bytes can be held.
-    fn capacity(&self) -> usize;
+    fn capacity(&self) -> usize
+        ensures { result ≡ places self.now };
 
     /// Puts as many of the bytes in as there is room for, and tells how many. Where there is none, the waker, if it is given one, waits
     /// for it.
@@ -34,6 +38,8 @@ pub trait DynamicPipe {
 }
 
 impl<R: ByteStore, H: Hand<TaskId>> DynamicPipe for SharedPipe<R, TaskId, H> {
+    ghost places = { λ _. R.capacity };
+
     fn capacity(&self) -> usize {
         SharedPipe::capacity(self)
     }
@@ -63,6 +69,8 @@ impl<R: ByteStore, H: Hand<TaskId>> DynamicPipe for SharedPipe<R, TaskId, H> {
 }
 
 impl DynamicPipe for &dyn DynamicPipe {
+    ghost places = { λ pipe. (DynamicPipe-dyn pipe.now).places pipe.now.1 };
+
     fn capacity(&self) -> usize {
         (**self).capacity()
     }
@@ -207,7 +215,8 @@ impl<P: DynamicPipe + Drop> DynamicReader<P> {
     /// Returns an end of this pipe that reads, with places for as many bytes as the pipe can hold. No other call takes memory.
     ///
     /// One pipe should have one such end: `consume` takes as many bytes out of the pipe as it is told. So if another end reads, or the
-    /// pipe is cleared, between a fill and its `consume`, that takes bytes which nobody has read.
+    /// pipe is cleared, between a fill and its `consume`, that takes bytes which nobody has read. Where fewer are shown by then, it takes
+    /// none, and those are filled again.
     pub fn new(alloc: Global, pipe: P) -> Result<Self, AllocError>
         ensures { IfOk result (λ reader. length reader ≡ 0) }
     {

@@ -146,6 +146,9 @@ impl<
     const K: usize,
 > SharedPubSub<G, S, P, H, K> {
     /// No message, no subscriber, no publisher, and nobody who waits.
+    ///
+    /// A call hands out at most `K` wakers: as many as may wait at a place have to fit, and one, and `K` has to be below 65536. A caller who
+    /// takes `K` as a number of its own compares it, as by `K < 65536`.
     pub fn new(hand: H) -> Self
         requires capacity { 1 ≤ G.capacity }
         requires wakers { G.places ≤ S.room }

@@ -1,5 +1,5 @@
 // The futures of publishers and subscribers.
-ghost use Rattle.std.specs.Prelude.{IsSome};
+ghost use Rattle.std.specs.Prelude.{◌≡◌, IsSome, IfSome, IfErr};
 ghost use Rattle.esync_tasks.specs.Polled.{IfReady, OnPending};
 
 use super::ready_or_refused;
@@ -11,11 +11,13 @@ use esync_pubsub::pubsub::{
 };
 use std::alloc::AllocError;
 
-/// It may be polled until the message is published, or comes back.
+/// It may be polled until the message is published, or comes back: what comes back is the message that it was given.
 impl<B: PubSubBehavior> Future<B::Waker> for PublisherWaitFuture<'_, B> {
     type Output = Result<(), Exhausted<B::Message>>;
 
     ghost can_poll = { λ message. IsSome message };
+
+    ghost gives = { λ message output. IfSome message (λ m. IfErr output (λ back. back.0 ≡ m)) };
 
     fn poll(&mut self, cx: &Context<B::Waker>) -> Poll<Result<(), Exhausted<B::Message>>> {
         PublisherWaitFuture::poll(self, cx)

@@ -218,9 +218,16 @@ pub struct Sender<'a, T, W, H> {
 }
 
 impl<T, W: Copy + Eq, H: Hand<W>> Sender<'_, T, W, H> {
+    ghost use Rattle.std.specs.Prelude.{⊤};
+    ghost use Rattle.std.specs.Borrow.{sem, follows_so};
+    ghost use mathlib.Core.Option.{none};
+    ghost use Rattle.esync_zerocopy.specs.contracts.zerocopy_channel.shared.Sender.{the_row};
+    ghost use mir.Syntax.{named};
+
     /// Lends the side, for as long as this one is borrowed.
     pub fn borrow(&mut self) -> Sender<'_, T, W, H>
-        ensures { slots_of_sender result ≡ slots_of_sender self.old }
+        ensures* leaves { sem 𝓛 (follows_so (the_row (record { mir = named 1; lft = [] }) T.row W.row H.row) (the_row (record { mir = named 1; lft = [] }) T.row W.row H.row) self.entry.ghost_name none (λ _ _. ⊤) (λ v. v ≡ self.old)) }
+        ensures slots { slots_of_sender result ≡ slots_of_sender self.old }
     {
         Sender {
             channel: self.channel,
@@ -246,12 +253,16 @@ impl<T, W: Copy + Eq, H: Hand<W>> Sender<'_, T, W, H> {
     }
 
     /// Sends the next spare slot as it is, if there is one, and wakes who waits to receive.
-    pub fn send_done(&mut self) {
+    pub fn send_done(&mut self)
+        ensures { slots_of_sender self.new ≡ slots_of_sender self.old }
+    {
         self.channel.done(Side::Sender)
     }
 
     /// Makes all slots spare, and wakes who waits to send. Where the receiver's slot is lent, that is refused, and nothing changes.
-    pub fn clear(&mut self) -> Result<(), SlotLent> {
+    pub fn clear(&mut self) -> Result<(), SlotLent>
+        ensures { slots_of_sender self.new ≡ slots_of_sender self.old }
+    {
         self.channel.clear_by(Side::Sender)
     }
 
@@ -290,9 +301,16 @@ pub struct Receiver<'a, T, W, H> {
 }
 
 impl<T, W: Copy + Eq, H: Hand<W>> Receiver<'_, T, W, H> {
+    ghost use Rattle.std.specs.Prelude.{⊤};
+    ghost use Rattle.std.specs.Borrow.{sem, follows_so};
+    ghost use mathlib.Core.Option.{none};
+    ghost use Rattle.esync_zerocopy.specs.contracts.zerocopy_channel.shared.Receiver.{the_row};
+    ghost use mir.Syntax.{named};
+
     /// Lends the side, for as long as this one is borrowed.
     pub fn borrow(&mut self) -> Receiver<'_, T, W, H>
-        ensures { slots_of_receiver result ≡ slots_of_receiver self.old }
+        ensures* leaves { sem 𝓛 (follows_so (the_row (record { mir = named 1; lft = [] }) T.row W.row H.row) (the_row (record { mir = named 1; lft = [] }) T.row W.row H.row) self.entry.ghost_name none (λ _ _. ⊤) (λ v. v ≡ self.old)) }
+        ensures slots { slots_of_receiver result ≡ slots_of_receiver self.old }
     {
         Receiver {
             channel: self.channel,
@@ -318,12 +336,16 @@ impl<T, W: Copy + Eq, H: Hand<W>> Receiver<'_, T, W, H> {
     }
 
     /// Gives the oldest held slot back, if there is one, and wakes who waits to send.
-    pub fn receive_done(&mut self) {
+    pub fn receive_done(&mut self)
+        ensures { slots_of_receiver self.new ≡ slots_of_receiver self.old }
+    {
         self.channel.done(Side::Receiver)
     }
 
     /// Makes all slots spare, and wakes who waits to send. Where the sender's slot is lent, that is refused, and nothing changes.
-    pub fn clear(&mut self) -> Result<(), SlotLent> {
+    pub fn clear(&mut self) -> Result<(), SlotLent>
+        ensures { slots_of_receiver self.new ≡ slots_of_receiver self.old }
+    {
         self.channel.clear_by(Side::Receiver)
     }
 
@@ -380,14 +402,16 @@ impl<'a, T, W: Copy + Eq, H: Hand<W>> ZeroRequest<'a, T, W, H> {
 }
 
 /// What a loan ends, at the side that it is lent to.
+///
+/// It is used up by that, and a loan asks no `Drop` of it: a loan that is ended twice, or not at all, doesn't compile.
 pub trait EndsLoan {
     type Rt: Wait;
 
     /// Sends the slot, or gives it back, and wakes who waits on the other side.
-    fn done(&self);
+    fn done(self);
 
     /// Ends the loan alone: the slot stays the side's next one.
-    fn end(&self);
+    fn end(self);
 }
 
 /// The side of a channel that a slot is lent to.
@@ -400,11 +424,11 @@ pub struct LentTo<'a, T, W, H> {
 impl<T, W: Copy + Eq, H: Hand<W>> EndsLoan for LentTo<'_, T, W, H> {
     type Rt = H::Rt;
 
-    fn done(&self) {
+    fn done(self) {
         self.channel.done(self.side);
     }
 
-    fn end(&self) {
+    fn end(self) {
         let channel = self.channel;
         channel.turns.guard().end_loan(self.side);
     }
@@ -448,7 +472,7 @@ impl<S: EndsLoan, G: Drop> Loan<S, G> {
     }
 }
 
-impl<S: EndsLoan + Drop, G: Drop> Drop for Loan<S, G> {
+impl<S: EndsLoan, G: Drop> Drop for Loan<S, G> {
     fn drop(self) {
         self.put_back().end();
     }
@@ -477,7 +501,6 @@ impl<S: EndsLoan, G: Holds> Loan<S, G> {
     /// Sends the slot, or gives it back, and wakes who waits on the other side.
     pub fn done(self)
     where
-        S: Drop,
         G: Drop,
     {
         self.put_back().done();
@@ -486,7 +509,6 @@ impl<S: EndsLoan, G: Holds> Loan<S, G> {
     /// Ends the loan, as a drop does.
     pub fn end(self)
     where
-        S: Drop,
         G: Drop,
     {
         drop(self);

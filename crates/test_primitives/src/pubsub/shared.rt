@@ -1,4 +1,4 @@
-use esync_base::waitqueue::{Context, Poll};
+use esync_base::waitqueue::{Context, Hand, Poll};
 use esync_notes::{Notes, holds, woken};
 use esync_pubsub::pubsub::{Error, Pub, PubSubBehavior, PubSubChannel, Sub, WaitResult};
 use std::alloc::AllocError;
@@ -127,4 +127,22 @@ fn skip_clone_for_last_message(rt: HostRuntime) {
     let channel: PubSubChannel<Tally, u64, _, 1, 2, 1, 2> = PubSubChannel::new(&notes);
     let subscribers = (channel.subscriber(), channel.subscriber());
     clones_once(&rt, channel.publisher(), subscribers);
+}
+
+// A channel with places for two subscribers and a publisher, if there may be one whose calls hand out so many wakers.
+fn with_room<H: Hand<u64>, const K: usize>(
+    hand: H,
+) -> Option<PubSubChannel<u32, u64, H, 4, 2, 1, K>> {
+    (2 <= K && K < 65536).then(|| PubSubChannel::new(hand))
+}
+
+#[test]
+fn a_caller_compares_the_room_for_the_wakers_of_a_channel(rt: HostRuntime) {
+    let notes = Notes::new(&rt);
+    holds!(rt; with_room::<_, 1>(&notes).is_none());
+    holds!(rt; with_room::<_, 65536>(&notes).is_none());
+    match with_room::<_, 2>(&notes) {
+        Some(channel) => holds!(rt; channel.publisher().is_ok()),
+        None => holds!(rt; false),
+    }
 }

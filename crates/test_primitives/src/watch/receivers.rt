@@ -1,3 +1,4 @@
+use esync_base::waitqueue::Hand;
 use esync_cells::watch::Watch;
 use esync_notes::{Notes, holds};
 
@@ -12,4 +13,20 @@ fn a_watch_without_places_has_anonymous_receivers_alone(rt: HostRuntime) {
     holds!(rt; anonymous.try_changed_and(|x| *x > 5) == Ok(Some(10)));
     holds!(rt; anonymous.try_changed() == Ok(None));
     holds!(rt; anonymous.try_get() == Ok(Some(10)));
+}
+
+// A watch that two receivers wait at, if there may be one whose calls hand out so many wakers.
+fn with_room<H: Hand<u64>, const K: usize>(hand: H) -> Option<Watch<u32, u64, H, 2, K>> {
+    (2 <= K && K < 65536).then(|| Watch::new(hand))
+}
+
+#[test]
+fn a_caller_compares_the_room_for_the_wakers_of_a_watch(rt: HostRuntime) {
+    let notes = Notes::new(&rt);
+    holds!(rt; with_room::<_, 1>(&notes).is_none());
+    holds!(rt; with_room::<_, 65536>(&notes).is_none());
+    match with_room::<_, 3>(&notes) {
+        Some(watch) => holds!(rt; watch.sender().send(10) == Ok(())),
+        None => holds!(rt; false),
+    }
 }

@@ -1,79 +1,17 @@
 //! A loan ends in two steps: its value goes back into the slot, and then the state is told. Here another thread polls the
 //! same request in between, each time and not by luck: the hand stops the end of the loan before the state's lock, until
 //! the other thread has polled.
+use crate::stopping::{ENDED, Marks, RUNS, STANDS, STOPS, Stopping};
 use esync_base::waitqueue::{Context, Hand, Poll};
 use esync_notes::{holds, same};
 use esync_zerocopy::zerocopy_channel::{
     Channel, Receiver, Sender, Slot, SlotLent, SlotLoan, ZeroRequest,
 };
 use std::alloc::{AllocError, Global};
-use std::sync::atomic::{AtomicU32, AtomicU64, Ordering};
+use std::sync::atomic::Ordering;
 use std::sync::{Mutex, Wait};
 use std::test::Fail;
 use std::thread;
-
-// No call is stopped.
-const RUNS: u32 = 0;
-
-// The next call is stopped before it takes the state's lock.
-const STOPS: u32 = 1;
-
-// A call stands before the state's lock.
-const STANDS: u32 = 2;
-
-// The call that stood is over.
-const ENDED: u32 = 3;
-
-// How far the end of the first loan is, and the sum of the wakers that were handed out.
-#[derive(Drop)]
-struct Marks {
-    step: AtomicU32,
-    given: AtomicU64,
-}
-
-impl Marks {
-    fn new() -> Self {
-        Marks {
-            step: AtomicU32::new(RUNS),
-            given: AtomicU64::new(0),
-        }
-    }
-
-    fn set(&self, step: u32) {
-        self.step.store(step, Ordering::SeqCst);
-    }
-
-    fn awaits(&self, rt: &impl Wait, step: u32) {
-        for _ in rt.forever() {
-            if self.step.load(Ordering::SeqCst) == step {
-                break;
-            }
-        }
-    }
-}
-
-// A hand that stops a call before the state's lock, and adds up the wakers that it is given.
-#[derive(Drop)]
-struct Stopping<'a, R> {
-    rt: &'a R,
-    marks: &'a Marks,
-}
-
-impl<R: Wait> Hand<u64> for Stopping<'_, R> {
-    type Rt = R;
-
-    fn rt(&self) -> &R {
-        if self.marks.step.load(Ordering::SeqCst) == STOPS {
-            self.marks.set(STANDS);
-            self.marks.awaits(self.rt, RUNS);
-        }
-        self.rt
-    }
-
-    fn wake(&self, waker: u64) {
-        self.marks.given.fetch_add(waker, Ordering::SeqCst);
-    }
-}
 
 // The waker of the first poll, which is lent a slot.
 const FIRST: u64 = 1;

@@ -1,0 +1,138 @@
+//! The verdict on a recorded run, for people and as JSON.
+use crate::stopped::Stopped;
+use esync_check::difference::Difference;
+use esync_check::recording::{Recording, split_line};
+use esync_check::{Verdict, check_script, print_verdict};
+use esync_script::play_text;
+use esync_words::explain::Explained;
+use serde_json::{Value, json};
+use std::alloc::{AllocError, Global};
+use std::io::{self, Write};
+
+/// Whether a recorded run is one, which is written. Where it is none, why its primitive hands out each waker there is written too.
+pub fn check<O: Write>(alloc: Global, text: &str, output: &mut O) -> Result<bool, Stopped> {
+    let verdict = check_script(alloc, text)?;
+    print_verdict(text, &verdict, output)?;
+    let Verdict::Another(difference) = verdict else {
+        return Ok(true);
+    };
+    for reason in &reasons(alloc, text, difference.line)? {
+        writeln!(output, "why: {reason}")?;
+    }
+    Ok(false)
+}
+
+/// Whether a recorded run is one, which is written as a line of JSON.
+///
+/// | `verdict` | Beside `file` it has |
+/// |---|---|
+/// | `run` | `primitive`, which is line 1, and how many `commands` |
+/// | `another` | `primitive`; the `line` whose reply is another, its `command`, the reply that was `recorded`, the one that the primitive has `given`, and `why` it hands out each waker there |
+pub fn check_as_json<O: Write>(
+    alloc: Global,
+    name: &str,
+    text: &str,
+    output: &mut O,
+) -> Result<bool, Stopped> {
+    let (primitive, _) = split_line(text);
+    match check_script(alloc, text)? {
+        Verdict::Run(commands) => {
+            let found = json!(in alloc; {
+                "file": name, "verdict": "run", "primitive": primitive, "commands": commands
+            })?;
+            write_line(alloc, &found, output)?;
+            Ok(true)
+        }
+        Verdict::Another(difference) => {
+            let reasons = reasons(alloc, text, difference.line)?;
+            let found = another(alloc, name, text, &difference, &reasons)?;
+            write_line(alloc, &found, output)?;
+            Ok(false)
+        }
+    }
+}
+
+/// Writes as a line of JSON why an input has no verdict: `verdict` is `none`, and beside `file` it has the `status` and the `reason`.
+pub fn unjudged_as_json<O: Write>(
+    alloc: Global,
+    name: &str,
+    stopped: &Stopped,
+    output: &mut O,
+) -> Result<(), Stopped> {
+    let reason = format!(in alloc; "{stopped}")?;
+    let status = u64::from(stopped.status());
+    let found = json!(in alloc; {
+        "file": name, "verdict": "none", "status": status, "reason": reason.as_str()
+    })?;
+    write_line(alloc, &found, output)?;
+    Ok(())
+}
+
+fn another(
+    alloc: Global,
+    name: &str,
+    text: &str,
+    difference: &Difference,
+    reasons: &[String],
+) -> Result<Value, AllocError> {
+    let (primitive, _) = split_line(text);
+    let recorded = text
+        .split('\n')
+        .nth(difference.line.saturating_sub(1) as usize)
+        .unwrap_or("");
+    let (command, _) = recorded.split_once(" => ").unwrap_or((recorded, ""));
+    let mut why = Vec::new(alloc);
+    for reason in reasons {
+        why.push(Value::try_from_str(alloc, reason.as_str())?)?;
+    }
+    json!(in alloc; {
+        "file": name,
+        "verdict": "another",
+        "primitive": primitive,
+        "line": difference.line,
+        "command": command,
+        "recorded": difference.recorded.as_str(),
+        "given": difference.given.as_str(),
+        "why": Value::Array(why)
+    })
+}
+
+fn write_line<O: Write>(alloc: Global, value: &Value, output: &mut O) -> io::Result<()> {
+    let line = value.to_string(alloc)?;
+    writeln!(output, "{line}")
+}
+
+// Why each waker is handed out at the line of this number of a recorded run, as an explanation of its script says.
+fn reasons(alloc: Global, text: &str, number: u64) -> Result<Vec<String>, Stopped> {
+    let recording = Recording::read(alloc, text)?;
+    let script = recording.script.as_str();
+    let before = notes(alloc, script, number.saturating_sub(1))?;
+    let behind = notes(alloc, script, number)?;
+    let own = behind.get(before.len()..).unwrap_or(&[]);
+    let mut reasons = Vec::new(alloc);
+    for note in str::from_utf8(own).unwrap_or("").split('\n') {
+        // (the other notes, who stands where and what the primitive holds, begin with a word)
+        let note = note.trim_start();
+        if note.starts_with(|first: char| first.is_ascii_digit()) {
+            reasons
+                .push(String::from_str(alloc, note)?)
+                .map_err(AllocError::from)?;
+        }
+    }
+    Ok(reasons)
+}
+
+// The notes of an explanation of the first so many lines of a script.
+fn notes(alloc: Global, script: &str, count: u64) -> Result<Vec<u8>, Stopped> {
+    let mut lines = String::new(alloc);
+    for line in script.split('\n').take(count as usize) {
+        lines.push_str(line)?;
+        lines.push('\n')?;
+    }
+    let mut notes = Vec::new(alloc);
+    let mut answers = Vec::new(alloc);
+    let mut explained = Explained::new(alloc, &mut notes);
+    play_text(alloc, &mut explained, lines.as_str(), &mut answers)?;
+    drop(explained);
+    Ok(notes)
+}
