@@ -16,7 +16,7 @@ pub use handles::{
 pub use shared::{PubSubBehavior, PubSubChannel, SharedPubSub};
 use std::alloc::AllocError;
 use std::fmt::{self, Debug};
-use std::marker::Model;
+use std::marker::{Model, PhantomData};
 use thiserror::Error;
 
 mod handles;
@@ -68,6 +68,8 @@ pub struct PubSubOver<G: LogStore, S: WakerList, P: WakerList<Waker = S::Waker>>
     publishers: usize,
     subscriber_wakers: WakerRegistrations<S>,
     publisher_wakers: WakerRegistrations<P>,
+    // Names what a message borrows, which the checker looks for in the type of a field.
+    message: PhantomData<G::Message>,
     log: G,
 }
 
@@ -118,10 +120,11 @@ impl<G: LogStore, S: WakerList, P: WakerList<Waker = S::Waker>> PubSubOver<G, S,
         ensures { result ≡ fresh G.places next }
     {
         PubSubOver {
-            log: G::new_at(next),
             publishers: 0,
             subscriber_wakers: WakerRegistrations::new(),
             publisher_wakers: WakerRegistrations::new(),
+            message: PhantomData,
+            log: G::new_at(next),
         }
     }
 

@@ -1,7 +1,7 @@
 //! Subscribers as streams of the crate `futures`, and publishers as its sinks, for its executors.
 #![tactic(auto)]
 
-ghost use Rattle.std.specs.Prelude.{◌≡◌, Some, None, Ok};
+ghost use Rattle.std.specs.Prelude.{◌≡◌, Some, None, Ok, IfSome};
 ghost use Rattle.esync_pubsub.specs.PubSub.{Flushes};
 ghost use Rattle.esync_streams.specs.Told.{told, as_poll};
 ghost use Rattle.futures.specs.Poll.{OnPending};

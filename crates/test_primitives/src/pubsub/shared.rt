@@ -1,4 +1,4 @@
-use esync_base::waitqueue::{Context, Hand, Poll};
+use esync_base::waitqueue::{Context, Poll};
 use esync_notes::{Notes, holds, woken};
 use esync_pubsub::pubsub::{Error, Pub, PubSubBehavior, PubSubChannel, Sub, WaitResult};
 use std::alloc::AllocError;
@@ -130,10 +130,13 @@ fn skip_clone_for_last_message(rt: HostRuntime) {
 }
 
 // A channel with places for two subscribers and a publisher, if there may be one whose calls hand out so many wakers.
-fn with_room<H: Hand<u64>, const K: usize>(
-    hand: H,
-) -> Option<PubSubChannel<u32, u64, H, 4, 2, 1, K>> {
-    (2 <= K && K < 65536).then(|| PubSubChannel::new(hand))
+fn with_room<'n, R: Wait, const K: usize>(
+    notes: &'n Notes<'n, R>,
+) -> Option<PubSubChannel<u32, u64, &'n Notes<'n, R>, 4, 2, 1, K>> {
+    if 2 <= K && K < 65536 {
+        return Some(PubSubChannel::new(notes));
+    }
+    None
 }
 
 #[test]

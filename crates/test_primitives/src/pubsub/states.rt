@@ -70,3 +70,22 @@ fn a_state_counts_who_has_still_to_read(rt: HostRuntime) -> Result<(), AllocErro
     same!(rt; state.reader_count(2), None);
     Ok(())
 }
+
+// Whether a subscriber is given this text itself.
+fn is_passed_on(text: &str) -> Result<bool, AllocError> {
+    let mut state: PubSubState<&str, u64, 2, 1, 1> = PubSubState::new();
+    let mut wakes: Wakes<u64, 1> = Wakes::new();
+    let Ok(id) = state.subscribe() else {
+        return Ok(false);
+    };
+    let is_published = state.publish_immediate(text, &mut wakes).is_ok();
+    let read = state.try_next_message(&id, &mut wakes)?;
+    Ok(is_published && read == Some(WaitResult::Message(text)))
+}
+
+#[test]
+fn a_message_may_borrow(rt: HostRuntime) -> Result<(), AllocError> {
+    let text = format!(in rt.alloc(); "tick {}", 7)?;
+    holds!(rt; is_passed_on(text.as_str())?);
+    Ok(())
+}

@@ -1,6 +1,6 @@
-use esync_base::waitqueue::Hand;
 use esync_cells::watch::Watch;
 use esync_notes::{Notes, holds};
+use std::sync::Wait;
 
 #[test]
 fn a_watch_without_places_has_anonymous_receivers_alone(rt: HostRuntime) {
@@ -16,8 +16,13 @@ fn a_watch_without_places_has_anonymous_receivers_alone(rt: HostRuntime) {
 }
 
 // A watch that two receivers wait at, if there may be one whose calls hand out so many wakers.
-fn with_room<H: Hand<u64>, const K: usize>(hand: H) -> Option<Watch<u32, u64, H, 2, K>> {
-    (2 <= K && K < 65536).then(|| Watch::new(hand))
+fn with_room<'n, R: Wait, const K: usize>(
+    notes: &'n Notes<'n, R>,
+) -> Option<Watch<u32, u64, &'n Notes<'n, R>, 2, K>> {
+    if 2 <= K && K < 65536 {
+        return Some(Watch::new(notes));
+    }
+    None
 }
 
 #[test]
