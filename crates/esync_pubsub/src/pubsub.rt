@@ -69,6 +69,7 @@ pub struct PubSubOver<G: LogStore, S: WakerList, P: WakerList<Waker = S::Waker>>
     subscriber_wakers: WakerRegistrations<S>,
     publisher_wakers: WakerRegistrations<P>,
     // Names what a message borrows, which the checker looks for in the type of a field.
+    #[derive_where(skip)]
     message: PhantomData<G::Message>,
     log: G,
 }

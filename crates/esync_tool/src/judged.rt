@@ -11,7 +11,10 @@ use std::io::{self, Write};
 
 /// Whether a recorded run is one, which is written. Where it is none, why its primitive hands out each waker there is written too.
 pub fn check<O: Write>(alloc: Global, text: &str, output: &mut O) -> Result<bool, Stopped> {
-    let verdict = check_script(alloc, text)?;
+    let verdict = match check_script(alloc, text)? {
+        Verdict::Another(difference) => Verdict::Another(shortened(alloc, &difference)?),
+        run => run,
+    };
     print_verdict(text, &verdict, output)?;
     let Verdict::Another(difference) = verdict else {
         return Ok(true);
@@ -44,6 +47,7 @@ pub fn check_as_json<O: Write>(
             Ok(true)
         }
         Verdict::Another(difference) => {
+            let difference = shortened(alloc, &difference)?;
             let reasons = reasons(alloc, text, difference.line)?;
             let found = another(alloc, name, text, &difference, &reasons)?;
             write_line(alloc, &found, output)?;
@@ -66,6 +70,29 @@ pub fn unjudged_as_json<O: Write>(
     })?;
     write_line(alloc, &found, output)?;
     Ok(())
+}
+
+// How many characters of a reply are shown. No primitive has a longer one.
+const SHOWN: usize = 1000;
+
+fn shortened(alloc: Global, difference: &Difference) -> Result<Difference, AllocError> {
+    Ok(Difference {
+        line: difference.line,
+        recorded: beginning(alloc, difference.recorded.as_str())?,
+        given: beginning(alloc, difference.given.as_str())?,
+    })
+}
+
+// The beginning of a reply, and how long it is where that isn't all.
+fn beginning(alloc: Global, reply: &str) -> Result<String, AllocError> {
+    let mut text = String::new(alloc);
+    for character in reply.chars().take(SHOWN) {
+        text.push(character)?;
+    }
+    if text.len() < reply.len() {
+        write!(text, ".. ({} bytes)", reply.len())?;
+    }
+    Ok(text)
 }
 
 fn another(

@@ -11,7 +11,7 @@ use std::test::Fail;
 
 type Topic = PubSubState<String, u64, 2, 2, 1>;
 
-// Publishes a text. Nobody waits for it.
+// Publishes a text at once. Nobody waits for it.
 fn publishes(
     rt: &(impl Abort + Print),
     alloc: Global,
@@ -65,7 +65,9 @@ fn a_refused_clone_of_a_text_moves_no_subscriber(rt: HostRuntime) -> Result<(), 
     let (Ok(first), Ok(second)) = (topic.subscribe(), topic.subscribe()) else {
         rt.abort()
     };
-    publishes(&rt, rt.alloc(), &mut topic, "x")?;
+    let mut wakes: Wakes<u64, 2> = Wakes::new();
+    let message = again!(rt; String::from_str(rt.alloc(), "x"));
+    holds!(rt; topic.try_publish(message, &mut wakes).is_ok());
     both_read(&rt, &mut topic, &first, &second)
 }
 
