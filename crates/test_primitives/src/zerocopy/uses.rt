@@ -39,3 +39,21 @@ pub fn tells_two<H: Hand<u64> + Drop>(alloc: Global, hand: H) -> Result<[usize; 
     let (sending, receiving) = (sender.borrow().capacity(), receiver.borrow().capacity());
     Ok([before, sending, receiving, channel.capacity()])
 }
+
+/// Makes a channel of two slots, whose sides send, receive, clear and are lent. Each tells a capacity of 2 afterwards.
+pub fn still_tells_two<H: Hand<u64> + Drop>(
+    alloc: Global,
+    hand: H,
+) -> Result<[usize; 3], AllocError>
+    ensures { IfOk result (λ told. told ≡ 2 ∷ 2 ∷ 2 ∷ []) }
+{
+    let slots = vec![in alloc; Slot::new(8u32), Slot::new(9u32)]?;
+    let mut channel = Channel::new(slots, hand);
+    let (mut sender, mut receiver) = channel.split();
+    sender.send_done();
+    let lent = sender.borrow().capacity();
+    let _ = sender.clear();
+    receiver.receive_done();
+    let _ = receiver.clear();
+    Ok([lent, sender.capacity(), receiver.capacity()])
+}
