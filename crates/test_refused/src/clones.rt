@@ -66,7 +66,7 @@ fn a_refused_clone_of_a_text_moves_no_subscriber(rt: HostRuntime) -> Result<(), 
         rt.abort()
     };
     let mut wakes: Wakes<u64, 2> = Wakes::new();
-    let message = again!(rt; String::from_str(rt.alloc(), "x"));
+    let message = again!(&rt; String::from_str(rt.alloc(), "x"));
     holds!(rt; topic.try_publish(message, &mut wakes).is_ok());
     both_read(&rt, &mut topic, &first, &second)
 }
