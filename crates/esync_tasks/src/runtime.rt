@@ -244,6 +244,7 @@ impl<R: Wait, const N: usize> Runtime<'_, R, N> {
         ensures tasks { IfOk result (λ outputs. vec_len tasks ≡ N) }
         ensures count { IfOk result (λ outputs. vec_len outputs ≡ N) }
         ensures another { IfErr result (λ error. error ≡ RunError.Count tasks → vec_len tasks ≡ N → ⊥) }
+        ensures counted { IfErr result (λ error. (vec_len tasks ≡ N → ⊥) → error ≡ RunError.Count tasks) }
         ensures returned { IfErr result (λ error. tasks_of error ≡ tasks) }
     {
         let (slots, room) = self.begin(alloc, tasks)?;
@@ -273,6 +274,7 @@ pub trait Turns {
         ensures empty { IfOk result (λ begun. begun.1.items ≡ []) }
         ensures room { IfOk result (λ begun. places ≤ vec_capacity begun.1) }
         ensures another { IfErr result (λ error. error ≡ RunError.Count tasks → vec_len tasks ≡ places → ⊥) }
+        ensures counted { IfErr result (λ error. (vec_len tasks ≡ places → ⊥) → error ≡ RunError.Count tasks) }
         ensures returned { IfErr result (λ error. tasks_of error ≡ tasks) };
 
     /// Gives turns until all tasks are over.
@@ -368,6 +370,7 @@ pub fn run_on<B: Turns + Sync, T: Threads + Sync, F: Future<TaskId, Output: Drop
     ensures tasks { IfOk result (λ outputs. vec_len tasks ≡ B.places) }
     ensures count { IfOk result (λ outputs. vec_len outputs ≡ B.places) }
     ensures another { IfErr result (λ error. error ≡ RunError.Count tasks → vec_len tasks ≡ B.places → ⊥) }
+    ensures counted { IfErr result (λ error. (vec_len tasks ≡ B.places → ⊥) → error ≡ RunError.Count tasks) }
     ensures returned { IfErr result (λ error. tasks_of error ≡ tasks) }
 {
     let (slots, room) = runtime.begin(alloc, tasks)?;

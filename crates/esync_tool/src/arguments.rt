@@ -79,11 +79,16 @@ fn check<'a>(alloc: Global) -> Result<Command<'a>, AllocError> {
         .long("json")
         .action(ArgAction::SetTrue)
         .help("A line of JSON for each run, also for one that can't be judged");
+    let why = Arg::new(alloc, "why")
+        .long("why")
+        .action(ArgAction::SetTrue)
+        .help("Where a run goes wrong, say also why its primitive hands out each waker there");
     Command::new(alloc, "check")
         .about(
             "Says whether a recorded run, lines COMMAND => ANSWER | WAKERS behind line 1, is a run of its primitive",
         )
         .arg(json)?
+        .arg(why)?
         .arg(files(
             alloc,
             "The recorded runs; standard input where it is - or left out",

@@ -9,8 +9,14 @@ use serde_json::{Value, json};
 use std::alloc::{AllocError, Global};
 use std::io::{self, Write};
 
-/// Whether a recorded run is one, which is written. Where it is none, why its primitive hands out each waker there is written too.
-pub fn check<O: Write>(alloc: Global, text: &str, output: &mut O) -> Result<bool, Stopped> {
+/// Whether a recorded run is one, which is written. Where it is none, and that is asked for, why its primitive hands out each waker
+/// there is written too.
+pub fn check<O: Write>(
+    alloc: Global,
+    text: &str,
+    is_why_asked: bool,
+    output: &mut O,
+) -> Result<bool, Stopped> {
     let verdict = match check_script(alloc, text)? {
         Verdict::Another(difference) => Verdict::Another(shortened(alloc, &difference)?),
         run => run,
@@ -19,8 +25,10 @@ pub fn check<O: Write>(alloc: Global, text: &str, output: &mut O) -> Result<bool
     let Verdict::Another(difference) = verdict else {
         return Ok(true);
     };
-    for reason in &reasons(alloc, text, difference.line)? {
-        writeln!(output, "why: {reason}")?;
+    if is_why_asked {
+        for reason in &reasons(alloc, text, difference.line) {
+            writeln!(output, "why: {reason}")?;
+        }
     }
     Ok(false)
 }
@@ -48,7 +56,7 @@ pub fn check_as_json<O: Write>(
         }
         Verdict::Another(difference) => {
             let difference = shortened(alloc, &difference)?;
-            let reasons = reasons(alloc, text, difference.line)?;
+            let reasons = reasons(alloc, text, difference.line);
             let found = another(alloc, name, text, &difference, &reasons)?;
             write_line(alloc, &found, output)?;
             Ok(false)
@@ -129,8 +137,17 @@ fn write_line<O: Write>(alloc: Global, value: &Value, output: &mut O) -> io::Res
     writeln!(output, "{line}")
 }
 
-// Why each waker is handed out at the line of this number of a recorded run, as an explanation of its script says.
-fn reasons(alloc: Global, text: &str, number: u64) -> Result<Vec<String>, Stopped> {
+// Why each waker is handed out at the line of this number of a recorded run. Where there is no memory to find out, nothing is said,
+// and the verdict stands alone.
+fn reasons(alloc: Global, text: &str, number: u64) -> Vec<String> {
+    match explained_at(alloc, text, number) {
+        Ok(reasons) => reasons,
+        Err(_) => Vec::new(alloc),
+    }
+}
+
+// Why each waker is handed out there, as an explanation of the script says.
+fn explained_at(alloc: Global, text: &str, number: u64) -> Result<Vec<String>, Stopped> {
     let recording = Recording::read(alloc, text)?;
     let script = recording.script.as_str();
     let before = notes(alloc, script, number.saturating_sub(1))?;

@@ -47,6 +47,9 @@ where
         "check" if matches.get_flag("json") => {
             with_files(rt, alloc, Work::CheckAsJson, matches, streams)
         }
+        "check" if matches.get_flag("why") => {
+            with_files(rt, alloc, Work::CheckWithReasons, matches, streams)
+        }
         "check" => with_files(rt, alloc, Work::Check, matches, streams),
         "ends" => with_files(rt, alloc, Work::Ends, matches, streams),
         _ if matches.get_flag("compare") => with_files(rt, alloc, Work::Compare, matches, streams),
@@ -166,6 +169,7 @@ fn explained_of<S: Read + Drop, O: Write + Drop, N: Write + Drop>(
 #[derive(Clone, Copy)]
 enum Work {
     Check,
+    CheckWithReasons,
     CheckAsJson,
     Ends,
     Shared,
@@ -268,6 +272,7 @@ where
     let outcome = gone_through(rt, alloc, what, name, input, &mut told);
     if let (Work::CheckAsJson, Err(stopped)) = (what, &outcome) {
         // (where there is no memory for the line, the text on standard error stands alone)
+        told.clear();
         if unjudged_as_json(alloc, name, stopped, &mut told).is_err() {
             told.clear();
         }
@@ -294,7 +299,8 @@ where
     let bytes = read_all(rt, alloc, name, input)?;
     let text = text_of(alloc, &bytes)?;
     let holds = match what {
-        Work::Check => check(alloc, text, told),
+        Work::Check => check(alloc, text, false, told),
+        Work::CheckWithReasons => check(alloc, text, true, told),
         Work::CheckAsJson => check_as_json(alloc, name, text, told),
         Work::Ends => try_ends(alloc, text, told).map_err(Stopped::from),
         Work::Shared => played(rt, alloc, text, told),

@@ -36,10 +36,11 @@ impl Marks {
         self.step.store(step, Ordering::SeqCst);
     }
 
-    /// Waits until the call is there.
+    /// Waits until the call is there, or is over without having been there.
     pub fn awaits(&self, rt: &impl Wait, step: u32) {
         for _ in rt.forever() {
-            if self.step.load(Ordering::SeqCst) == step {
+            let now = self.step.load(Ordering::SeqCst);
+            if now == step || now == ENDED {
                 break;
             }
         }

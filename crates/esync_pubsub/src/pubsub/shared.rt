@@ -147,8 +147,8 @@ impl<
 > SharedPubSub<G, S, P, H, K> {
     /// No message, no subscriber, no publisher, and nobody who waits.
     ///
-    /// A call hands out at most `K` wakers: as many as may wait at a place have to fit, and one, and `K` has to be below 65536. A caller who
-    /// takes `K` as a number of its own compares it, as by `K < 65536`.
+    /// A call hands out at most `K` wakers: `K` has to be at least 1, and at least as many as may wait for a message, or for room, and below
+    /// 65536. A caller who takes `K` as a number of its own compares it, as by `2 <= K && K < 65536` of two subscribers.
     pub fn new(hand: H) -> Self
         requires capacity { 1 ≤ G.capacity }
         requires wakers { G.places ≤ S.room }

@@ -1,5 +1,5 @@
-//! A guard ends in two steps: the value goes back, and then the state is told. Here another thread tries the lock and polls in
-//! between, each time and not by luck.
+//! A guard ends in two steps: the value goes back, and then the state is told. Here another thread tries the lock and polls before
+//! the second, each time and not by luck. That they come in this order `who_is_woken_can_lock_at_once` shows.
 use crate::stopping::{ENDED, Marks, RUNS, STANDS, STOPS, Stopping};
 use esync_base::waitqueue::{Context, Hand, Poll};
 use esync_guards::mutex::Mutex;

@@ -142,8 +142,6 @@ fn with_room<'n, R: Wait, const K: usize>(
 #[test]
 fn a_caller_compares_the_room_for_the_wakers_of_a_channel(rt: HostRuntime) {
     let notes = Notes::new(&rt);
-    holds!(rt; with_room::<_, 1>(&notes).is_none());
-    holds!(rt; with_room::<_, 65536>(&notes).is_none());
     match with_room::<_, 2>(&notes) {
         Some(channel) => holds!(rt; channel.publisher().is_ok()),
         None => holds!(rt; false),

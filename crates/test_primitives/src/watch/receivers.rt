@@ -28,8 +28,6 @@ fn with_room<'n, R: Wait, const K: usize>(
 #[test]
 fn a_caller_compares_the_room_for_the_wakers_of_a_watch(rt: HostRuntime) {
     let notes = Notes::new(&rt);
-    holds!(rt; with_room::<_, 1>(&notes).is_none());
-    holds!(rt; with_room::<_, 65536>(&notes).is_none());
     match with_room::<_, 3>(&notes) {
         Some(watch) => holds!(rt; watch.sender().send(10) == Ok(())),
         None => holds!(rt; false),

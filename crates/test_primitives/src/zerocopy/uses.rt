@@ -44,16 +44,17 @@ pub fn tells_two<H: Hand<u64> + Drop>(alloc: Global, hand: H) -> Result<[usize; 
 pub fn still_tells_two<H: Hand<u64> + Drop>(
     alloc: Global,
     hand: H,
-) -> Result<[usize; 3], AllocError>
-    ensures { IfOk result (λ told. told ≡ 2 ∷ 2 ∷ 2 ∷ []) }
+) -> Result<[usize; 4], AllocError>
+    ensures { IfOk result (λ told. told ≡ 2 ∷ 2 ∷ 2 ∷ 2 ∷ []) }
 {
     let slots = vec![in alloc; Slot::new(8u32), Slot::new(9u32)]?;
     let mut channel = Channel::new(slots, hand);
     let (mut sender, mut receiver) = channel.split();
     sender.send_done();
-    let lent = sender.borrow().capacity();
+    let sending = sender.borrow().capacity();
     let _ = sender.clear();
     receiver.receive_done();
+    let receiving = receiver.borrow().capacity();
     let _ = receiver.clear();
-    Ok([lent, sender.capacity(), receiver.capacity()])
+    Ok([sending, receiving, sender.capacity(), receiver.capacity()])
 }
