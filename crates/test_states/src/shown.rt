@@ -45,7 +45,7 @@ fn a_channel_shows_its_messages_and_who_waits(rt: HostRuntime) -> Result<(), All
         &rt,
         rt.alloc(),
         &channel,
-        "Mailbox { queue: [], receiver_waker: WakerRegistration { waker: Some(3) }, senders_waker: WakerRegistration { waker: None } }",
+        "Mailbox { receiver_waker: WakerRegistration { waker: Some(3) }, senders_waker: WakerRegistration { waker: None }, queue: [] }",
     )?;
     holds!(rt; channel.try_send(7, &mut wakes).is_ok());
     shows(&rt, rt.alloc(), &wakes, "[3]")?;
@@ -53,7 +53,7 @@ fn a_channel_shows_its_messages_and_who_waits(rt: HostRuntime) -> Result<(), All
         &rt,
         rt.alloc(),
         &channel,
-        "Mailbox { queue: [7], receiver_waker: WakerRegistration { waker: None }, senders_waker: WakerRegistration { waker: None } }",
+        "Mailbox { receiver_waker: WakerRegistration { waker: None }, senders_waker: WakerRegistration { waker: None }, queue: [7] }",
     )
 }
 
