@@ -349,8 +349,8 @@ impl<R: Wait, const N: usize> Turns for Runtime<'_, R, N> {
 /// Runs the tasks on so many threads, as `Runtime::run` does on one. No two threads poll one task at a time.
 ///
 /// A thread that sleeps is called where two tasks wait for their turn, or where no thread is awake. So a poll that takes long
-/// can keep one other task waiting that was woken meanwhile, and a poll that doesn't return before that task has had its turn
-/// never does: a task that has to wait answers Pending.
+/// can keep one other task waiting that was woken meanwhile. A poll that blocks until that task has had its turn never returns:
+/// a task that has to wait answers Pending.
 ///
 /// Where a thread can't be made, fewer threads run the tasks, and at least this one does.
 ///

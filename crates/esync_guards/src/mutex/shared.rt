@@ -139,7 +139,7 @@ impl<'a, T, W: Copy + Eq, H: Hand<W>> LockFuture<'a, T, W, H> {
 
 /// What a guard unlocks at its end. No other crate can name it, so that nothing but the end of a guard unlocks.
 ///
-/// It is used up by that, and a guard asks no `Drop` of it: a guard whose end unlocks twice, or not at all, doesn't compile.
+/// A call uses it up, and a guard asks no `Drop` of it: a guard whose end calls twice, or not at all, doesn't compile.
 pub trait Unlocks {
     type Rt: Wait;
 

@@ -215,8 +215,8 @@ impl<P: DynamicPipe + Drop> DynamicReader<P> {
     /// Returns an end of this pipe that reads, with places for as many bytes as the pipe can hold. No other call takes memory.
     ///
     /// One pipe should have one such end: `consume` takes as many bytes out of the pipe as it is told. So if another end reads, or the
-    /// pipe is cleared, between a fill and its `consume`, that takes bytes which nobody has read. Where fewer are shown by then, it takes
-    /// none, and those are filled again.
+    /// pipe is cleared, between a fill and its `consume`, that takes bytes which nobody has read. Where the pipe shows fewer by then, it
+    /// takes none, and the next fill shows the same bytes again.
     pub fn new(alloc: Global, pipe: P) -> Result<Self, AllocError>
         ensures { IfOk result (λ reader. length reader ≡ 0) }
     {

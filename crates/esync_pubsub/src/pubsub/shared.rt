@@ -109,8 +109,8 @@ pub trait PubSubBehavior {
     fn unregister_publisher(&self);
 }
 
-/// A pub-sub channel, of at most `CAP` messages, `SUBS` subscribers and `PUBS` publishers. `K` is the room for the wakers of a step: the
-/// greatest of `SUBS`, `PUBS` and 1.
+/// A pub-sub channel, of at most `CAP` messages, `SUBS` subscribers and `PUBS` publishers. `K` is the room for the wakers of a step: at
+/// least `SUBS`, `PUBS` and 1, and below 65536.
 pub type PubSubChannel<
     T,
     W,
@@ -147,8 +147,8 @@ impl<
 > SharedPubSub<G, S, P, H, K> {
     /// No message, no subscriber, no publisher, and nobody who waits.
     ///
-    /// A call hands out at most `K` wakers: `K` has to be at least 1, and at least as many as may wait for a message, or for room, and below
-    /// 65536. A caller who takes `K` as a number of its own compares it, as by `2 <= K && K < 65536` of two subscribers.
+    /// A call hands out at most `K` wakers. `K` has to be at least 1, at least as many as may wait for a message, at least as many as may
+    /// wait for room, and below 65536. A caller who takes `K` as a number of its own compares it, as by `2 <= K && K < 65536`.
     pub fn new(hand: H) -> Self
         requires capacity { 1 ≤ G.capacity }
         requires wakers { G.places ≤ S.room }

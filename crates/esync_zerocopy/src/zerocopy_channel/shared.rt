@@ -403,7 +403,7 @@ impl<'a, T, W: Copy + Eq, H: Hand<W>> ZeroRequest<'a, T, W, H> {
 
 /// What a loan ends, at the side that it is lent to.
 ///
-/// It is used up by that, and a loan asks no `Drop` of it: a loan that is ended twice, or not at all, doesn't compile.
+/// A call uses it up, and a loan asks no `Drop` of it: a loan whose end calls twice, or not at all, doesn't compile.
 pub trait EndsLoan {
     type Rt: Wait;
 
