@@ -3,11 +3,10 @@
 
 use esync_tool::{Streams, esync};
 use std::env;
-use std::io::IsTerminal;
+use std::io::{self, ErrorKind, IsTerminal, Write};
 use std::process::ExitCode;
 
 fn main(rt: HostRuntime) -> ExitCode {
-    let alloc = rt.alloc();
     let input = rt.stdin();
     let streams = Streams {
         is_terminal: input.is_terminal(),
@@ -16,11 +15,25 @@ fn main(rt: HostRuntime) -> ExitCode {
         notes: rt.stdout(),
         errors: rt.stderr(),
     };
-    match env::args(&rt) {
-        Ok(words) => match words.collect::<Vec<String>>(alloc) {
-            Ok(words) => ExitCode::from(esync(&rt, alloc, words.as_slice(), streams)),
-            Err(_) => ExitCode::from(4),
-        },
-        Err(_) => ExitCode::from(4),
+    match words_of(&rt) {
+        Ok(words) => ExitCode::from(esync(&rt, rt.alloc(), words.as_slice(), streams)),
+        Err(error) => ExitCode::from(without_words(&error, rt.stderr())),
     }
+}
+
+// The words of the command line.
+fn words_of(rt: &HostRuntime) -> io::Result<Vec<String>> {
+    Ok(env::args(rt)?.collect::<Vec<String>>(rt.alloc())?)
+}
+
+// Says why the words of the command line aren't there, and returns the status.
+fn without_words<E: Write + Drop>(error: &io::Error, mut errors: E) -> u8 {
+    let (why, status) = if error.kind() == ErrorKind::OutOfMemory {
+        ("out of memory", 4)
+    } else {
+        ("a word of the command line isn't UTF-8", 2)
+    };
+    let _ = writeln!(errors, "esync: {why}");
+    let _ = errors.flush();
+    status
 }

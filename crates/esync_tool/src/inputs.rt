@@ -20,7 +20,7 @@ pub fn read_all<R: Files, I: Read>(
         input.read_to_end(&mut bytes)?;
         return Ok(bytes);
     }
-    let mut file = File::open(rt, name).map_err(Stopped::Unopened)?;
+    let mut file = File::open(rt, name).map_err(Stopped::unopened)?;
     file.read_to_end(&mut bytes)?;
     Ok(bytes)
 }

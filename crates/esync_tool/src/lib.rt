@@ -39,7 +39,8 @@ pub struct Streams<I: Drop, O: Drop, N: Drop, E: Drop> {
 /// | 3 | met a read or a write that failed |
 /// | 4 | takes more memory than there is |
 ///
-/// Of several files the greatest status counts. Whether `errors` can be written changes no status.
+/// Of several files the greatest status counts. A write to `output` or `notes` that fails is the last one; whether `errors` can be
+/// written changes no status.
 pub fn esync<R, I, O, N, E>(
     rt: &R,
     alloc: Global,

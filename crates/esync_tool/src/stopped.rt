@@ -20,6 +20,22 @@ pub enum Stopped {
 }
 
 impl Stopped {
+    /// Why an input can't be opened.
+    pub fn unopened(error: io::Error) -> Stopped {
+        if error.kind() == io::ErrorKind::OutOfMemory {
+            return Stopped::Fault(Fault::OutOfMemory);
+        }
+        Stopped::Unopened(error)
+    }
+
+    /// The same of what writes to memory alone: a write that failed has none.
+    pub fn of_memory(self) -> Stopped {
+        match self {
+            Stopped::Fault(Fault::InputOutput) => Stopped::Fault(Fault::OutOfMemory),
+            other => other,
+        }
+    }
+
     /// The status of a program that ends so.
     pub fn status(&self) -> u8 {
         match self {

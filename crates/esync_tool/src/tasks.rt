@@ -96,7 +96,7 @@ fn told<T: Telling, R: Files, I: Read + Drop, O: Write + Drop>(
     if name == "-" {
         return told_of(alloc, telling, input, output);
     }
-    let file = File::open(rt, name).map_err(Stopped::Unopened)?;
+    let file = File::open(rt, name).map_err(Stopped::unopened)?;
     told_of(alloc, telling, file, output)
 }
 
@@ -149,7 +149,7 @@ fn explained<R: Files, I: Read + Drop, O: Write + Drop, N: Write + Drop>(
     if name == "-" {
         return explained_of(alloc, input, output, notes);
     }
-    let file = File::open(rt, name).map_err(Stopped::Unopened)?;
+    let file = File::open(rt, name).map_err(Stopped::unopened)?;
     explained_of(alloc, file, output, notes)
 }
 
@@ -176,7 +176,7 @@ enum Work {
     Compare,
 }
 
-// Does it with each file that is named, and counts them where there are several.
+// Does it with each file that is named, and counts them where there are several. A write that fails ends it.
 fn with_files<R, I, O, N, E>(
     rt: &R,
     alloc: Global,
@@ -204,7 +204,11 @@ where
             ..
         } = streams;
         let heading = are_counted.then_some(*name);
-        let outcome = with_text(rt, alloc, what, name, heading, input, output);
+        let mut told = Vec::new(alloc);
+        let outcome = gone_through(rt, alloc, what, name, input, &mut told);
+        if let Err(error) = write_told(heading, what, &told, output) {
+            return Ok(status(name, Err(Stopped::from(error)), errors).max(greatest));
+        }
         counts.count(&outcome);
         greatest = status(name, outcome, errors).max(greatest);
     }
@@ -248,43 +252,37 @@ impl Display for Counts {
     }
 }
 
-// Reads a whole file, and does it with its text: whether it holds.
-fn with_text<R, I, O>(
+// Reads a whole file, and does it with its text: whether it holds, and what is told of it. As JSON it is also told why a file has no
+// verdict.
+fn gone_through<R, I>(
     rt: &R,
     alloc: Global,
     what: Work,
     name: &str,
-    heading: Option<&str>,
     input: &mut I,
-    output: &mut O,
+    told: &mut Vec<u8>,
 ) -> Result<bool, Stopped>
 where
     R: Files + Wait,
     I: Read + Drop,
-    O: Write,
 {
-    let behind = if matches!(what, Work::Shared) {
-        "\n"
-    } else {
-        " "
-    };
-    let mut told = Vec::new(alloc);
-    let outcome = gone_through(rt, alloc, what, name, input, &mut told);
+    let outcome = judged(rt, alloc, what, name, input, told);
+    if outcome.is_err() {
+        // (no line is told that was cut for want of memory)
+        let cut = told.iter().rev().take_while(|byte| **byte != b'\n').count();
+        told.truncate(told.len().saturating_sub(cut));
+    }
     if let (Work::CheckAsJson, Err(stopped)) = (what, &outcome) {
         // (where there is no memory for the line, the text on standard error stands alone)
         told.clear();
-        if unjudged_as_json(alloc, name, stopped, &mut told).is_err() {
+        if unjudged_as_json(alloc, name, stopped, told).is_err() {
             told.clear();
         }
-    }
-    if !told.is_empty() {
-        write_told(heading, behind, &told, output)?;
     }
     outcome
 }
 
-// Reads a whole file, and does it with its text: whether it holds, and what is told of it.
-fn gone_through<R, I>(
+fn judged<R, I>(
     rt: &R,
     alloc: Global,
     what: Work,
@@ -306,17 +304,25 @@ where
         Work::Shared => played(rt, alloc, text, told),
         Work::Compare => compared(rt, alloc, text, told),
     };
-    holds.map_err(|stopped| reasoned(alloc, stopped, text))
+    // (what is told is kept in memory, so that a write that fails has none)
+    holds.map_err(|stopped| reasoned(alloc, stopped.of_memory(), text))
 }
 
-// Writes what is told of a file, behind its name where there are several, and behind a space or the end of a line.
+// Writes what is told of a file, behind its name where there are several.
 fn write_told<O: Write>(
     heading: Option<&str>,
-    behind: &str,
+    what: Work,
     told: &[u8],
     output: &mut O,
 ) -> io::Result<()> {
+    if told.is_empty() {
+        return Ok(());
+    }
     if let Some(heading) = heading {
+        let behind = match what {
+            Work::Shared => "\n",
+            _ => " ",
+        };
         write!(output, "{heading}:{behind}")?;
     }
     output.write_all(told)?;
