@@ -10,7 +10,7 @@ here=$(cd "$(dirname "$0")" && pwd)
 recorder=$(realpath "${1-$here/target/release/recorder}")
 esync=$(realpath "${2-$here/../../crates/esync/out/esync}")
 status=0
-for run in "$here"/../../crates/synccheck_cases/data/upstream_*; do
+for run in "$here"/../../crates/test_tool/data/upstream_*.run; do
     echo "== $(basename "$run")"
     sed 's/ => .*//' "$run" | "$recorder" | diff "$run" - || status=1
     "$esync" check <"$run" || true

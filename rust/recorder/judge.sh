@@ -8,6 +8,10 @@
 set -eu
 top=$(cd "$(dirname "$0")/../.." && pwd)
 esync=${ESYNC:-$top/crates/esync/out/esync}
+# Without the name of the input, and why a line is no command.
+shortened() {
+    sed 's/^esync: standard input: //; s/^\(line [0-9]*\), column .*/\1: not a command/'
+}
 if [ ! -x "$esync" ]; then
     case "$*" in
     [!/]* | *" "[!/]*)
@@ -17,13 +21,14 @@ if [ ! -x "$esync" ]; then
         done
         ;;
     esac
-    cd "$top/crates/synccheck_cases"
-    exec rt try --seconds 3600 -- "$@"
+    cd "$top/crates/test_tool"
+    status=0
+    verdicts=$(rt try --seconds 3600 -- --check "$@") || status=$?
+    printf '%s\n' "$verdicts" | shortened
+    exit $status
 fi
 for run; do
     status=0
     verdict=$("$esync" check <"$run" 2>&1) || status=$?
-    # (without the name of the input, and the column, which the other program doesn't say)
-    verdict=$(printf '%s' "$verdict" | sed 's/^esync: standard input: //; s/^\(line [0-9]*\), column .*/\1: not a command/')
-    printf '== %s\n%s\nstatus %s\n' "$run" "$verdict" "$status"
+    printf '== %s\n%s\nstatus %s\n' "$run" "$verdict" "$status" | shortened
 done

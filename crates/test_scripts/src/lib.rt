@@ -1,5 +1,5 @@
 //! Scripts whose streams fail or come in pieces, what is printed of a reply, and ends at every point by a player that keeps a waker
-//! back. Whole scripts are cases of `syncrun_cases`.
+//! back. Whole scripts are cases of `test_tool`.
 #![tactic(auto)]
 
 #[cfg(test)]

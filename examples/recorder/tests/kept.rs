@@ -38,7 +38,7 @@ fn the_first_example_is_a_run_of_upstream() {
 #[test]
 fn each_kept_run_of_upstream_is_recorded_so() {
     let folder =
-        fs::read_dir(in_repository("crates/synccheck_cases/data")).expect("the folder can be read");
+        fs::read_dir(in_repository("crates/test_tool/data")).expect("the folder can be read");
     let files = folder.map(|entry| entry.expect("the entry can be read").path());
     let kept: Vec<PathBuf> = files
         .filter(|file| file.to_string_lossy().contains("/upstream_"))

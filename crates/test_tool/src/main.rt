@@ -1,49 +1,43 @@
-//! Plays each script of the cases that are named, and prints what is written of it.
+//! Plays each script of the cases that are named, by the tool `esync` or by `syncrun`, and prints what is written of it.
 //!
-//!     syncrun_cases [--script | --trace | --pages | --explain | --reasons | --ends | --tool] NAME.. [--trace NAME.. ..]
+//!     test_tool [--syncrun | --draw | --pages | --explain | --reasons | --ends | --check | --words] NAME.. [--draw NAME.. ..]
 //!
 //! A case is a file of scripts, with a line `=` between two. Of each script it prints the case's name, with the script's number
 //! where there are several; what is written to the output, to the notes and to the errors; and the status. A word before the
-//! names says what is done with the scripts.
+//! names says what plays the scripts.
 #![tactic(auto)]
 
-use esync_ends::ends;
-use esync_script::{explain, script, trace, trace_pages};
+use esync_script::script;
 use esync_tool::{Streams, esync};
 use std::alloc::{AllocError, Global};
 use std::fs::Files;
 use std::sync::Wait;
 use std::{env, fs, mem};
 
-/// What is done with a script.
+/// What plays a script.
 #[derive(Clone, Copy)]
 enum Mode {
-    /// It is answered, as by `syncrun`.
-    Script,
-    /// It is drawn, as by `esync draw`.
-    Trace,
-    /// It is drawn in pages, as by `esync draw --format markdown`.
-    Pages,
-    /// It is explained, as by `esync explain`; the notes stand behind the answers.
-    Explain,
-    /// Its reasons alone: an explanation without the answers, and of the notes not what the primitive holds.
+    /// The program `syncrun`.
+    Syncrun,
+    /// The tool by these words, with the script as its standard input.
+    Tool(&'static str),
+    /// `esync explain`, of which the reasons alone are printed: no answer, and of the notes not what the primitive holds.
     Reasons,
-    /// Its sooner ends are tried, as by `esync ends`.
-    Ends,
-    /// Its first line has the words behind `esync`, and what follows is standard input.
-    Tool,
+    /// The tool by the words of the first line, with what follows as its standard input.
+    Words,
 }
 
 impl Mode {
     fn named(word: &str) -> Option<Mode> {
         match word {
-            "--script" => Some(Mode::Script),
-            "--trace" => Some(Mode::Trace),
-            "--pages" => Some(Mode::Pages),
-            "--explain" => Some(Mode::Explain),
+            "--syncrun" => Some(Mode::Syncrun),
+            "--draw" => Some(Mode::Tool("esync draw")),
+            "--pages" => Some(Mode::Tool("esync draw --format markdown")),
+            "--explain" => Some(Mode::Tool("esync explain")),
             "--reasons" => Some(Mode::Reasons),
-            "--ends" => Some(Mode::Ends),
-            "--tool" => Some(Mode::Tool),
+            "--ends" => Some(Mode::Tool("esync ends")),
+            "--check" => Some(Mode::Tool("esync check")),
+            "--words" => Some(Mode::Words),
             _ => None,
         }
     }
@@ -58,20 +52,31 @@ struct Written {
     status: u8,
 }
 
-// What the tool writes, of a case whose first line has its words.
-fn written_by_tool<R: Files + Wait>(rt: &R, alloc: Global, case: &[u8]) -> anyhow::Result<Written> {
-    let at = case
-        .iter()
-        .position(|byte| *byte == b'\n')
-        .unwrap_or(case.len());
-    let (first, input) = case.split_at(at);
+fn written_by_syncrun(alloc: Global, input: &[u8]) -> Written {
+    let (mut output, mut errors) = (Vec::new(alloc), Vec::new(alloc));
+    let status = script(alloc, input, &mut output, &mut errors);
+    Written {
+        output,
+        notes: Vec::new(alloc),
+        errors,
+        status,
+    }
+}
+
+// What the tool writes, by these words.
+fn written_by_tool<R: Files + Wait>(
+    rt: &R,
+    alloc: Global,
+    line: &str,
+    input: &[u8],
+) -> anyhow::Result<Written> {
     let mut words = Vec::new(alloc);
-    for word in str::from_utf8(first)?.split(' ') {
+    for word in line.split(' ') {
         words.push(String::from_str(alloc, word)?)?;
     }
     let (mut output, mut notes, mut errors) = (Vec::new(alloc), Vec::new(alloc), Vec::new(alloc));
     let streams = Streams {
-        input: input.get(1..).unwrap_or(&[]),
+        input,
         is_terminal: false,
         output: &mut output,
         notes: &mut notes,
@@ -86,31 +91,26 @@ fn written_by_tool<R: Files + Wait>(rt: &R, alloc: Global, case: &[u8]) -> anyho
     })
 }
 
-fn written_of<R: Files + Wait>(
+// What the tool writes, of a script whose first line has its words.
+fn written_by_words<R: Files + Wait>(
     rt: &R,
     alloc: Global,
-    mode: Mode,
-    input: &[u8],
+    script: &[u8],
 ) -> anyhow::Result<Written> {
-    let (mut output, mut notes, mut errors) = (Vec::new(alloc), Vec::new(alloc), Vec::new(alloc));
-    let status = match mode {
-        Mode::Script => script(alloc, input, &mut output, &mut errors),
-        Mode::Trace => trace(alloc, input, &mut output, &mut errors),
-        Mode::Pages => trace_pages(alloc, input, &mut output, &mut errors),
-        Mode::Explain => explain(alloc, input, &mut output, &mut notes, &mut errors),
-        Mode::Reasons => explain(alloc, input, Vec::new(alloc), &mut notes, &mut errors),
-        Mode::Ends => ends(alloc, input, &mut output, &mut errors),
-        Mode::Tool => return written_by_tool(rt, alloc, input),
-    };
-    Ok(Written {
-        output,
-        notes,
-        errors,
-        status,
-    })
+    let at = script
+        .iter()
+        .position(|byte| *byte == b'\n')
+        .unwrap_or(script.len());
+    let (first, input) = script.split_at(at);
+    written_by_tool(
+        rt,
+        alloc,
+        str::from_utf8(first)?,
+        input.get(1..).unwrap_or(&[]),
+    )
 }
 
-/// The notes, each up to its first brace.
+// The notes, each up to its first brace.
 fn without_values(alloc: Global, notes: &str) -> Result<String, AllocError> {
     let mut short = String::new(alloc);
     for note in notes.lines() {
@@ -121,20 +121,48 @@ fn without_values(alloc: Global, notes: &str) -> Result<String, AllocError> {
     Ok(short)
 }
 
+// What `esync explain` writes, but for the answers and what the primitive holds.
+fn reasons_of<R: Files + Wait>(rt: &R, alloc: Global, script: &[u8]) -> anyhow::Result<Written> {
+    let Written {
+        notes,
+        errors,
+        status,
+        ..
+    } = written_by_tool(rt, alloc, "esync explain", script)?;
+    let reasons = without_values(alloc, str::from_utf8(&notes)?)?;
+    Ok(Written {
+        output: Vec::new(alloc),
+        notes: reasons.into_bytes(),
+        errors,
+        status,
+    })
+}
+
+fn written_of<R: Files + Wait>(
+    rt: &R,
+    alloc: Global,
+    mode: Mode,
+    script: &[u8],
+) -> anyhow::Result<Written> {
+    match mode {
+        Mode::Syncrun => Ok(written_by_syncrun(alloc, script)),
+        Mode::Tool(words) => written_by_tool(rt, alloc, words, script),
+        Mode::Reasons => reasons_of(rt, alloc, script),
+        Mode::Words => written_by_words(rt, alloc, script),
+    }
+}
+
 /// The text of what is written of a script.
 fn text_of<R: Files + Wait>(
     rt: &R,
     alloc: Global,
     mode: Mode,
-    input: &[u8],
+    script: &[u8],
 ) -> anyhow::Result<String> {
-    let written = written_of(rt, alloc, mode, input)?;
+    let written = written_of(rt, alloc, mode, script)?;
     let output = str::from_utf8(&written.output)?;
+    let notes = str::from_utf8(&written.notes)?;
     let errors = str::from_utf8(&written.errors)?;
-    let notes = match (mode, str::from_utf8(&written.notes)?) {
-        (Mode::Reasons, notes) => without_values(alloc, notes)?,
-        (_, notes) => String::from_str(alloc, notes)?,
-    };
     let status = written.status;
     Ok(format!(in alloc; "{output}{notes}{errors}status {status}\n")?)
 }
@@ -174,7 +202,7 @@ fn text_of_case<R: Files + Wait>(
 
 fn main(rt: HostRuntime) -> anyhow::Result<()> {
     let alloc = rt.alloc();
-    let mut mode = Mode::Script;
+    let mut mode = Mode::Syncrun;
     for word in env::args(&rt)?.skip(1) {
         if let Some(named) = Mode::named(&word) {
             mode = named;
