@@ -10,6 +10,7 @@ use std::sync::Wait;
 
 mod arguments;
 mod bad_line;
+mod by_line;
 mod inputs;
 mod judged;
 mod language;

@@ -1,5 +1,6 @@
 //! What each command of the tool does.
 use crate::Streams;
+use crate::by_line::ByLine;
 use crate::inputs::{hint, read_all, reasoned, status, text_of, with_reason};
 use crate::judged::{check, check_as_json, unjudged_as_json};
 use crate::source::Keeping;
@@ -160,8 +161,9 @@ fn explained_of<S: Read + Drop, O: Write + Drop, N: Write + Drop>(
     notes: &mut N,
 ) -> Result<(), Stopped> {
     let mut kept = Keeping::new(alloc, source);
-    let mut explained = Explained::new(alloc, notes);
-    let outcome = play_script(alloc, &mut explained, &mut kept, output);
+    let mut answers = ByLine::new(alloc, output)?;
+    let mut explained = Explained::new(alloc, ByLine::new(alloc, notes)?);
+    let outcome = play_script(alloc, &mut explained, &mut kept, &mut answers);
     with_reason(alloc, outcome, &kept)
 }
 
