@@ -8,4 +8,5 @@ pub mod Lazy
 pub mod Mutex
 pub mod Watch
 pub mod Zerocopy
+pub mod Player
 pub mod Opening

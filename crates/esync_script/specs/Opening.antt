@@ -5,6 +5,9 @@ use Rattle.std.specs.Option.{option_map, unwrap_or}
 use Rattle.std.specs.Io.KnownBytes.{Appends}
 use Rattle.esync_base.specs.Keeping.{Keeping, BoundedList}
 use Rattle.esync_machine.specs.declared.primitive.Answer.{Answer}
+use Rattle.esync_machine.specs.declared.primitive.Command.{Command}
+use Rattle.esync_machine.specs.declared.run.Reply.{Reply}
+use Rattle.esync_machine.specs.Runs.{Meaning}
 use Rattle.esync_machine.specs.Rules.{Rules}
 use Rattle.esync_machine.specs.Wakings.{Wakings}
 use Rattle.esync_machine.specs.Object.{Object, requests_meaning}
@@ -35,8 +38,8 @@ use Rattle.esync_words.specs.Fault.{status_of}
 use Rattle.esync_words.specs.Words.{is_text, and_then, one, two, number_and_values}
 use Rattle.esync_words.specs.Perhaps.{one_or_two}
 use Rattle.esync_words.specs.Commands.{says, command}
-use Rattle.esync_words.specs.Played.{Played, Opened, NotOpened, IsJudged}
-use Rattle.esync_words.specs.Tells.{tells_of}
+use Rattle.esync_words.specs.Played.{Opened, NotOpened, IsJudged}
+use Rattle.esync_script.specs.Player.{plays_and_tells}
 use Rattle.esync_script.specs.declared.opening.Capacity.{Capacity}
 use Rattle.esync_script.specs.declared.opening.Capacity.TheVariants.{One, Two, Three, Four, Eight}
 use Rattle.esync_script.specs.declared.opening.Opening.{Opening}
@@ -171,12 +174,12 @@ passes below value = nat_lt value below.limit
 abbrev pub Closes : List ℕ → Option (List ℕ) → Option (List ℕ) → Result (Unit {0}) Fault → Result (Unit {0}) Fault → Type 0
 Closes foot before after played outcome = IsJudged outcome → (outcome ≡ played) × Appends before after foot
 
--- What is played behind line n: a run of the named primitive, which begins as that line says, without requests and with no waker
--- registered. A step hands out so many wakers at most.
-module _ (eq : ℕ → ℕ → Bool) (tells : (A : Type 0) → (A → List ℕ) → ℕ → List ℕ → Giver → Answer A → List ℕ → List ℕ) where
+-- How it is gone through behind line n, if it is gone through so: the machine is the named primitive's, which begins as that line
+-- says, without requests and with no waker registered. A step hands out so many wakers at most.
+module _ (eq : ℕ → ℕ → Bool) (plays : (Q C A Reply : Type 0) (M : Meaning (Command Q ℕ C) Reply ℕ) → (List ℕ → Option (Command Q ℕ C)) → (A → List ℕ) → (Reply → Answer A) → (Reply → List ℕ) → M.Object → M.Registered → ℕ → Option (List ℕ) → Option (List ℕ) → Option (List ℕ) → Result (Unit {0}) Fault → Type 0) where
   abbrev pub PlaysAs : {Ask Held C A : Type 0} (most : ℕ) (R : Rules Ask Held C A) (T : Wakings R.Core Held C A ℕ) → (List ℕ → List (List ℕ) → Option Ask) → (List ℕ → List (List ℕ) → Option C) → (A → List ℕ) → R.Core → T.Registered → ℕ → Option (List ℕ) → Option (List ℕ) → Option (List ℕ) → Result (Unit {0}) Fault → Type 0
-  PlaysAs {A = A} most R T asks calls text core registered n left before after outcome =
-      Played (requests_meaning R T eq most) (says (command asks calls)) (tells_of (λ a. a.answer) (λ a. a.wakes) (tells A text)) (new_object core) registered n left before after outcome
+  PlaysAs {Ask = Ask} {C = C} {A = A} most R T asks calls text core registered n left before after outcome =
+      plays Ask C A (Reply (Answer A) ℕ most) (requests_meaning R T eq most) (says (command asks calls)) text (λ a. a.answer) (λ a. a.wakes) (new_object core) registered n left before after outcome
 
   -- a channel or a priority channel
   abbrev pub PlaysMessages : Keeping ℕ → ℕ → Option (List ℕ) → Option (List ℕ) → Option (List ℕ) → Result (Unit {0}) Fault → Type 0
@@ -227,12 +230,18 @@ module _ (eq : ℕ → ℕ → Bool) (tells : (A : Type 0) → (A → List ℕ) 
   Plays max_above min_above (Zerocopy c) n left before after outcome = PlaysSlots (places c) n left before after outcome
   Plays max_above min_above (Watch c value) n left before after outcome = PlaysWatch (places c) value n left before after outcome
 
-  -- A whole script: line 1 names a primitive, and the lines behind it are played, with this written at the head and at the foot; or
-  -- it names none; or a read, a write or memory failed before.
-  abbrev pub PlaysScript : (max_above min_above : ℕ → ℕ → Bool) → (List ℕ → List ℕ) → List ℕ → Option (List ℕ) → Option (List ℕ) → Option (List ℕ) → Result (Unit {0}) Fault → Type 0
-  PlaysScript max_above min_above head foot left before after outcome =
+  -- A whole script: line 1 names a primitive, and the lines behind it are gone through, with this written at the head and at the
+  -- foot; or it names none; or a read, a write or memory failed before.
+  abbrev pub PlaysBehind : (max_above min_above : ℕ → ℕ → Bool) → (List ℕ → List ℕ) → List ℕ → Option (List ℕ) → Option (List ℕ) → Option (List ℕ) → Result (Unit {0}) Fault → Type 0
+  PlaysBehind max_above min_above head foot left before after outcome =
       ((o : Opening) × (rest mid last : Option (List ℕ)) × (played : Result (Unit {0}) Fault) × Opened (says opening) head o left rest before mid × Plays max_above min_above o 1 rest mid last played × Closes foot last after played outcome)
       ⊎ ((fault : Fault) × (outcome ≡ Err fault) × (IsJudged (Err fault) → NotOpened (says opening) fault left before after))
+
+module _ (eq : ℕ → ℕ → Bool) (tells : (A : Type 0) → (A → List ℕ) → ℕ → List ℕ → Giver → Answer A → List ℕ → List ℕ) where
+  -- A whole script, whose lines are given to the primitive as commands, and this is told of each.
+  abbrev pub PlaysScript : (max_above min_above : ℕ → ℕ → Bool) → (List ℕ → List ℕ) → List ℕ → Option (List ℕ) → Option (List ℕ) → Option (List ℕ) → Result (Unit {0}) Fault → Type 0
+  PlaysScript max_above min_above head foot left before after outcome =
+      PlaysBehind eq (plays_and_tells tells) max_above min_above head foot left before after outcome
 
   -- A script that ended so, at its end or at a line that is no command, was played to there.
   abbrev pub EndsScript : (max_above min_above : ℕ → ℕ → Bool) → (List ℕ → List ℕ) → List ℕ → Option (List ℕ) → Result (Unit {0}) Fault → Type 0

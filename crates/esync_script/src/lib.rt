@@ -19,6 +19,7 @@ pub mod mutex;
 pub mod once;
 pub mod opening;
 pub mod pipe;
+pub mod player;
 pub mod pubsub;
 pub mod semaphore;
 pub mod signal;

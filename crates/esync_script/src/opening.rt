@@ -3,10 +3,8 @@ ghost use Rattle.std.specs.Prelude.{◌≡◌, ◌<◌, ◌≤◌, ℕ, [], IfOk
 ghost use Rattle.std.proofs.Math.ListN.{replicate};
 ghost use Rattle.esync_base.specs.Keeping.{BoundedList};
 ghost use Rattle.esync_priority.specs.Prio.{Bag};
-ghost use Rattle.esync_script.specs.Opening.{places, capacity, opening, new_object, nobody_waits, no_slot, an_empty_pipe, not_made, a_free_lock, a_new_watch, a_new_topic, no_lists, zero_slots, no_side_waits, Closes, Plays, PlaysMessages, PlaysFair, PlaysPipe, PlaysSlots, PlaysWatch, PlaysPubSub, PlaysScript};
+ghost use Rattle.esync_script.specs.Opening.{places, capacity, opening, new_object, nobody_waits, no_slot, an_empty_pipe, not_made, a_free_lock, a_new_watch, a_new_topic, no_lists, zero_slots, no_side_waits, Closes, Plays, PlaysMessages, PlaysFair, PlaysPipe, PlaysSlots, PlaysWatch, PlaysPubSub, PlaysBehind, PlaysScript};
 ghost use Rattle.esync_words.specs.Commands.{says, command};
-ghost use Rattle.esync_words.specs.Played.{Played};
-ghost use Rattle.esync_words.specs.Tells.{tells_of};
 ghost use Rattle.esync_words.specs.Words.{one, and_then};
 
 use crate::channel::ChannelWords;
@@ -14,12 +12,14 @@ use crate::lazy::LazyWords;
 use crate::mutex::MutexWords;
 use crate::once::OnceWords;
 use crate::pipe::PipeWords;
+use crate::player::{Copied, Player};
 use crate::pubsub::PubSubWords;
 use crate::semaphore::{FairWords, GreedyWords};
 use crate::signal::SignalWords;
 use crate::watch::{Adds, Below, WatchWords};
 use crate::zerocopy::ZeroWords;
 use esync_base::deque::Deque;
+use esync_base::kept::Kept;
 use esync_base::store::Store;
 use esync_base::waitqueue::{Registered, Wakes};
 use esync_cells::lazy_lock::Given;
@@ -33,7 +33,7 @@ use esync_channel::channel::Mailbox;
 use esync_guards::mutex::Second;
 use esync_guards::mutex::machine::{Guarded, MutexRun};
 use esync_log::log::{Log, LogStore};
-use esync_machine::primitive::{Answer, Command};
+use esync_machine::primitive::Command;
 use esync_machine::requests::Requests;
 use esync_machine::run::Machine;
 use esync_permits::semaphore::machine::fair::FairRun;
@@ -44,7 +44,7 @@ use esync_priority::prio::{Kind, Max, Min, PrioQueue};
 use esync_pubsub::pubsub::machine::Events;
 use esync_words::fault::Fault;
 use esync_words::lines::Lines;
-use esync_words::play::{Opens, Parts, Telling, open, play};
+use esync_words::play::{Opens, Parts, Replies, Telling, open};
 use esync_words::vocabulary::{REQS, Vocabulary};
 use esync_words::words::Words;
 use esync_zerocopy::zerocopy_channel::ChannelState;
@@ -144,24 +144,29 @@ impl Opens for Opening {
     }
 }
 
-// Plays the lines behind line 1 over this machine.
-fn serve<V, M, T, R, W>(
-    telling: &mut T,
+// Gives the player this machine, and the lines behind line 1.
+fn serve<V, M, P, R, W>(
+    player: &mut P,
     machine: M,
     lines: &mut Lines<R>,
     output: &mut W,
 ) -> Result<(), Fault>
 where
     V: Vocabulary,
-    M: Machine<Command = Command<V::Ask, u64, V::Call>> + Registered<Waker = u64> + Debug + Drop,
+    V::Ask: Copy,
+    V::Call: Copy,
+    M: Machine<Command = Command<V::Ask, u64, V::Call>, Waker = u64>
+        + Copied
+        + Registered<Waker = u64>
+        + Debug
+        + Drop,
     M::Reply: Parts<V::Heard> + Drop,
-    T: Telling,
+    P: Player<R, W>,
     R: Read + Drop,
     W: Write,
-    ensures { Played M.semantics.meaning (says (command V.asks V.calls)) (tells_of M.Reply.answer M.Reply.wakes (T.tells V.Heard V.text)) (M.semantics.object machine) (M.semantics.registrations machine) lines.old.number lines.old.left (W.contents output.old) (W.contents output.new) result }
+    ensures { P.plays player.old player.new V.Ask V.Call V.Heard M.Reply M.semantics.meaning (says (command V.asks V.calls)) V.text M.Reply.answer M.Reply.wakes (M.semantics.object machine) (M.semantics.registrations machine) lines.old.number lines.old.left (W.contents output.old) (W.contents output.new) result }
 {
-    let mut machine = machine;
-    play::<V, M, T, R, W>(telling, &mut machine, lines, output)
+    player.play::<V, M>(machine, lines, output)
 }
 
 // An empty channel over this store, with no request.
@@ -292,131 +297,149 @@ macro_rules! at_places {
     };
 }
 
-// A call of `serve` over the pub-sub channel of so many messages. Its machine is spelled out, so that its bytes are known.
+// A call of a function of a pub-sub channel's log, at this number of messages.
 macro_rules! at_logs {
-    ($n:literal, $serve:ident::<$words:ident, $($of:ident),*>($telling:ident, $first:ident, $($argument:ident),*)) => {
-        $serve::<$words, _, $($of),*>($telling, pubsub::<Log<u32, $n, 4>>($first), $($argument),*)
+    ($n:literal, $serve:ident::<$($of:ident),*>($player:ident, $first:ident, $($argument:ident),*)) => {
+        $serve::<Log<u32, $n, 4>, $($of),*>($player, pubsub($first), $first, $($argument),*)
     };
 }
 
 // A script over a channel of at most `N` messages.
-fn serve_list<const N: usize, T: Telling, R: Read + Drop, W: Write>(
-    telling: &mut T,
+fn serve_list<const N: usize, P: Player<R, W>, R: Read + Drop, W: Write>(
+    player: &mut P,
     lines: &mut Lines<R>,
     output: &mut W,
 ) -> Result<(), Fault>
     requires { N ≤ 8 }
-    ensures { PlaysMessages ⟦<u64 as PartialEq>⟧.eq T.tells (BoundedList ℕ N) lines.old.number lines.old.left (W.contents output.old) (W.contents output.new) result }
+    ensures { PlaysMessages ⟦<u64 as PartialEq>⟧.eq (P.plays player.old player.new) (BoundedList ℕ N) lines.old.number lines.old.left (W.contents output.old) (W.contents output.new) result }
 {
-    serve::<ChannelWords, _, T, R, W>(telling, channel::<Deque<u32, N>>(), lines, output)
+    serve::<ChannelWords, _, P, R, W>(player, channel::<Deque<u32, N>>(), lines, output)
 }
 
-fn serve_channel<T: Telling, R: Read + Drop, W: Write>(
-    telling: &mut T,
+fn serve_channel<P: Player<R, W>, R: Read + Drop, W: Write>(
+    player: &mut P,
     capacity: Capacity,
     lines: &mut Lines<R>,
     output: &mut W,
 ) -> Result<(), Fault>
-    ensures { PlaysMessages ⟦<u64 as PartialEq>⟧.eq T.tells (BoundedList ℕ (places capacity)) lines.old.number lines.old.left (W.contents output.old) (W.contents output.new) result }
+    ensures { PlaysMessages ⟦<u64 as PartialEq>⟧.eq (P.plays player.old player.new) (BoundedList ℕ (places capacity)) lines.old.number lines.old.left (W.contents output.old) (W.contents output.new) result }
 {
     at_capacity!(
         capacity,
-        at_places!(serve_list::<T, R, W>(telling, lines, output))
+        at_places!(serve_list::<P, R, W>(player, lines, output))
     )
 }
 
 // A script over a priority channel of at most `N` messages.
-fn serve_bag<const N: usize, P: Kind<u32>, T: Telling, R: Read + Drop, W: Write>(
-    telling: &mut T,
+fn serve_bag<const N: usize, Q: Kind<u32>, P: Player<R, W>, R: Read + Drop, W: Write>(
+    player: &mut P,
     lines: &mut Lines<R>,
     output: &mut W,
 ) -> Result<(), Fault>
     requires { N ≤ 8 }
-    ensures { PlaysMessages ⟦<u64 as PartialEq>⟧.eq T.tells (Bag ℕ P.above N) lines.old.number lines.old.left (W.contents output.old) (W.contents output.new) result }
+    ensures { PlaysMessages ⟦<u64 as PartialEq>⟧.eq (P.plays player.old player.new) (Bag ℕ Q.above N) lines.old.number lines.old.left (W.contents output.old) (W.contents output.new) result }
 {
-    serve::<ChannelWords, _, T, R, W>(telling, channel::<PrioQueue<u32, P, N>>(), lines, output)
+    serve::<ChannelWords, _, P, R, W>(player, channel::<PrioQueue<u32, Q, N>>(), lines, output)
 }
 
-fn serve_priority<P: Kind<u32>, T: Telling, R: Read + Drop, W: Write>(
-    telling: &mut T,
+fn serve_priority<Q: Kind<u32>, P: Player<R, W>, R: Read + Drop, W: Write>(
+    player: &mut P,
     capacity: Capacity,
     lines: &mut Lines<R>,
     output: &mut W,
 ) -> Result<(), Fault>
-    ensures { PlaysMessages ⟦<u64 as PartialEq>⟧.eq T.tells (Bag ℕ P.above (places capacity)) lines.old.number lines.old.left (W.contents output.old) (W.contents output.new) result }
+    ensures { PlaysMessages ⟦<u64 as PartialEq>⟧.eq (P.plays player.old player.new) (Bag ℕ Q.above (places capacity)) lines.old.number lines.old.left (W.contents output.old) (W.contents output.new) result }
 {
     at_capacity!(
         capacity,
-        at_places!(serve_bag::<P, T, R, W>(telling, lines, output))
+        at_places!(serve_bag::<Q, P, R, W>(player, lines, output))
     )
 }
 
 // A script over a fair semaphore with a queue of `N` places.
-fn serve_queue<const N: usize, T: Telling, R: Read + Drop, W: Write>(
-    telling: &mut T,
+fn serve_queue<const N: usize, P: Player<R, W>, R: Read + Drop, W: Write>(
+    player: &mut P,
     permits: usize,
     lines: &mut Lines<R>,
     output: &mut W,
 ) -> Result<(), Fault>
     requires { N ≤ 8 }
-    ensures { PlaysFair ⟦<u64 as PartialEq>⟧.eq T.tells N permits lines.old.number lines.old.left (W.contents output.old) (W.contents output.new) result }
+    ensures { PlaysFair ⟦<u64 as PartialEq>⟧.eq (P.plays player.old player.new) N permits lines.old.number lines.old.left (W.contents output.old) (W.contents output.new) result }
 {
-    serve::<FairWords, _, T, R, W>(telling, fair::<N>(permits), lines, output)
+    serve::<FairWords, _, P, R, W>(player, fair::<N>(permits), lines, output)
 }
 
-fn serve_fair<T: Telling, R: Read + Drop, W: Write>(
-    telling: &mut T,
+fn serve_fair<P: Player<R, W>, R: Read + Drop, W: Write>(
+    player: &mut P,
     capacity: Capacity,
     permits: usize,
     lines: &mut Lines<R>,
     output: &mut W,
 ) -> Result<(), Fault>
-    ensures { PlaysFair ⟦<u64 as PartialEq>⟧.eq T.tells (places capacity) permits lines.old.number lines.old.left (W.contents output.old) (W.contents output.new) result }
+    ensures { PlaysFair ⟦<u64 as PartialEq>⟧.eq (P.plays player.old player.new) (places capacity) permits lines.old.number lines.old.left (W.contents output.old) (W.contents output.new) result }
 {
     at_capacity!(
         capacity,
-        at_places!(serve_queue::<T, R, W>(telling, permits, lines, output))
+        at_places!(serve_queue::<P, R, W>(player, permits, lines, output))
     )
 }
 
 // A script over a pipe of at most `N` bytes.
-fn serve_bytes<const N: usize, T: Telling, R: Read + Drop, W: Write>(
-    telling: &mut T,
+fn serve_bytes<const N: usize, P: Player<R, W>, R: Read + Drop, W: Write>(
+    player: &mut P,
     lines: &mut Lines<R>,
     output: &mut W,
 ) -> Result<(), Fault>
     requires { N ≤ 8 }
-    ensures { PlaysPipe ⟦<u64 as PartialEq>⟧.eq T.tells N lines.old.number lines.old.left (W.contents output.old) (W.contents output.new) result }
+    ensures { PlaysPipe ⟦<u64 as PartialEq>⟧.eq (P.plays player.old player.new) N lines.old.number lines.old.left (W.contents output.old) (W.contents output.new) result }
 {
-    serve::<PipeWords, _, T, R, W>(telling, pipe::<N>(), lines, output)
+    serve::<PipeWords, _, P, R, W>(player, pipe::<N>(), lines, output)
 }
 
-fn serve_pipe<T: Telling, R: Read + Drop, W: Write>(
-    telling: &mut T,
+fn serve_pipe<P: Player<R, W>, R: Read + Drop, W: Write>(
+    player: &mut P,
     capacity: Capacity,
     lines: &mut Lines<R>,
     output: &mut W,
 ) -> Result<(), Fault>
-    ensures { PlaysPipe ⟦<u64 as PartialEq>⟧.eq T.tells (places capacity) lines.old.number lines.old.left (W.contents output.old) (W.contents output.new) result }
+    ensures { PlaysPipe ⟦<u64 as PartialEq>⟧.eq (P.plays player.old player.new) (places capacity) lines.old.number lines.old.left (W.contents output.old) (W.contents output.new) result }
 {
     at_capacity!(
         capacity,
-        at_places!(serve_bytes::<T, R, W>(telling, lines, output))
+        at_places!(serve_bytes::<P, R, W>(player, lines, output))
     )
 }
 
-fn serve_pubsub<T: Telling, R: Read + Drop, W: Write>(
-    telling: &mut T,
+// A script over this pub-sub channel, in which nobody is, and whose first message has this number. Its log is any, since the checker
+// can't hold the laws of a log of a number of messages against one another.
+fn serve_log<L: LogStore<Message = u32> + Kept + Debug, P: Player<R, W>, R: Read + Drop, W: Write>(
+    player: &mut P,
+    machine: Requests<Events<L, Wakes<u64, 4>, Wakes<u64, 4>, REQS>, REQS, 4>,
+    first: u64,
+    lines: &mut Lines<R>,
+    output: &mut W,
+) -> Result<(), Fault>
+    requires subscribers { L.places ≡ 4 }
+    requires object { ⟦<Requests<Events<L, Wakes<u64, 4>, Wakes<u64, 4>, REQS>, REQS, 4> as Machine>⟧.semantics.object machine ≡ new_object (a_new_topic first) }
+    requires registrations { ⟦<Requests<Events<L, Wakes<u64, 4>, Wakes<u64, 4>, REQS>, REQS, 4> as Machine>⟧.semantics.registrations machine ≡ no_lists }
+    ensures { PlaysPubSub ⟦<u64 as PartialEq>⟧.eq (P.plays player.old player.new) L.capacity first lines.old.number lines.old.left (W.contents output.old) (W.contents output.new) result }
+{
+    let _ = first;
+    serve::<PubSubWords, _, P, R, W>(player, machine, lines, output)
+}
+
+fn serve_pubsub<P: Player<R, W>, R: Read + Drop, W: Write>(
+    player: &mut P,
     capacity: Capacity,
     first: u64,
     lines: &mut Lines<R>,
     output: &mut W,
 ) -> Result<(), Fault>
-    ensures { PlaysPubSub ⟦<u64 as PartialEq>⟧.eq T.tells (places capacity) first lines.old.number lines.old.left (W.contents output.old) (W.contents output.new) result }
+    ensures { PlaysPubSub ⟦<u64 as PartialEq>⟧.eq (P.plays player.old player.new) (places capacity) first lines.old.number lines.old.left (W.contents output.old) (W.contents output.new) result }
 {
     at_capacity!(
         capacity,
-        at_logs!(serve::<PubSubWords, T, R, W>(telling, first, lines, output))
+        at_logs!(serve_log::<P, R, W>(player, first, lines, output))
     )
 }
 
@@ -434,78 +457,78 @@ fn places_of(capacity: Capacity) -> usize
     }
 }
 
-fn serve_zerocopy<T: Telling, R: Read + Drop, W: Write>(
+fn serve_zerocopy<P: Player<R, W>, R: Read + Drop, W: Write>(
     alloc: Global,
-    telling: &mut T,
+    player: &mut P,
     capacity: Capacity,
     lines: &mut Lines<R>,
     output: &mut W,
 ) -> Result<(), Fault>
-    ensures { PlaysSlots ⟦<u64 as PartialEq>⟧.eq T.tells (places capacity) lines.old.number lines.old.left (W.contents output.old) (W.contents output.new) result }
+    ensures { PlaysSlots ⟦<u64 as PartialEq>⟧.eq (P.plays player.old player.new) (places capacity) lines.old.number lines.old.left (W.contents output.old) (W.contents output.new) result }
 {
     match zerocopy(alloc, places_of(capacity)) {
-        Ok(machine) => serve::<ZeroWords, _, T, R, W>(telling, machine, lines, output),
+        Ok(machine) => serve::<ZeroWords, _, P, R, W>(player, machine, lines, output),
         Err(fault) => Err(fault),
     }
 }
 
 // A script over a watch of at most `N` counted receivers.
-fn serve_value<const N: usize, T: Telling, R: Read + Drop, W: Write>(
-    telling: &mut T,
+fn serve_value<const N: usize, P: Player<R, W>, R: Read + Drop, W: Write>(
+    player: &mut P,
     value: Option<u32>,
     lines: &mut Lines<R>,
     output: &mut W,
 ) -> Result<(), Fault>
     requires some { 1 ≤ N }
     requires few { N ≤ 8 }
-    ensures { PlaysWatch ⟦<u64 as PartialEq>⟧.eq T.tells N value lines.old.number lines.old.left (W.contents output.old) (W.contents output.new) result }
+    ensures { PlaysWatch ⟦<u64 as PartialEq>⟧.eq (P.plays player.old player.new) N value lines.old.number lines.old.left (W.contents output.old) (W.contents output.new) result }
 {
-    serve::<WatchWords, _, T, R, W>(telling, watch::<N>(value), lines, output)
+    serve::<WatchWords, _, P, R, W>(player, watch::<N>(value), lines, output)
 }
 
-fn serve_watch<T: Telling, R: Read + Drop, W: Write>(
-    telling: &mut T,
+fn serve_watch<P: Player<R, W>, R: Read + Drop, W: Write>(
+    player: &mut P,
     capacity: Capacity,
     value: Option<u32>,
     lines: &mut Lines<R>,
     output: &mut W,
 ) -> Result<(), Fault>
-    ensures { PlaysWatch ⟦<u64 as PartialEq>⟧.eq T.tells (places capacity) value lines.old.number lines.old.left (W.contents output.old) (W.contents output.new) result }
+    ensures { PlaysWatch ⟦<u64 as PartialEq>⟧.eq (P.plays player.old player.new) (places capacity) value lines.old.number lines.old.left (W.contents output.old) (W.contents output.new) result }
 {
     at_capacity!(
         capacity,
-        at_places!(serve_value::<T, R, W>(telling, value, lines, output))
+        at_places!(serve_value::<P, R, W>(player, value, lines, output))
     )
 }
 
 // Makes the primitive that line 1 names, and plays the lines behind it.
-fn serve_opening<T: Telling, R: Read + Drop, W: Write>(
+fn serve_opening<P: Player<R, W>, R: Read + Drop, W: Write>(
     alloc: Global,
-    telling: &mut T,
+    player: &mut P,
     opening: Opening,
     lines: &mut Lines<R>,
     output: &mut W,
 ) -> Result<(), Fault>
-    ensures { Plays ⟦<u64 as PartialEq>⟧.eq T.tells ⟦<Max as Kind<u32>>⟧.above ⟦<Min as Kind<u32>>⟧.above opening lines.old.number lines.old.left (W.contents output.old) (W.contents output.new) result }
+    ensures { Plays ⟦<u64 as PartialEq>⟧.eq (P.plays player.old player.new) ⟦<Max as Kind<u32>>⟧.above ⟦<Min as Kind<u32>>⟧.above opening lines.old.number lines.old.left (W.contents output.old) (W.contents output.new) result }
 {
     match opening {
-        Opening::Channel(capacity) => serve_channel(telling, capacity, lines, output),
-        Opening::Max(capacity) => serve_priority::<Max, T, R, W>(telling, capacity, lines, output),
-        Opening::Min(capacity) => serve_priority::<Min, T, R, W>(telling, capacity, lines, output),
-        Opening::Signal => serve::<SignalWords, _, T, R, W>(telling, signal(), lines, output),
+        Opening::Channel(capacity) => serve_channel(player, capacity, lines, output),
+        Opening::Max(capacity) => serve_priority::<Max, P, R, W>(player, capacity, lines, output),
+        Opening::Min(capacity) => serve_priority::<Min, P, R, W>(player, capacity, lines, output),
+        Opening::Signal => serve::<SignalWords, _, P, R, W>(player, signal(), lines, output),
         Opening::Greedy(permits) => {
-            serve::<GreedyWords, _, T, R, W>(telling, greedy(permits), lines, output)
+            serve::<GreedyWords, _, P, R, W>(player, greedy(permits), lines, output)
         }
-        Opening::Fair(capacity, permits) => serve_fair(telling, capacity, permits, lines, output),
-        Opening::Pipe(capacity) => serve_pipe(telling, capacity, lines, output),
-        Opening::PubSub(capacity, first) => serve_pubsub(telling, capacity, first, lines, output),
-        Opening::Once => serve::<OnceWords, _, T, R, W>(telling, once(), lines, output),
-        Opening::Lazy(value) => serve::<LazyWords, _, T, R, W>(telling, lazy(value), lines, output),
+        Opening::Fair(capacity, permits) => serve_fair(player, capacity, permits, lines, output),
+        Opening::Pipe(capacity) => serve_pipe(player, capacity, lines, output),
+        Opening::PubSub(capacity, first) => serve_pubsub(player, capacity, first, lines, output),
+        Opening::Once => serve::<OnceWords, _, P, R, W>(player, once(), lines, output),
+        Opening::Lazy(value) => serve::<LazyWords, _, P, R, W>(player, lazy(value), lines, output),
         Opening::Mutex(value, part) => {
-            serve::<MutexWords, _, T, R, W>(telling, mutex(value, part), lines, output)
+            serve::<MutexWords, _, P, R, W>(player, mutex(value, part), lines, output)
         }
-        Opening::Watch(capacity, value) => serve_watch(telling, capacity, value, lines, output),
-        Opening::Zerocopy(capacity) => serve_zerocopy(alloc, telling, capacity, lines, output),
+        Opening::Watch(capacity, value) => serve_watch(player, capacity, value, lines, output),
+        Opening::Zerocopy(capacity) => serve_zerocopy(alloc, player, capacity, lines, output),
     }
 }
 
@@ -524,7 +547,7 @@ fn close<T: Telling, W: Write>(
     played
 }
 
-/// Plays a whole script, whose lines haven't been read.
+/// Tells of a whole script, whose lines haven't been read: of line 1, of each line that is played behind it, and at the end.
 pub fn play_lines<T: Telling, R: Read + Drop, W: Write>(
     alloc: Global,
     telling: &mut T,
@@ -538,6 +561,25 @@ pub fn play_lines<T: Telling, R: Read + Drop, W: Write>(
         Ok(opening) => {
             let played = serve_opening(alloc, telling, opening, lines, output);
             close(telling, played, output)
+        }
+        Err(fault) => Err(fault),
+    }
+}
+
+/// Gives the player the machine that line 1 names, and the lines behind it. None has been read, and nothing is written of line 1.
+pub fn play_with<P: Player<R, W>, R: Read + Drop, W: Write>(
+    alloc: Global,
+    player: &mut P,
+    lines: &mut Lines<R>,
+    output: &mut W,
+) -> Result<(), Fault>
+    requires { lines.old.number ≡ 0 }
+    ensures { PlaysBehind ⟦<u64 as PartialEq>⟧.eq (P.plays player.old player.new) ⟦<Max as Kind<u32>>⟧.above ⟦<Min as Kind<u32>>⟧.above (λ line. []) [] lines.old.left (W.contents output.old) (W.contents output.new) result }
+{
+    match open::<Opening, Replies, R, W>(&Replies {}, lines, output) {
+        Ok(opening) => {
+            let played = serve_opening(alloc, player, opening, lines, output);
+            close(&mut Replies {}, played, output)
         }
         Err(fault) => Err(fault),
     }

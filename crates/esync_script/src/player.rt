@@ -1,0 +1,94 @@
+//! What goes through the lines of a script, whichever primitive line 1 names.
+ghost use Rattle.std.specs.Prelude.{ℕ, List, Option, Result, IfOk};
+ghost use Rattle.esync_machine.specs.Runs.{Meaning};
+ghost use Rattle.esync_machine.specs.declared.primitive.Answer.{Answer as AnswerOf};
+ghost use Rattle.esync_machine.specs.declared.primitive.Command.{Command as CommandOf};
+ghost use Rattle.esync_words.specs.declared.fault.Fault.{Fault as FaultOf};
+ghost use Rattle.esync_words.specs.Commands.{says, command};
+ghost use Rattle.esync_script.specs.Player.{plays_and_tells};
+
+use esync_base::kept::Kept;
+use esync_base::waitqueue::Registered;
+use esync_machine::primitive::{Command, Primitive};
+use esync_machine::requests::Requests;
+use esync_machine::run::{Keep, Machine};
+use esync_words::fault::Fault;
+use esync_words::lines::Lines;
+use esync_words::play::{Parts, Telling, play};
+use esync_words::vocabulary::Vocabulary;
+use std::alloc::AllocError;
+use std::fmt::Debug;
+use std::io::{Read, Write};
+
+/// A machine of which a copy is made, to try on it what the machine itself goes on without.
+pub trait Copied: Sized {
+    /// This is a copy of that: it has the same object, and the same wakers registered.
+    ghost IsCopy: { Self → Self → Type 0 };
+
+    fn copied(&self) -> Result<Self, AllocError>
+        ensures { IfOk result (λ copy. IsCopy copy self.now) };
+}
+
+impl<P: Primitive<K> + Kept, const REQS: usize, const K: usize> Copied for Requests<P, REQS, K>
+where
+    P::Held: Copy,
+{
+    ghost use Rattle.esync_machine.specs.Histories.{IsLike};
+
+    ghost IsCopy = { IsLike ⟦<Requests<P, REQS, K> as Machine>⟧.semantics };
+
+    fn copied(&self) -> Result<Self, AllocError> {
+        self.keep()
+    }
+}
+
+/// Goes through the lines behind line 1, over the machine that line 1 names. Each `Telling` does so: it gives each line to the
+/// machine as a command, and tells what comes of it.
+pub trait Player<R: Read + Drop, W: Write> {
+    ghost use Rattle.std.specs.Prelude.{ℕ, List, Option, Result};
+    ghost use Rattle.esync_machine.specs.Runs.{Meaning};
+    ghost use Rattle.esync_machine.specs.declared.primitive.Answer.{Answer as AnswerOf};
+    ghost use Rattle.esync_machine.specs.declared.primitive.Command.{Command as CommandOf};
+    ghost use Rattle.esync_words.specs.declared.fault.Fault.{Fault as FaultOf};
+
+    /// How a script is gone through, by a player before and after it: of a machine that means this, where a line says a command,
+    /// an answer has a text, and a reply an answer and wakers; from an object and the wakers that are registered, behind line n,
+    /// with what is left of the text, and the output before and after it.
+    ghost plays: { Self → Self → (Q C A Reply : Type 0) (M : Meaning (CommandOf Q ℕ C) Reply ℕ) → (List ℕ → Option (CommandOf Q ℕ C)) → (A → List ℕ) → (Reply → AnswerOf A) → (Reply → List ℕ) → M.Object → M.Registered → ℕ → Option (List ℕ) → Option (List ℕ) → Option (List ℕ) → Result (Unit {0}) FaultOf → Type 0 };
+
+    /// Goes through the lines that are left.
+    fn play<V, M>(&mut self, machine: M, lines: &mut Lines<R>, output: &mut W) -> Result<(), Fault>
+    where
+        V: Vocabulary,
+        V::Ask: Copy,
+        V::Call: Copy,
+        M: Machine<Command = Command<V::Ask, u64, V::Call>, Waker = u64>
+            + Copied
+            + Registered<Waker = u64>
+            + Debug
+            + Drop,
+        M::Reply: Parts<V::Heard> + Drop,
+        ensures { plays self.old self.new V.Ask V.Call V.Heard M.Reply M.semantics.meaning (says (command V.asks V.calls)) V.text M.Reply.answer M.Reply.wakes (M.semantics.object machine) (M.semantics.registrations machine) lines.old.number lines.old.left (W.contents output.old) (W.contents output.new) result };
+}
+
+impl<T: Telling, R: Read + Drop, W: Write> Player<R, W> for T {
+    ghost use Rattle.esync_script.specs.Player.{plays_and_tells};
+
+    ghost plays = { λ old new. plays_and_tells T.tells };
+
+    fn play<V, M>(&mut self, machine: M, lines: &mut Lines<R>, output: &mut W) -> Result<(), Fault>
+    where
+        V: Vocabulary,
+        V::Ask: Copy,
+        V::Call: Copy,
+        M: Machine<Command = Command<V::Ask, u64, V::Call>, Waker = u64>
+            + Copied
+            + Registered<Waker = u64>
+            + Debug
+            + Drop,
+        M::Reply: Parts<V::Heard> + Drop,
+    {
+        let mut machine = machine;
+        play::<V, M, T, R, W>(self, &mut machine, lines, output)
+    }
+}
