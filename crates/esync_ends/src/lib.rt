@@ -3,35 +3,47 @@
 
 ghost use Rattle.std.specs.Prelude.{◌≤◌};
 
-use crate::replay::{Player, Script, SyncRun};
-use crate::standing::{Standing, standing_of};
+use crate::played::Played;
+use crate::standing::Standing;
+use esync_base::waitqueue::Registered;
+use esync_machine::primitive::Command;
+use esync_machine::run::Machine;
+use esync_script::opening::play_with;
+use esync_script::player::{Copied, Player};
 use esync_words::fault::Fault;
-use std::alloc::Global;
+use esync_words::lines::Lines;
+use esync_words::play::Parts;
+use esync_words::vocabulary::{REQS, Vocabulary, read_command};
+use esync_words::words::Words;
+use std::alloc::{AllocError, Global};
+use std::fmt::Debug;
 use std::io::{self, ErrorKind, Read, Write};
 
-pub mod replay;
+mod played;
 mod standing;
 
-// The numbers that a script's requests have.
-const REQS: u64 = 16;
+/// How the wakers that are handed out reach their tasks.
+pub trait Delivery: Drop {
+    /// The task of this waker hears of a step that hands out these, in a row that may have empty places behind them.
+    fn arrives(&self, waker: u64, wakers: &[Option<u64>]) -> bool;
+}
 
-// What was tried.
-#[derive(Clone, Copy, Debug, Default)]
-struct Tried {
-    // How many ends.
-    ends: u64,
-    // How many polls of requests that wait, behind the ends.
-    polls: u64,
-    // How many of them were Ready, of a request whose waker nobody handed out.
-    untold: u64,
+/// Each task hears of its waker.
+#[derive(Drop)]
+pub struct Reaches {}
+
+impl Delivery for Reaches {
+    fn arrives(&self, waker: u64, wakers: &[Option<u64>]) -> bool {
+        wakers.contains(&Some(waker))
+    }
 }
 
 /// Reads a script, and tries what would be if one of its requests was ended sooner: each request, after each line.
 ///
-/// Each such end is played from the beginning, with the lines behind it. Then each request that waits is polled with its last
-/// waker, in a play of its own. One that is answered Ready has to have been told: its waker was handed out in its last poll or
-/// since. Where it wasn't, one line says so, as `after line 3, end 1: request 2 is Ready and was not told`. The last line says
-/// how many ends and polls were tried. One that is answered `NoSuch` doesn't count: a subscriber that leaves ends its requests.
+/// The lines behind such an end are played too. Then each request that waits is polled with its last waker, on a copy of the
+/// machine. One that is answered Ready has to have been told: its waker was handed out in its last poll or since. Where it
+/// wasn't, one line says so, as `after line 3, end 1: request 2 is Ready and was not told`. The last line says how many ends and
+/// polls were tried. One that is answered `NoSuch` doesn't count: a subscriber that leaves ends its requests.
 ///
 /// | Status | The script | Written to `errors` |
 /// |---|---|---|
@@ -40,6 +52,8 @@ struct Tried {
 /// | 2 | has a line K that is no command | `line K: not a command` |
 /// | 3 | can't be read, or the output not be written | `input or output failed` |
 /// | 4 | takes more memory than there is | `out of memory` |
+///
+/// Each end plays the lines behind it, so the time grows as the square of the number of lines.
 pub fn ends<R: Read + Drop, W: Write + Drop, E: Write + Drop>(
     alloc: Global,
     input: R,
@@ -48,20 +62,20 @@ pub fn ends<R: Read + Drop, W: Write + Drop, E: Write + Drop>(
 ) -> u8
     ensures { result ≤ 4 }
 {
-    ends_of(alloc, &SyncRun {}, input, output, errors)
+    ends_by(alloc, Reaches {}, input, output, errors)
 }
 
-/// The same of what this player plays.
-pub fn ends_of<P: Player, R: Read + Drop, W: Write + Drop, E: Write + Drop>(
+/// The same where the wakers are delivered so.
+pub fn ends_by<D: Delivery, R: Read + Drop, W: Write + Drop, E: Write + Drop>(
     alloc: Global,
-    player: &P,
+    delivery: D,
     input: R,
     mut output: W,
     mut errors: E,
 ) -> u8
     ensures { result ≤ 4 }
 {
-    match read_text(alloc, input).and_then(|text| try_script(alloc, player, &text, &mut output)) {
+    match read_text(alloc, input).and_then(|text| try_script(alloc, delivery, &text, u64::MAX, &mut output)) {
         Ok(is_told) => u8::from(!is_told),
         Err(fault) => {
             let _ = writeln!(errors, "{fault}");
@@ -72,30 +86,33 @@ pub fn ends_of<P: Player, R: Read + Drop, W: Write + Drop, E: Write + Drop>(
 }
 
 /// Tries the sooner ends of a script that stands in memory, and writes what `ends` writes: whether each request was told.
-pub fn try_ends<W: Write>(alloc: Global, text: &str, output: &mut W) -> Result<bool, Fault> {
-    try_script(alloc, &SyncRun {}, text, output)
-}
-
-fn try_script<P: Player, W: Write>(
+///
+/// It tries at most `limit` ends, those after the first lines. Where there are more, the last line says so.
+pub fn try_ends<W: Write>(
     alloc: Global,
-    player: &P,
     text: &str,
+    limit: u64,
     output: &mut W,
 ) -> Result<bool, Fault> {
-    player.play(alloc, text)?;
-    let script = Script::new(alloc, text)?;
-    let mut tried = Tried::default();
-    for line in 1..=script.len() {
-        try_line(alloc, player, &script, line, &mut tried, output)?;
-    }
-    let Tried {
-        ends,
-        polls,
-        untold,
-    } = tried;
-    writeln!(output, "{ends} ends, {polls} polls, {untold} not told")?;
-    output.flush()?;
-    Ok(untold == 0)
+    try_script(alloc, Reaches {}, text, limit, output)
+}
+
+fn try_script<D: Delivery, W: Write>(
+    alloc: Global,
+    delivery: D,
+    text: &str,
+    limit: u64,
+    output: &mut W,
+) -> Result<bool, Fault> {
+    let mut lines = Lines::new(alloc, text.as_bytes())?;
+    let mut trial = Trial {
+        alloc,
+        delivery,
+        limit,
+        tried: Tried::default(),
+    };
+    play_with(alloc, &mut trial, &mut lines, output)?;
+    Ok(trial.tried.untold == 0)
 }
 
 // The text of the input.
@@ -114,81 +131,181 @@ fn unread(error: &io::Error) -> Fault {
     Fault::InputOutput
 }
 
-// Ends each request that is there after this many lines.
-fn try_line<P: Player, W: Write>(
+// What was tried.
+#[derive(Clone, Copy, Debug, Default)]
+struct Tried {
+    // How many ends.
+    ends: u64,
+    // How many polls of requests that wait, behind the ends.
+    polls: u64,
+    // How many of them were Ready, of a request that wasn't told.
+    untold: u64,
+    // There are more ends.
+    is_cut: bool,
+}
+
+// Goes through a script, and tries the sooner ends of its requests.
+#[derive(Drop)]
+struct Trial<D: Delivery> {
     alloc: Global,
-    player: &P,
-    script: &Script<'_>,
-    line: usize,
-    tried: &mut Tried,
+    delivery: D,
+    // How many ends are tried at most.
+    limit: u64,
+    tried: Tried,
+}
+
+impl<D: Delivery, R: Read + Drop, W: Write> Player<R, W> for Trial<D> {
+    ghost plays = { λ old new Q C A Reply M says text answer wakes object registered n left before after outcome. Unit {0} };
+
+    fn play<V, M>(&mut self, machine: M, lines: &mut Lines<R>, output: &mut W) -> Result<(), Fault>
+    where
+        V: Vocabulary,
+        V::Ask: Copy,
+        V::Call: Copy,
+        M: Machine<Command = Command<V::Ask, u64, V::Call>, Waker = u64>
+            + Copied
+            + Registered<Waker = u64>
+            + Debug
+            + Drop,
+        M::Reply: Parts<V::Heard> + Drop,
+    {
+        let commands = read_commands::<V, R, W>(self.alloc, lines, output)?;
+        self.try_all(Played::new(machine), &commands, output)?;
+        let Tried {
+            ends,
+            polls,
+            untold,
+            is_cut,
+        } = self.tried;
+        let more = if is_cut { "; there are more ends" } else { "" };
+        writeln!(output, "{ends} ends, {polls} polls, {untold} not told{more}")?;
+        output.flush()?;
+        Ok(())
+    }
+}
+
+// The commands of all lines that are left.
+fn read_commands<V, R, W>(
+    alloc: Global,
+    lines: &mut Lines<R>,
     output: &mut W,
-) -> Result<(), Fault> {
-    let so_far = script.first(alloc, line)?;
-    let printed = player.play(alloc, &so_far)?;
-    for request in 0..REQS {
-        if standing_of(&so_far, &printed, request) != Standing::Free {
-            let ended = script.with_end(alloc, line, request)?;
-            try_end(alloc, player, &ended, line, request, tried, output)?;
+) -> Result<Vec<Command<V::Ask, u64, V::Call>>, Fault>
+where
+    V: Vocabulary,
+    R: Read + Drop,
+    W: Write,
+{
+    let mut commands = Vec::new(alloc);
+    for _ in 0..u64::MAX {
+        if !lines.read(output)? {
+            return Ok(commands);
         }
+        let line = lines.line()?;
+        let Some(command) = read_command::<V>(Words::of(line)) else {
+            return Err(lines.not_a_command());
+        };
+        commands.push(command).map_err(|_| Fault::OutOfMemory)?;
     }
-    Ok(())
+    // No input has so many lines.
+    Err(Fault::InputOutput)
 }
 
-// Whether the reply says that nothing of this number is there.
-fn is_no_such(reply: &str) -> bool {
-    reply.starts_with("Err(NoSuch)")
+fn refused(_: AllocError) -> Fault {
+    Fault::OutOfMemory
 }
 
-// Polls each request that waits behind an end, unless there was nothing to end.
-fn try_end<P: Player, W: Write>(
-    alloc: Global,
-    player: &P,
-    ended: &str,
-    line: usize,
-    end: u64,
-    tried: &mut Tried,
-    output: &mut W,
-) -> Result<(), Fault> {
-    let printed = player.play(alloc, ended)?;
-    // Line 1 has no reply, so that of the end is the one of this number.
-    let reply = printed.lines().skip(line.saturating_sub(1)).next();
-    if reply.is_some_and(is_no_such) {
-        return Ok(());
+impl<D: Delivery> Trial<D> {
+    // Tries each end after each line.
+    fn try_all<Q, C, A, M, W>(
+        &mut self,
+        machine: Played<Q, C, A, M>,
+        commands: &[Command<Q, u64, C>],
+        output: &mut W,
+    ) -> Result<(), Fault>
+    where
+        Q: Copy,
+        C: Copy,
+        M: Machine<Command = Command<Q, u64, C>, Waker = u64> + Copied + Drop,
+        M::Reply: Parts<A> + Drop,
+        W: Write,
+    {
+        let mut machine = machine;
+        for (place, command) in commands.iter().enumerate() {
+            machine.step(&self.delivery, command);
+            let rest = commands.get(place.saturating_add(1)..).unwrap_or(&[]);
+            // (line 1 is no command)
+            let line = (place as u64).saturating_add(2);
+            self.try_line(&machine, line, rest, output)?;
+            if self.tried.is_cut {
+                break;
+            }
+        }
+        Ok(())
     }
-    tried.ends = tried.ends.saturating_add(1);
-    for request in 0..REQS {
-        if let Standing::Waits { waker, is_told } = standing_of(ended, &printed, request) {
-            let Some(is_ready) = is_ready(alloc, player, ended, request, waker)? else {
+
+    // Ends each request that is there after this line, with the others behind it.
+    fn try_line<Q, C, A, M, W>(
+        &mut self,
+        machine: &Played<Q, C, A, M>,
+        line: u64,
+        rest: &[Command<Q, u64, C>],
+        output: &mut W,
+    ) -> Result<(), Fault>
+    where
+        Q: Copy,
+        C: Copy,
+        M: Machine<Command = Command<Q, u64, C>, Waker = u64> + Copied + Drop,
+        M::Reply: Parts<A> + Drop,
+        W: Write,
+    {
+        for request in 0..REQS {
+            if machine.standing(request) == Standing::Free {
+                continue;
+            }
+            if self.tried.ends >= self.limit {
+                self.tried.is_cut = true;
+                return Ok(());
+            }
+            if let Some(mut ended) = machine.with_end(&self.delivery, request).map_err(refused)? {
+                self.tried.ends = self.tried.ends.saturating_add(1);
+                ended.go_on(&self.delivery, rest);
+                self.poll_all(&ended, line, request, output)?;
+            }
+        }
+        Ok(())
+    }
+
+    // Polls each request that waits behind an end.
+    fn poll_all<Q, C, A, M, W>(
+        &mut self,
+        ended: &Played<Q, C, A, M>,
+        line: u64,
+        end: usize,
+        output: &mut W,
+    ) -> Result<(), Fault>
+    where
+        Q: Copy,
+        C: Copy,
+        M: Machine<Command = Command<Q, u64, C>, Waker = u64> + Copied + Drop,
+        M::Reply: Parts<A> + Drop,
+        W: Write,
+    {
+        for request in 0..REQS {
+            let Standing::Waits { waker, is_told } = ended.standing(request) else {
                 continue;
             };
-            tried.polls = tried.polls.saturating_add(1);
+            let Some(is_ready) = ended.is_ready(request, waker).map_err(refused)? else {
+                continue;
+            };
+            self.tried.polls = self.tried.polls.saturating_add(1);
             if is_ready && !is_told {
-                tried.untold = tried.untold.saturating_add(1);
+                self.tried.untold = self.tried.untold.saturating_add(1);
                 writeln!(
                     output,
                     "after line {line}, end {end}: request {request} is Ready and was not told"
                 )?;
             }
         }
-    }
-    Ok(())
-}
-
-// Whether the request, polled behind the script, is answered Ready, if it is there.
-fn is_ready<P: Player>(
-    alloc: Global,
-    player: &P,
-    script: &str,
-    request: u64,
-    waker: u64,
-) -> Result<Option<bool>, Fault> {
-    let polled = format!(in alloc; "{script}poll {request} {waker}\n").map_err(
-        |_| Fault::OutOfMemory,
-    )?;
-    let printed = player.play(alloc, &polled)?;
-    match printed.lines().last() {
-        Some(reply) if is_no_such(reply) => Ok(None),
-        Some(reply) => Ok(Some(reply.starts_with("Ready"))),
-        None => Ok(None),
+        Ok(())
     }
 }

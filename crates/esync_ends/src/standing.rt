@@ -1,72 +1,78 @@
-//! Where a request of a script stands, as its lines and their answers tell.
+//! Where the requests of a script stand.
+use crate::Delivery;
+use esync_machine::primitive::{Answer, Command};
+
+// How many requests a script has at a time.
+const REQS: usize = esync_words::vocabulary::REQS;
 
 // Where a request stands.
 #[derive(Clone, Copy, Debug, PartialEq, Eq)]
 pub enum Standing {
-    // It is not started, or over.
+    // It isn't started, or is over.
     Free,
     // It is started, and its last poll, if there was one, was not answered Pending.
     Started,
-    // Its last poll was answered Pending. Its waker was handed out in that poll or since, or it was not.
+    // Its last poll was answered Pending. Its waker was handed out in that poll or since, or it wasn't.
     Waits { waker: u64, is_told: bool },
 }
 
-// Where the request stands after the script, which printed this.
-pub fn standing_of(script: &str, printed: &str, request: u64) -> Standing {
-    let mut standing = Standing::Free;
-    let commands = script.lines().skip(1);
-    for (command, reply) in commands.zip(printed.lines()) {
-        standing = after(standing, request, command, reply);
-    }
-    standing
-}
-
-// Where the request stands after one more command, which got this reply.
-fn after(standing: Standing, request: u64, command: &str, reply: &str) -> Standing {
-    let Some((answer, wakes)) = reply.split_once(" | ") else {
-        return standing;
-    };
-    let own = own(standing, request, command, answer);
-    match own {
-        Standing::Waits { waker, is_told } => Standing::Waits {
-            waker,
-            is_told: is_told || has_number(wakes, waker),
-        },
-        Standing::Free | Standing::Started => own,
-    }
-}
-
-// The same but for the wakers that were handed out.
-fn own(standing: Standing, request: u64, command: &str, answer: &str) -> Standing {
-    let mut words = command.split(' ');
-    let name = words.next();
-    if words.next().and_then(|word| word.parse::<u64>().ok()) != Some(request) {
-        return standing;
-    }
-    if answer.starts_with("Err") {
-        return standing;
-    }
-    let Some(name) = name else { return standing };
-    match name {
-        "start" => Standing::Started,
-        "poll" => match words.next().and_then(|word| word.parse::<u64>().ok()) {
-            Some(waker) if answer == "Pending" => Standing::Waits {
-                waker,
-                is_told: false,
-            },
-            _ => Standing::Free,
-        },
-        "end" => Standing::Free,
-        _ => standing,
-    }
-}
-
-// The number is among those, which have a space between them.
-fn has_number(numbers: &str, number: u64) -> bool {
-    for word in numbers.split(' ') {
-        if word.parse::<u64>().ok() == Some(number) {
-            return true;
+impl Standing {
+    // Hears which wakers were handed out.
+    fn hear<D: Delivery>(&mut self, delivery: &D, wakers: &[Option<u64>]) {
+        if let Standing::Waits { waker, is_told } = self {
+            *is_told |= delivery.arrives(*waker, wakers);
         }
     }
-    false
+}
+
+// Where the request of each number stands.
+#[derive(Clone, Copy)]
+pub struct Standings {
+    places: [Standing; REQS],
+}
+
+impl Standings {
+    // No request was started.
+    pub fn new() -> Self {
+        Standings {
+            places: [Standing::Free; REQS],
+        }
+    }
+
+    // Where the request stands.
+    pub fn of(&self, request: usize) -> Standing {
+        self.places.get(request).copied().unwrap_or(Standing::Free)
+    }
+
+    // Where they stand after one more command, which got this answer and handed out these wakers.
+    pub fn hear<Q, C, A, D: Delivery>(
+        &mut self,
+        delivery: &D,
+        command: &Command<Q, u64, C>,
+        answer: &Answer<A>,
+        wakers: &[Option<u64>],
+    ) {
+        match (command, answer) {
+            (Command::Start(r, _), Answer::Done) => self.put(*r, Standing::Started),
+            (Command::Poll(r, waker), Answer::Pending) => {
+                let waits = Standing::Waits {
+                    waker: *waker,
+                    is_told: false,
+                };
+                self.put(*r, waits);
+            }
+            (Command::Poll(r, _), Answer::Done | Answer::Gives(_)) => self.put(*r, Standing::Free),
+            (Command::End(r), Answer::Done) => self.put(*r, Standing::Free),
+            _ => {}
+        }
+        for standing in self.places.iter_mut() {
+            standing.hear(delivery, wakers);
+        }
+    }
+
+    fn put(&mut self, request: usize, standing: Standing) {
+        if let Some(place) = self.places.get_mut(request) {
+            *place = standing;
+        }
+    }
 }

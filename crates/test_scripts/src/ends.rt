@@ -1,19 +1,15 @@
-use esync_ends::ends_of;
-use esync_ends::replay::{Player, SyncRun};
+use esync_ends::{Delivery, Reaches, ends_by};
 use esync_notes::same;
-use esync_words::fault::Fault;
-use std::alloc::Global;
 use std::test::Fail;
 
-/// Plays as `syncrun` does, and keeps back each list of wakes that is the waker 1 alone.
+/// Keeps back each list of wakes that is the waker 1 alone.
+#[derive(Drop)]
 pub struct KeepsBack {}
 
-impl Player for KeepsBack {
-    fn play(&self, alloc: Global, script: &str) -> Result<String, Fault> {
-        let printed = SyncRun {}.play(alloc, script)?;
-        printed
-            .replace(alloc, " | 1\n", " | -\n")
-            .map_err(|_| Fault::OutOfMemory)
+impl Delivery for KeepsBack {
+    fn arrives(&self, waker: u64, wakers: &[Option<u64>]) -> bool {
+        let is_alone = wakers.iter().flatten().count() == 1;
+        !(waker == 1 && is_alone) && Reaches {}.arrives(waker, wakers)
     }
 }
 
@@ -22,9 +18,9 @@ fn a_waker_that_is_kept_back_is_found(rt: HostRuntime) -> Result<(), Fail> {
     let script = "channel 1\nstart 1 receive\npoll 1 1\nstart 2 receive\ntry-send 7\n";
     let alloc = rt.alloc();
     let (mut output, mut errors) = (Vec::new(alloc), Vec::new(alloc));
-    let status = ends_of(
+    let status = ends_by(
         alloc,
-        &KeepsBack {},
+        KeepsBack {},
         script.as_bytes(),
         &mut output,
         &mut errors,

@@ -1,6 +1,6 @@
 //! Reads and writes that fail in mid-stream, each in turn.
 use crate::ends::KeepsBack;
-use esync_ends::ends_of;
+use esync_ends::ends_by;
 use esync_notes::same;
 use std::alloc::Global;
 use std::io::{self, ErrorKind, Read, Write};
@@ -80,7 +80,7 @@ fn left_by(
         left: writes,
         text: &mut output,
     };
-    let status = ends_of(alloc, &KeepsBack {}, input, takes, &mut errors);
+    let status = ends_by(alloc, KeepsBack {}, input, takes, &mut errors);
     (output, errors, status)
 }
 
