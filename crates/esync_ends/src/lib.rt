@@ -75,7 +75,13 @@ pub fn ends_by<D: Delivery, R: Read + Drop, W: Write + Drop, E: Write + Drop>(
 ) -> u8
     ensures { result ≤ 4 }
 {
-    match read_text(alloc, input).and_then(|text| try_script(alloc, delivery, &text, u64::MAX, &mut output)) {
+    match read_text(alloc, input).and_then(|text| try_script(
+        alloc,
+        delivery,
+        &text,
+        u64::MAX,
+        &mut output,
+    )) {
         Ok(is_told) => u8::from(!is_told),
         Err(fault) => {
             let _ = writeln!(errors, "{fault}");
@@ -178,7 +184,10 @@ impl<D: Delivery, R: Read + Drop, W: Write> Player<R, W> for Trial<D> {
             is_cut,
         } = self.tried;
         let more = if is_cut { "; there are more ends" } else { "" };
-        writeln!(output, "{ends} ends, {polls} polls, {untold} not told{more}")?;
+        writeln!(
+            output,
+            "{ends} ends, {polls} polls, {untold} not told{more}"
+        )?;
         output.flush()?;
         Ok(())
     }

@@ -1,5 +1,5 @@
 //! The command line.
-use clap::{Arg, ArgAction, Command};
+use clap::{Arg, ArgAction, Command, value_parser};
 use std::alloc::{AllocError, Global};
 
 const SCRIPT: &str = "The script; standard input where it is - or left out";
@@ -55,10 +55,10 @@ fn run<'a>(alloc: Global) -> Result<Command<'a>, AllocError> {
 fn draw<'a>(alloc: Global) -> Result<Command<'a>, AllocError> {
     let format = Arg::new(alloc, "format")
         .long("format")
-        .value_parser(["mermaid", "markdown"].as_slice())
+        .value_parser(["mermaid", "markdown", "svg"].as_slice())
         .default_value("mermaid")
         .help(
-            "A diagram in the language of Mermaid, or a document with one in pages of at most 50 lines",
+            "A diagram in the language of Mermaid, a document with one in pages of at most 50 lines, or a picture for a browser",
         );
     Command::new(alloc, "draw")
         .about("Draws a script as a sequence diagram: calls, polls, answers and wakes")
@@ -96,10 +96,16 @@ fn check<'a>(alloc: Global) -> Result<Command<'a>, AllocError> {
 }
 
 fn ends<'a>(alloc: Global) -> Result<Command<'a>, AllocError> {
+    let limit = Arg::new(alloc, "limit")
+        .long("limit")
+        .value_name("N")
+        .value_parser(value_parser!(u64))
+        .help("Try at most so many ends of a script, those after its first lines");
     Command::new(alloc, "ends")
         .about(
             "Ends each request of a script at each earlier line, and says whether each task whose turn comes is told",
         )
+        .arg(limit)?
         .arg(files(alloc, SCRIPTS))
 }
 

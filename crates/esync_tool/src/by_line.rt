@@ -6,6 +6,7 @@ use std::io::{self, Write};
 const ROOM: usize = 1024;
 
 /// Hands each line on when it ends, and of a longer one each piece of so many bytes. What is left of a line that doesn't end is lost.
+/// `LineWriter` writes again, as it is dropped, what a write that failed has left; this writes nothing behind such a write.
 #[derive(Drop)]
 pub struct ByLine<W: Drop> {
     to: W,

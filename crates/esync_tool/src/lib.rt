@@ -16,6 +16,7 @@ mod judged;
 mod language;
 mod source;
 mod stopped;
+mod svg;
 mod tasks;
 
 /// What the tool reads and writes.

@@ -5,15 +5,17 @@ use crate::inputs::{hint, read_all, reasoned, status, text_of, with_reason};
 use crate::judged::{check, check_as_json, unjudged_as_json};
 use crate::source::Keeping;
 use crate::stopped::Stopped;
+use crate::svg::draw;
 use clap::ArgMatches;
 use esync_ends::try_ends;
 use esync_forms::form::{Door, Doors};
-use esync_script::{play_buffered, play_script};
+use esync_script::{play_buffered, play_script, play_text};
 use esync_shared::compare::compare;
 use esync_shared::play::play;
 use esync_words::beside::Beside;
 use esync_words::diagram::{Diagram, Pages};
 use esync_words::explain::Explained;
+use esync_words::fault::Fault;
 use esync_words::play::{Replies, Telling};
 use std::alloc::Global;
 use std::fmt::{self, Display, Formatter};
@@ -43,6 +45,9 @@ where
         "draw" if matches.get_str("format") == Some("markdown") => {
             tell(rt, alloc, &mut Pages {}, file, streams)
         }
+        "draw" if matches.get_str("format") == Some("svg") => {
+            with_files(rt, alloc, Work::Draw, matches, streams)
+        }
         "draw" => tell(rt, alloc, &mut Diagram {}, file, streams),
         "explain" => explain(rt, alloc, file, streams),
         "check" if matches.get_flag("json") => {
@@ -52,7 +57,10 @@ where
             with_files(rt, alloc, Work::CheckWithReasons, matches, streams)
         }
         "check" => with_files(rt, alloc, Work::Check, matches, streams),
-        "ends" => with_files(rt, alloc, Work::Ends, matches, streams),
+        "ends" => {
+            let limit = matches.get_one::<u64>("limit").unwrap_or(u64::MAX);
+            with_files(rt, alloc, Work::Ends(limit), matches, streams)
+        }
         _ if matches.get_flag("compare") => with_files(rt, alloc, Work::Compare, matches, streams),
         _ => with_files(rt, alloc, Work::Shared, matches, streams),
     }
@@ -173,7 +181,9 @@ enum Work {
     Check,
     CheckWithReasons,
     CheckAsJson,
-    Ends,
+    Draw,
+    /// At most so many ends are tried.
+    Ends(u64),
     Shared,
     Compare,
 }
@@ -302,7 +312,8 @@ where
         Work::Check => check(alloc, text, false, told),
         Work::CheckWithReasons => check(alloc, text, true, told),
         Work::CheckAsJson => check_as_json(alloc, name, text, told),
-        Work::Ends => try_ends(alloc, text, told).map_err(Stopped::from),
+        Work::Draw => drawn(alloc, text, told),
+        Work::Ends(limit) => try_ends(alloc, text, limit, told).map_err(Stopped::from),
         Work::Shared => played(rt, alloc, text, told),
         Work::Compare => compared(rt, alloc, text, told),
     };
@@ -329,6 +340,22 @@ fn write_told<O: Write>(
     }
     output.write_all(told)?;
     output.flush()
+}
+
+// Plays a script, and draws what was played of it. Where there is no memory for all of that, nothing is drawn.
+fn drawn(alloc: Global, text: &str, output: &mut Vec<u8>) -> Result<bool, Stopped> {
+    let mut replies = Vec::new(alloc);
+    let played = play_text(alloc, &mut Replies {}, text, &mut replies);
+    if matches!(played, Err(Fault::NotACommand(1) | Fault::OutOfMemory)) {
+        played?;
+    }
+    let outcome = draw(alloc, text, str::from_utf8(&replies).unwrap_or(""), output);
+    if outcome.is_err() {
+        output.clear();
+    }
+    outcome?;
+    played?;
+    Ok(true)
 }
 
 // Plays a script over a shared form, and writes its replies.

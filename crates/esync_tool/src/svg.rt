@@ -1,0 +1,460 @@
+//! A script as a picture that a browser shows, in SVG.
+//!
+//! The picture is a function of the lines of a script and of the replies that `esync run` prints of them. There is a lane for the
+//! primitive, for who calls, and for each task, by its waker. A row has the number of its line, the command above the arrow from
+//! who gives it, and the answer below. A bar in a task's lane stands from the poll that was answered Pending to the wake, and an
+//! arrow for each wake. A page has 50 lines, and bars go on from one to the next.
+use crate::stopped::Stopped;
+use std::alloc::{AllocError, Global};
+use std::io::{self, Write};
+
+// How many lines a page has.
+const PAGE: usize = 50;
+
+// How much of a text is shown, in characters.
+const SHOWN: usize = 44;
+
+// The heights of a page's head, of a row and of a wake in it, and of what stands below a page.
+const HEAD: u64 = 64;
+
+const ROW: u64 = 38;
+
+const WAKE: u64 = 16;
+
+const FOOT: u64 = 24;
+
+// How far below its arrow a row's wakes begin.
+const ANSWER: u64 = 10;
+
+// Where the primitive's lane is, where the first of the others, and how far they are from one another.
+const OBJECT: u64 = 56;
+
+const LANES: u64 = 430;
+
+const BETWEEN: u64 = 100;
+
+const STYLE: &str = "\
+text { font: 13px ui-monospace, monospace; fill: #1a1a1a }
+.number, .from { fill: #767676 }
+.answer { fill: #1d4f91 }
+.lane { stroke: #b5b5b5; stroke-dasharray: 3 4 }
+.object { stroke: #1a1a1a; stroke-width: 3 }
+.name { fill: #f2f2f2; stroke: #8c8c8c }
+.bar { fill: #f0b95a; stroke: #8a5a00 }
+.arrow { stroke: #4a4a4a }
+.wake { stroke: #1b7a3d; stroke-width: 2 }
+";
+
+/// A line that was played: its text, and what was printed of it.
+#[derive(Clone, Copy)]
+struct Event<'a> {
+    line: &'a str,
+    answer: &'a str,
+    // The wakers that it handed out, with a space between two, or `-`.
+    wakers: &'a str,
+}
+
+/// Who gives the command of a line.
+#[derive(Clone, Copy, PartialEq)]
+enum Giver {
+    Task { request: u64, waker: u64 },
+    Dropper { request: u64 },
+    Caller,
+}
+
+impl Giver {
+    fn of(line: &str) -> Giver {
+        let mut words = line.split(' ');
+        let name = words.next();
+        let request = words.next().and_then(number);
+        let waker = words.next().and_then(number);
+        match (name, request, waker) {
+            (Some("poll"), Some(request), Some(waker)) => Giver::Task { request, waker },
+            (Some("end"), Some(request), _) => Giver::Dropper { request },
+            _ => Giver::Caller,
+        }
+    }
+
+    fn lane(self) -> Lane {
+        match self {
+            Giver::Task { waker, .. } => Lane::Task(waker),
+            Giver::Dropper { .. } | Giver::Caller => Lane::Caller,
+        }
+    }
+}
+
+fn number(word: &str) -> Option<u64> {
+    word.parse::<u64>().ok()
+}
+
+#[derive(Clone, Copy, PartialEq)]
+enum Lane {
+    Caller,
+    Task(u64),
+}
+
+/// A request that waits, and from where its bar is drawn.
+#[derive(Clone, Copy)]
+struct Waiting {
+    request: u64,
+    waker: u64,
+    from: u64,
+}
+
+/// What ends a wait: the request was polled or dropped, or the task was woken.
+#[derive(Clone, Copy)]
+enum Over {
+    Request(u64),
+    Waker(u64),
+}
+
+impl Over {
+    fn ends(self, waiting: &Waiting) -> bool {
+        match self {
+            Over::Request(request) => waiting.request == request,
+            Over::Waker(waker) => waiting.waker == waker,
+        }
+    }
+}
+
+/// A bar in the lane of a task.
+#[derive(Clone, Copy)]
+struct Bar {
+    waker: u64,
+    from: u64,
+    to: u64,
+}
+
+/// Draws a script that was answered so, or its first lines where there are fewer replies.
+pub fn draw<W: Write>(
+    alloc: Global,
+    script: &str,
+    replies: &str,
+    output: &mut W,
+) -> Result<(), Stopped> {
+    let events = events_of(alloc, script, replies)?;
+    let name = script.lines().next().unwrap_or("");
+    let mut pages = Pages {
+        alloc,
+        body: Vec::new(alloc),
+        waits: Vec::new(alloc),
+        line: 2,
+        top: 0,
+        width: LANES,
+    };
+    if events.is_empty() {
+        pages.page(name, &[])?;
+    }
+    for page in events.chunks(PAGE) {
+        pages.page(name, page)?;
+    }
+    let (width, height) = (pages.width, pages.top);
+    writeln!(
+        output,
+        "<svg xmlns=\"http://www.w3.org/2000/svg\" width=\"{width}\" height=\"{height}\" viewBox=\"0 0 {width} {height}\">"
+    )?;
+    write!(output, "<title>")?;
+    escaped(name, usize::MAX, output)?;
+    writeln!(output, "</title>")?;
+    writeln!(output, "<style>\n{STYLE}</style>")?;
+    writeln!(
+        output,
+        "<marker id=\"head\" viewBox=\"0 0 8 8\" refX=\"8\" refY=\"4\" markerWidth=\"8\" markerHeight=\"8\" orient=\"auto-start-reverse\"><path d=\"M0 0L8 4L0 8z\" fill=\"context-stroke\"/></marker>"
+    )?;
+    writeln!(
+        output,
+        "<rect width=\"100%\" height=\"100%\" fill=\"#ffffff\"/>"
+    )?;
+    output.write_all(&pages.body)?;
+    writeln!(output, "</svg>")?;
+    Ok(())
+}
+
+fn events_of<'a>(
+    alloc: Global,
+    script: &'a str,
+    replies: &'a str,
+) -> Result<Vec<Event<'a>>, AllocError> {
+    let mut events = Vec::new(alloc);
+    for (line, reply) in script.lines().skip(1).zip(replies.lines()) {
+        let (answer, wakers) = reply.split_once(" | ").unwrap_or((reply, "-"));
+        events.push(Event {
+            line,
+            answer,
+            wakers,
+        })?;
+    }
+    Ok(events)
+}
+
+/// The pages that were drawn, and what goes on to the next.
+#[derive(Drop)]
+struct Pages {
+    alloc: Global,
+    body: Vec<u8>,
+    waits: Vec<Waiting>,
+    // The number of the next line.
+    line: u64,
+    // Where the next page begins.
+    top: u64,
+    width: u64,
+}
+
+impl Pages {
+    // Draws a page of these lines.
+    fn page(&mut self, name: &str, events: &[Event<'_>]) -> Result<(), Stopped> {
+        let lanes = self.lanes(events)?;
+        let first = self.top.saturating_add(HEAD);
+        let last = events
+            .iter()
+            .fold(first, |y, event| y.saturating_add(height_of(event)));
+        let bars = self.bars(events, first, last)?;
+        let count = lanes.len() as u64;
+        let width = LANES.saturating_add(count.saturating_mul(BETWEEN));
+        self.width = self.width.max(width);
+        self.head(name, &lanes, last)?;
+        for bar in bars.iter() {
+            let x = x_of(&lanes, Lane::Task(bar.waker)).saturating_sub(5);
+            let height = bar.to.saturating_sub(bar.from);
+            writeln!(
+                self.body,
+                "<rect class=\"bar\" x=\"{x}\" y=\"{}\" width=\"10\" height=\"{height}\"/>",
+                bar.from
+            )?;
+        }
+        let mut y = first;
+        for event in events {
+            self.row(event, &lanes, y)?;
+            y = y.saturating_add(height_of(event));
+            self.line = self.line.saturating_add(1);
+        }
+        self.top = last.saturating_add(FOOT);
+        Ok(())
+    }
+
+    // The lanes of a page: of who already waits, and of who is there in its lines.
+    fn lanes(&self, events: &[Event<'_>]) -> Result<Vec<Lane>, AllocError> {
+        let mut lanes = Vec::new(self.alloc);
+        for waiting in self.waits.iter() {
+            add(&mut lanes, Lane::Task(waiting.waker))?;
+        }
+        for event in events {
+            add(&mut lanes, Giver::of(event.line).lane())?;
+            for waker in event.wakers.split(' ') {
+                if let Some(waker) = number(waker) {
+                    add(&mut lanes, Lane::Task(waker))?;
+                }
+            }
+        }
+        Ok(lanes)
+    }
+
+    // The bars of a page whose rows stand between these heights. Who still waits then is kept for the next.
+    fn bars(
+        &mut self,
+        events: &[Event<'_>],
+        first: u64,
+        last: u64,
+    ) -> Result<Vec<Bar>, AllocError> {
+        let mut bars = Vec::new(self.alloc);
+        let mut y = first;
+        for waiting in self.waits.iter_mut() {
+            waiting.from = first.saturating_sub(ROW / 2);
+        }
+        for event in events {
+            self.wait(event, y, &mut bars)?;
+            y = y.saturating_add(height_of(event));
+        }
+        for waiting in self.waits.iter() {
+            bars.push(Bar {
+                waker: waiting.waker,
+                from: waiting.from,
+                to: last,
+            })?;
+        }
+        Ok(bars)
+    }
+
+    // Notes who waits after a line, and whose wait it ends.
+    fn wait(&mut self, event: &Event<'_>, y: u64, bars: &mut Vec<Bar>) -> Result<(), AllocError> {
+        let is_there = !event.answer.starts_with("Err(NoSuch)");
+        match Giver::of(event.line) {
+            Giver::Task { request, waker } if is_there => {
+                self.end(y, bars, Over::Request(request))?;
+                if event.answer == "Pending" {
+                    self.waits.push(Waiting {
+                        request,
+                        waker,
+                        from: y,
+                    })?;
+                }
+            }
+            Giver::Dropper { request } if is_there => {
+                self.end(y, bars, Over::Request(request))?;
+            }
+            _ => {}
+        }
+        let mut at = y.saturating_add(ANSWER);
+        for waker in event.wakers.split(' ') {
+            if let Some(waker) = number(waker) {
+                at = at.saturating_add(WAKE);
+                self.end(at, bars, Over::Waker(waker))?;
+            }
+        }
+        Ok(())
+    }
+
+    // Ends the waits that this ends.
+    fn end(&mut self, y: u64, bars: &mut Vec<Bar>, over: Over) -> Result<(), AllocError> {
+        let mut left = Vec::new(self.alloc);
+        for waiting in self.waits.iter() {
+            if over.ends(waiting) {
+                bars.push(Bar {
+                    waker: waiting.waker,
+                    from: waiting.from,
+                    to: y,
+                })?;
+            } else {
+                left.push(*waiting)?;
+            }
+        }
+        self.waits = left;
+        Ok(())
+    }
+
+    // Draws the lanes, down to this height, and their names.
+    fn head(&mut self, name: &str, lanes: &[Lane], last: u64) -> Result<(), Stopped> {
+        let top = self.top;
+        if top > 0 {
+            let y = top.saturating_sub(4);
+            writeln!(
+                self.body,
+                "<text class=\"from\" x=\"8\" y=\"{y}\">from line {}</text>",
+                self.line
+            )?;
+        }
+        let (below, middle) = (top.saturating_add(36), top.saturating_add(25));
+        writeln!(
+            self.body,
+            "<path class=\"object\" d=\"M{OBJECT} {below}V{last}\"/>"
+        )?;
+        let y = top.saturating_add(8);
+        let wide = (name.len().min(SHOWN) as u64)
+            .saturating_mul(8)
+            .saturating_add(16);
+        writeln!(
+            self.body,
+            "<rect class=\"name\" x=\"8\" y=\"{y}\" width=\"{}\" height=\"28\" rx=\"4\"/>",
+            wide.max(96)
+        )?;
+        write!(self.body, "<text x=\"16\" y=\"{middle}\">")?;
+        escaped(name, SHOWN, &mut self.body)?;
+        writeln!(self.body, "</text>")?;
+        for lane in lanes {
+            let x = x_of(lanes, *lane);
+            let left = x.saturating_sub(44);
+            writeln!(
+                self.body,
+                "<path class=\"lane\" d=\"M{x} {below}V{last}\"/><rect class=\"name\" x=\"{left}\" y=\"{y}\" width=\"88\" height=\"28\" rx=\"4\"/>"
+            )?;
+            write!(
+                self.body,
+                "<text x=\"{x}\" y=\"{middle}\" text-anchor=\"middle\">"
+            )?;
+            match lane {
+                Lane::Caller => write!(self.body, "calls")?,
+                Lane::Task(waker) => write!(self.body, "task {waker}")?,
+            }
+            writeln!(self.body, "</text>")?;
+        }
+        Ok(())
+    }
+
+    // Draws a line at this height.
+    fn row(&mut self, event: &Event<'_>, lanes: &[Lane], y: u64) -> Result<(), Stopped> {
+        let (above, below) = (y.saturating_sub(5), y.saturating_add(14));
+        let x = x_of(lanes, Giver::of(event.line).lane());
+        let text = OBJECT.saturating_add(12);
+        writeln!(
+            self.body,
+            "<text class=\"number\" x=\"44\" y=\"{above}\" text-anchor=\"end\">{}</text>",
+            self.line
+        )?;
+        write!(self.body, "<text x=\"{text}\" y=\"{above}\">")?;
+        told(event.line, &mut self.body)?;
+        write!(
+            self.body,
+            "</text><text class=\"answer\" x=\"{text}\" y=\"{below}\">"
+        )?;
+        told(event.answer, &mut self.body)?;
+        writeln!(self.body, "</text>")?;
+        writeln!(
+            self.body,
+            "<path class=\"arrow\" d=\"M{x} {y}H{}\" marker-end=\"url(#head)\"/>",
+            OBJECT.saturating_add(3)
+        )?;
+        let mut at = y.saturating_add(ANSWER);
+        for waker in event.wakers.split(' ') {
+            if let Some(waker) = number(waker) {
+                at = at.saturating_add(WAKE);
+                let to = x_of(lanes, Lane::Task(waker)).saturating_sub(6);
+                writeln!(
+                    self.body,
+                    "<path class=\"wake\" d=\"M{} {at}H{to}\" marker-end=\"url(#head)\"/>",
+                    LANES.saturating_sub(120)
+                )?;
+                writeln!(
+                    self.body,
+                    "<text x=\"{}\" y=\"{}\" text-anchor=\"end\">wakes {waker}</text>",
+                    LANES.saturating_sub(126),
+                    at.saturating_add(4)
+                )?;
+            }
+        }
+        Ok(())
+    }
+}
+
+// How high a row is.
+fn height_of(event: &Event<'_>) -> u64 {
+    let count = event.wakers.split(' ').filter_map(number).count() as u64;
+    ROW.saturating_add(count.saturating_mul(WAKE))
+}
+
+fn add(lanes: &mut Vec<Lane>, lane: Lane) -> Result<(), AllocError> {
+    if !lanes.contains(&lane) {
+        lanes.push(lane)?;
+    }
+    Ok(())
+}
+
+fn x_of(lanes: &[Lane], lane: Lane) -> u64 {
+    let place = lanes.iter().position(|there| *there == lane).unwrap_or(0) as u64;
+    LANES.saturating_add(place.saturating_mul(BETWEEN))
+}
+
+// Writes a text, cut where it is long. All of it is shown where the pointer rests.
+fn told<W: Write>(text: &str, output: &mut W) -> io::Result<()> {
+    if text.len() > SHOWN {
+        write!(output, "<title>")?;
+        escaped(text, usize::MAX, output)?;
+        write!(output, "</title>")?;
+    }
+    escaped(text, SHOWN, output)
+}
+
+// Writes the first characters of a text.
+fn escaped<W: Write>(text: &str, most: usize, output: &mut W) -> io::Result<()> {
+    for (place, character) in text.chars().enumerate() {
+        if place >= most {
+            return write!(output, "…");
+        }
+        match character {
+            '<' => write!(output, "&lt;")?,
+            '>' => write!(output, "&gt;")?,
+            '&' => write!(output, "&amp;")?,
+            _ => write!(output, "{character}")?,
+        }
+    }
+    Ok(())
+}
