@@ -65,7 +65,7 @@ pub fn ends<R: Read + Drop, W: Write + Drop, E: Write + Drop>(
     ends_by(alloc, Reaches {}, input, output, errors)
 }
 
-/// The same where the wakers are delivered so.
+/// Tries what `ends` tries, of tasks that this delivery tells of their wakers.
 pub fn ends_by<D: Delivery, R: Read + Drop, W: Write + Drop, E: Write + Drop>(
     alloc: Global,
     delivery: D,

@@ -1,9 +1,7 @@
 //! Where the requests of a script stand.
 use crate::Delivery;
 use esync_machine::primitive::{Answer, Command};
-
-// How many requests a script has at a time.
-const REQS: usize = esync_words::vocabulary::REQS;
+use esync_words::vocabulary::REQS;
 
 // Where a request stands.
 #[derive(Clone, Copy, Debug, PartialEq, Eq)]
@@ -61,8 +59,8 @@ impl Standings {
                 };
                 self.put(*r, waits);
             }
-            (Command::Poll(r, _), Answer::Done | Answer::Gives(_)) => self.put(*r, Standing::Free),
-            (Command::End(r), Answer::Done) => self.put(*r, Standing::Free),
+            (Command::Poll(r, _), Answer::Done | Answer::Gives(_))
+            | (Command::End(r), Answer::Done) => self.put(*r, Standing::Free),
             _ => {}
         }
         for standing in self.places.iter_mut() {

@@ -174,8 +174,8 @@ passes below value = nat_lt value below.limit
 abbrev pub Closes : List ℕ → Option (List ℕ) → Option (List ℕ) → Result (Unit {0}) Fault → Result (Unit {0}) Fault → Type 0
 Closes foot before after played outcome = IsJudged outcome → (outcome ≡ played) × Appends before after foot
 
--- How it is gone through behind line n, if it is gone through so: the machine is the named primitive's, which begins as that line
--- says, without requests and with no waker registered. A step hands out so many wakers at most.
+-- What plays says of the lines behind line n and of the machine of the named primitive, which begins as line 1 says, without requests
+-- and with no waker registered. A step hands out so many wakers at most.
 module _ (eq : ℕ → ℕ → Bool) (plays : (Q C A Reply : Type 0) (M : Meaning (Command Q ℕ C) Reply ℕ) → (List ℕ → Option (Command Q ℕ C)) → (A → List ℕ) → (Reply → Answer A) → (Reply → List ℕ) → M.Object → M.Registered → ℕ → Option (List ℕ) → Option (List ℕ) → Option (List ℕ) → Result (Unit {0}) Fault → Type 0) where
   abbrev pub PlaysAs : {Ask Held C A : Type 0} (most : ℕ) (R : Rules Ask Held C A) (T : Wakings R.Core Held C A ℕ) → (List ℕ → List (List ℕ) → Option Ask) → (List ℕ → List (List ℕ) → Option C) → (A → List ℕ) → R.Core → T.Registered → ℕ → Option (List ℕ) → Option (List ℕ) → Option (List ℕ) → Result (Unit {0}) Fault → Type 0
   PlaysAs {Ask = Ask} {C = C} {A = A} most R T asks calls text core registered n left before after outcome =

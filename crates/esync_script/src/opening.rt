@@ -410,8 +410,8 @@ fn serve_pipe<P: Player<R, W>, R: Read + Drop, W: Write>(
     )
 }
 
-// A script over this pub-sub channel, in which nobody is, and whose first message has this number. Its log is any, since the checker
-// can't hold the laws of a log of a number of messages against one another.
+// A script over this pub-sub channel, in which nobody is, and whose first message has this number. The log is a type parameter: of a
+// log of `N` messages the checker meets its limit of steps at the call.
 fn serve_log<L: LogStore<Message = u32> + Kept + Debug, P: Player<R, W>, R: Read + Drop, W: Write>(
     player: &mut P,
     machine: Requests<Events<L, Wakes<u64, 4>, Wakes<u64, 4>, REQS>, REQS, 4>,

@@ -28,7 +28,7 @@ impl Stopped {
         Stopped::Unopened(error)
     }
 
-    /// The same of what writes to memory alone: a write that failed has none.
+    /// Why an input is not gone through, where all is written to memory: a write that failed had none.
     pub fn of_memory(self) -> Stopped {
         match self {
             Stopped::Fault(Fault::InputOutput) => Stopped::Fault(Fault::OutOfMemory),

@@ -2,8 +2,8 @@
 //!
 //! The picture is a function of the lines of a script and of the replies that `esync run` prints of them. There is a lane for the
 //! primitive, for who calls, and for each task, by its waker. A row has the number of its line, the command above the arrow from
-//! who gives it, and the answer below. A bar in a task's lane stands from the poll that was answered Pending to the wake, and an
-//! arrow for each wake. A page has 50 lines, and bars go on from one to the next.
+//! who gives it, and the answer below. Each wake is an arrow. A bar in a task's lane stands from the poll that was answered Pending
+//! to the wake, or to the next poll or the end of that request. A page has 50 lines, and bars go on from one to the next.
 use crate::stopped::Stopped;
 use std::alloc::{AllocError, Global};
 use std::io::{self, Write};
@@ -277,9 +277,8 @@ impl Pages {
 
     // Notes who waits after a line, and whose wait it ends.
     fn wait(&mut self, event: &Event<'_>, y: u64, bars: &mut Vec<Bar>) -> Result<(), AllocError> {
-        let is_there = !event.answer.starts_with("Err(NoSuch)");
         match Giver::of(event.line) {
-            Giver::Task { request, waker } if is_there => {
+            Giver::Task { request, waker } => {
                 self.end(y, bars, Over::Request(request))?;
                 if event.answer == "Pending" {
                     self.waits.push(Waiting {
@@ -289,10 +288,8 @@ impl Pages {
                     })?;
                 }
             }
-            Giver::Dropper { request } if is_there => {
-                self.end(y, bars, Over::Request(request))?;
-            }
-            _ => {}
+            Giver::Dropper { request } => self.end(y, bars, Over::Request(request))?,
+            Giver::Caller => {}
         }
         let mut at = y.saturating_add(ANSWER);
         for waker in event.wakers.split(' ') {
