@@ -2,11 +2,11 @@
 use std::path::Path;
 
 fn main() {
-    let library = Path::new(env!("CARGO_MANIFEST_DIR")).join("../crates/esync_bench/out");
+    let library = Path::new(env!("CARGO_MANIFEST_DIR")).join("../crates/bench_states/out");
     println!("cargo:rustc-link-search=native={}", library.display());
-    println!("cargo:rustc-link-lib=static=esync_bench");
+    println!("cargo:rustc-link-lib=static=bench_states");
     println!(
         "cargo:rerun-if-changed={}",
-        library.join("libesync_bench.a").display()
+        library.join("libbench_states.a").display()
     );
 }

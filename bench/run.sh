@@ -13,6 +13,6 @@ if [ "${1-}" = --upstream ]; then
 else
     set -- -- "$@"
 fi
-(cd ../crates/esync_bench && rt lib) >&2
-(cd ../crates/esync_bench_shared && rt run -- ping_pong 1) >&2
+(cd ../crates/bench_states && rt lib) >&2
+(cd ../crates/bench_shared && rt run -- ping_pong 1) >&2
 exec cargo run --quiet --release "$@"

@@ -91,19 +91,20 @@ fn pass<T>(export: Export<T>, messages: &[T]) -> Answer {
 /// Runs the Rattle program over the shared forms: what its last pass answered, and the time of its fastest.
 pub fn run_shared(case: &str, passes: usize) -> (Answer, Duration) {
     let program = Path::new(env!("CARGO_MANIFEST_DIR"))
-        .join("../crates/esync_bench_shared/out/esync_bench_shared");
+        .join("../crates/bench_shared/out/bench_shared");
     let output = Command::new(program)
-        .args([case, &passes.to_string(), "time"])
+        .args([case, &passes.to_string()])
         .output()
         .expect("the program over the shared forms is built");
     assert!(output.status.success(), "{output:?}");
     let text = String::from_utf8(output.stdout).expect("it prints numbers");
     let numbers: Vec<u64> = text
         .split_whitespace()
+        .skip(1)
         .map(|word| word.parse().expect("it prints numbers"))
         .collect();
     let &[total, woken, nanoseconds] = numbers.as_slice() else {
-        panic!("it prints three numbers: {text}");
+        panic!("it prints the case and three numbers: {text}");
     };
     (Answer { total, woken }, Duration::from_nanos(nanoseconds))
 }

@@ -9,7 +9,7 @@
 set -eu
 registry='' upstream='' rounds=5
 debian=/usr/share/cargo/registry
-ours=../../crates/bench_threads
+ours=../../crates/bench_shared
 programs=out/build/target/release
 
 usage() {
@@ -80,5 +80,5 @@ fi
 # The versions, since those of Debian's packages are old.
 awk -F '"' '/^name/ { name = $2 } /^version/ { print name, $2 }' out/build/Cargo.lock |
     grep -E '^(tokio|async-channel|async-executor|futures-lite|embassy-sync) ' >&2
-exec $programs/bench-threads "$rounds" "ours=$ours/out/bench_threads" "tokio=$programs/time_tokio" \
+exec $programs/bench-threads "$rounds" "ours=$ours/out/bench_shared" "tokio=$programs/time_tokio" \
     "async-channel=$programs/time_async_channel" "embassy-sync=$upstream_program" "$@"

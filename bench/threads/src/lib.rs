@@ -1,7 +1,7 @@
 //! Times channels between threads and tasks that really wait, the same cases for each library.
 //!
 //! Each library is a program of its own, as ours is, which `main.rs` runs as `PROGRAM CASE COUNT`. It does so many
-//! operations of the case, and prints `CASE NANOSECONDS`, the time of one of them.
+//! operations of the case, and prints the case first, and last the nanoseconds of one of them.
 pub mod cases;
 pub mod executor;
 pub mod library;

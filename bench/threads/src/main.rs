@@ -36,7 +36,8 @@ impl Library {
             return None;
         }
         let printed = String::from_utf8(output.stdout).ok()?;
-        let (name, time) = printed.trim_end().split_once(' ')?;
+        let mut words = printed.split_whitespace();
+        let (name, time) = (words.next()?, words.last()?);
         time.parse().ok().filter(|_| name == case.name)
     }
 }

@@ -7,13 +7,14 @@ use std::io::{self, ErrorKind, IsTerminal, Write};
 use std::process::ExitCode;
 
 fn main(rt: HostRuntime) -> ExitCode {
-    let input = rt.stdin();
+    let (input, errors) = (rt.stdin(), rt.stderr());
     let streams = Streams {
         is_terminal: input.is_terminal(),
         input,
         output: rt.stdout(),
         notes: rt.stdout(),
-        errors: rt.stderr(),
+        is_watched: errors.is_terminal(),
+        errors,
     };
     match words_of(&rt) {
         Ok(words) => ExitCode::from(esync(&rt, rt.alloc(), words.as_slice(), streams)),

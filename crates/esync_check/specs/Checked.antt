@@ -4,7 +4,7 @@ use Rattle.std.proofs.Common.{nat_eq, nat_cmp}
 use Rattle.esync_priority.specs.Prio.{greater, less}
 use Rattle.esync_words.specs.declared.fault.Fault.{Fault}
 use Rattle.esync_words.specs.Fault.{message_of as fault_message}
-use Rattle.esync_words.specs.Text.{answer_text, line_text}
+use Rattle.esync_words.specs.Story.{replies_story}
 use Rattle.esync_words.specs.Played.{IsJudged}
 use Rattle.esync_script.specs.Opening.{PlaysScript}
 use Rattle.esync_check.specs.Recorded.{Records, Differs}
@@ -17,7 +17,7 @@ use Rattle.esync_check.specs.declared.Verdict.TheVariants.{Run, Another}
 -- A script is played so, and this is the text of its replies: a line each, of the answer and of exactly the wakers that are handed out.
 abbrev pub Replies : List ℕ → List ℕ → Result (Unit {0}) Fault → Type 0
 Replies script replies outcome =
-    PlaysScript nat_eq (λ A text number line giver answer wakers. line_text (answer_text text answer) wakers) (greater nat_cmp) (less nat_cmp) (λ line. []) [] (Some script) (Some []) (Some replies) outcome
+    PlaysScript nat_eq (greater nat_cmp) (less nat_cmp) replies_story (Some script) (Some []) (Some replies) outcome
 
 -- A text is the record of a run of so many commands, of the primitive that its line 1 names: its script is played to its end, and the replies are
 -- those that were recorded.

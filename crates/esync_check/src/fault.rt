@@ -1,9 +1,8 @@
 //! What ends a check before its verdict.
-ghost use Rattle.std.specs.Prelude.{◌≡◌, ◌≤◌};
 
 use esync_words::fault::Fault;
 use std::error::Error;
-use std::{fmt, io};
+use std::fmt;
 
 /// Why a recorded run wasn't judged.
 #[derive(Clone, Copy, Debug, PartialEq, Eq)]
@@ -12,19 +11,6 @@ pub enum Unchecked {
     NoReply(u64),
     /// A line is no command, a read or a write failed, or memory was refused.
     Script(Fault),
-}
-
-impl Unchecked {
-    /// The status of a check that ends so.
-    pub fn status(self) -> u8
-        ensures low { 2 ≤ result }
-        ensures high { result ≤ 4 }
-    {
-        match self {
-            Unchecked::NoReply(_) => 2,
-            Unchecked::Script(fault) => fault.status(),
-        }
-    }
 }
 
 impl fmt::Display for Unchecked {
@@ -44,22 +30,12 @@ impl fmt::Display for Unchecked {
 impl Error for Unchecked {}
 
 impl From<Fault> for Unchecked {
+    ghost use Rattle.std.specs.Prelude.{◌≡◌};
     ghost use Rattle.esync_check.specs.declared.fault.Unchecked.TheVariants.{Script};
 
     ghost from_gives = { λ fault unchecked. unchecked ≡ Script fault };
 
     fn from(fault: Fault) -> Unchecked {
         Unchecked::Script(fault)
-    }
-}
-
-impl From<io::Error> for Unchecked {
-    ghost use Rattle.esync_check.specs.declared.fault.Unchecked.TheVariants.{Script};
-    ghost use Rattle.esync_words.specs.declared.fault.Fault.TheVariants.{InputOutput};
-
-    ghost from_gives = { λ _ unchecked. unchecked ≡ Script InputOutput };
-
-    fn from(_error: io::Error) -> Unchecked {
-        Unchecked::Script(Fault::InputOutput)
     }
 }

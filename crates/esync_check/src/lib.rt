@@ -1,10 +1,10 @@
 //! Recorded runs: whether what was recorded elsewhere is a run of the object, with exactly the wakers that the table of wakes says.
 #![tactic(auto)]
 
-ghost use Rattle.std.specs.Prelude.{◌≡◌, ◌==◌, ◌≤◌, ℕ, List, true, IfOk, OnOk, IfErr, IfSome, string_bytes};
+ghost use Rattle.std.specs.Prelude.{◌≡◌, ◌==◌, IfOk, OnOk, IfErr, string_bytes};
 ghost use Rattle.std.specs.Io.KnownBytes.{Appends};
 ghost use Rattle.esync_words.specs.Lines.{first_line};
-ghost use Rattle.esync_check.specs.Checked.{Finds, IsRun, Judges, run_text, verdict_text, difference_text, heading_text, recorded_text, given_text};
+ghost use Rattle.esync_check.specs.Checked.{Finds, Judges, run_text, verdict_text, difference_text, heading_text, recorded_text, given_text};
 
 use crate::difference::{Difference, first_difference};
 use crate::fault::Unchecked;
@@ -13,7 +13,7 @@ use esync_script::play_text;
 use esync_words::fault::Fault;
 use esync_words::play::Replies;
 use std::alloc::Global;
-use std::io::{self, ErrorKind, Read, Write};
+use std::io::{self, Write};
 
 pub mod difference;
 pub mod fault;
@@ -40,12 +40,7 @@ pub fn check_script(alloc: Global, text: &str) -> Result<Verdict, Unchecked>
 {
     let recording = Recording::read(alloc, text)?;
     let mut given = Vec::new(alloc);
-    let outcome = play_text(
-        alloc,
-        &mut Replies {},
-        recording.script.as_str(),
-        &mut given,
-    );
+    let outcome = play_text(&mut Replies {}, recording.script.as_str(), &mut given);
     judge(alloc, &recording, &given, outcome)
 }
 
@@ -77,84 +72,6 @@ fn judge(
         Some(difference) => Ok(Verdict::Another(difference)),
         None => Err(unchecked),
     }
-}
-
-/// Reads a recorded run, writes what it is found to be, and returns the status that tells so.
-///
-/// | Status | The recorded run | Written |
-/// |---|---|---|
-/// | 0 | is a run of the primitive | `12 commands: a run of channel 2` |
-/// | 1 | is none | the number of the first line whose reply is another, that reply, and the one that the primitive gives |
-/// | 2 | has a line K that is no command, or has no reply | to `errors`, `line K: not a command` or `line K: no reply` |
-/// | 3 | can't be read, or the output not be written | to `errors`, `input or output failed` |
-/// | 4 | takes more memory than there is | to `errors`, `out of memory` |
-///
-/// The input is read to its end first. Whether `errors` can be written changes no status.
-pub fn check<R: Read + Drop, W: Write + Drop, E: Write + Drop>(
-    alloc: Global,
-    input: R,
-    mut output: W,
-    mut errors: E,
-) -> u8
-    ensures most { result ≤ 4 }
-    ensures run { result ≡ 0 → (text : List ℕ) × IfSome (R.remaining input) (λ all. text ≡ all) × (commands : ℕ) × IsRun text commands }
-{
-    match check_input(alloc, input, &mut output) {
-        Ok(true) => 0,
-        Ok(false) => 1,
-        Err(unchecked) => {
-            let _ = report(&mut errors, &unchecked);
-            unchecked.status()
-        }
-    }
-}
-
-fn report<E: Write>(errors: &mut E, unchecked: &Unchecked) -> io::Result<()> {
-    writeln!(errors, "{unchecked}")?;
-    errors.flush()
-}
-
-// Checks the input, and writes what it is found to be: whether it is a run.
-fn check_input<R: Read + Drop, W: Write>(
-    alloc: Global,
-    input: R,
-    output: &mut W,
-) -> Result<bool, Unchecked>
-    ensures { IfOk result (λ is_run. is_run ≡ true → (text : List ℕ) × IfSome (R.remaining input) (λ all. text ≡ all) × (commands : ℕ) × IsRun text commands) }
-{
-    let text = read_text(alloc, input)?;
-    check_text(alloc, text.as_str(), output)
-}
-
-// The text of the input.
-fn read_text<R: Read + Drop>(alloc: Global, input: R) -> Result<String, Unchecked>
-    ensures { IfOk result (λ text. IfSome (R.remaining input) (λ all. string_bytes text ≡ all)) }
-{
-    match io::read_to_string(alloc, input) {
-        Ok(text) => Ok(text),
-        Err(error) => Err(unread(&error)),
-    }
-}
-
-// Writes what the text is found to be: whether it is a run.
-fn check_text<W: Write>(alloc: Global, text: &str, output: &mut W) -> Result<bool, Unchecked>
-    ensures { IfOk result (λ is_run. is_run ≡ true → (commands : ℕ) × IsRun text.now commands) }
-{
-    let verdict = check_script(alloc, text)?;
-    print_verdict(text, &verdict, output)?;
-    output.flush()?;
-    match verdict {
-        Verdict::Run(_) => Ok(true),
-        Verdict::Another(_) => Ok(false),
-    }
-}
-
-// Why the input wasn't read to its end.
-fn unread(error: &io::Error) -> Unchecked {
-    if error.kind() == ErrorKind::OutOfMemory {
-        return Unchecked::Script(Fault::OutOfMemory);
-    }
-    Unchecked::Script(Fault::InputOutput)
 }
 
 /// Writes what the text is found to be.

@@ -1,24 +1,24 @@
 //! Ends at every point: whether a script that drops a request sooner still tells everybody whose turn comes.
 #![tactic(auto)]
 
-ghost use Rattle.std.specs.Prelude.{◌≤◌};
-
 use crate::played::Played;
 use crate::standing::Standing;
 use esync_base::waitqueue::Registered;
 use esync_machine::primitive::Command;
 use esync_machine::run::Machine;
 use esync_script::opening::play_with;
-use esync_script::player::{Copied, Player};
+use esync_script::player::Player;
+use esync_words::copied::Copied;
 use esync_words::fault::Fault;
-use esync_words::lines::Lines;
+use esync_words::lines::{ByteSource, Lines};
 use esync_words::play::Parts;
 use esync_words::vocabulary::{REQS, Vocabulary, read_command};
 use esync_words::words::Words;
 use std::alloc::{AllocError, Global};
 use std::fmt::Debug;
-use std::io::{self, ErrorKind, Read, Write};
+use std::io::{Read, Write};
 
+pub mod gauge;
 mod played;
 mod standing;
 
@@ -38,103 +38,55 @@ impl Delivery for Reaches {
     }
 }
 
-/// Reads a script, and tries what would be if one of its requests was ended sooner: each request, after each line.
+/// Hears how far a trial has come.
+pub trait Progress: Drop {
+    /// The ends after this line, of so many lines, were tried, and so many ends in all.
+    fn hear(&mut self, line: u64, lines: u64, ends: u64);
+
+    /// The trial is over.
+    fn end(&mut self);
+}
+
+/// Nobody hears.
+#[derive(Drop)]
+pub struct Unheard {}
+
+impl Progress for Unheard {
+    fn hear(&mut self, _line: u64, _lines: u64, _ends: u64) {}
+
+    fn end(&mut self) {}
+}
+
+/// Tries what would be if one of the requests of a script was ended sooner, each request after each line: whether each request that
+/// waits then was told.
 ///
 /// The lines behind such an end are played too. Then each request that waits is polled with its last waker, on a copy of the
-/// machine. One that is answered Ready has to have been told: its waker was handed out in its last poll or since. Where it
-/// wasn't, one line says so, as `after line 3, end 1: request 2 is Ready and was not told`. The last line says how many ends and
+/// machine. One that is answered Ready has to have been told: its waker reached its task in its last poll or since. Where it
+/// didn't, one line says so, as `after line 3, end 1: request 2 is Ready and was not told`. The last line says how many ends and
 /// polls were tried. One that is answered `NoSuch` doesn't count: a subscriber that leaves ends its requests.
 ///
-/// | Status | The script | Written to `errors` |
-/// |---|---|---|
-/// | 0 | tells everybody | nothing |
-/// | 1 | doesn't tell somebody | nothing |
-/// | 2 | has a line K that is no command | `line K: not a command` |
-/// | 3 | can't be read, or the output not be written | `input or output failed` |
-/// | 4 | takes more memory than there is | `out of memory` |
-///
-/// Each end plays the lines behind it, so the time grows as the square of the number of lines.
-pub fn ends<R: Read + Drop, W: Write + Drop, E: Write + Drop>(
-    alloc: Global,
-    input: R,
-    output: W,
-    errors: E,
-) -> u8
-    ensures { result ≤ 4 }
-{
-    ends_by(alloc, Reaches {}, input, output, errors)
-}
-
-/// Tries what `ends` tries, of tasks that this delivery tells of their wakers.
-pub fn ends_by<D: Delivery, R: Read + Drop, W: Write + Drop, E: Write + Drop>(
+/// It tries at most `limit` ends, those after the first lines. Where there are more, the last line says so. Each end plays the
+/// lines behind it, so the time grows as the square of the number of lines.
+pub fn try_ends<D: Delivery, P: Progress, W: Write>(
     alloc: Global,
     delivery: D,
-    input: R,
-    mut output: W,
-    mut errors: E,
-) -> u8
-    ensures { result ≤ 4 }
-{
-    match read_text(alloc, input).and_then(|text| try_script(
-        alloc,
-        delivery,
-        &text,
-        u64::MAX,
-        &mut output,
-    )) {
-        Ok(is_told) => u8::from(!is_told),
-        Err(fault) => {
-            let _ = writeln!(errors, "{fault}");
-            let _ = errors.flush();
-            fault.status()
-        }
-    }
-}
-
-/// Tries the sooner ends of a script that stands in memory, and writes what `ends` writes: whether each request was told.
-///
-/// It tries at most `limit` ends, those after the first lines. Where there are more, the last line says so.
-pub fn try_ends<W: Write>(
-    alloc: Global,
+    progress: P,
     text: &str,
     limit: u64,
     output: &mut W,
 ) -> Result<bool, Fault> {
-    try_script(alloc, Reaches {}, text, limit, output)
-}
-
-fn try_script<D: Delivery, W: Write>(
-    alloc: Global,
-    delivery: D,
-    text: &str,
-    limit: u64,
-    output: &mut W,
-) -> Result<bool, Fault> {
-    let mut lines = Lines::new(alloc, text.as_bytes())?;
+    let mut lines = Lines::new(text.as_bytes());
     let mut trial = Trial {
         alloc,
         delivery,
+        progress,
         limit,
         tried: Tried::default(),
     };
-    play_with(alloc, &mut trial, &mut lines, output)?;
+    let outcome = play_with(&mut trial, &mut lines, output);
+    trial.progress.end();
+    outcome?;
     Ok(trial.tried.untold == 0)
-}
-
-// The text of the input.
-fn read_text<R: Read + Drop>(alloc: Global, input: R) -> Result<String, Fault> {
-    match io::read_to_string(alloc, input) {
-        Ok(text) => Ok(text),
-        Err(error) => Err(unread(&error)),
-    }
-}
-
-// Why the input wasn't read to its end.
-fn unread(error: &io::Error) -> Fault {
-    if error.kind() == ErrorKind::OutOfMemory {
-        return Fault::OutOfMemory;
-    }
-    Fault::InputOutput
 }
 
 // What was tried.
@@ -152,15 +104,16 @@ struct Tried {
 
 // Goes through a script, and tries the sooner ends of its requests.
 #[derive(Drop)]
-struct Trial<D: Delivery> {
+struct Trial<D: Delivery, P: Progress> {
     alloc: Global,
     delivery: D,
+    progress: P,
     // How many ends are tried at most.
     limit: u64,
     tried: Tried,
 }
 
-impl<D: Delivery, R: Read + Drop, W: Write> Player<R, W> for Trial<D> {
+impl<D: Delivery, P: Progress, R: ByteSource, W: Write> Player<R, W> for Trial<D, P> {
     ghost plays = { λ old new Q C A Reply M says text answer wakes object registered n left before after outcome. Unit {0} };
 
     fn play<V, M>(&mut self, machine: M, lines: &mut Lines<R>, output: &mut W) -> Result<(), Fault>
@@ -171,7 +124,6 @@ impl<D: Delivery, R: Read + Drop, W: Write> Player<R, W> for Trial<D> {
         M: Machine<Command = Command<V::Ask, u64, V::Call>, Waker = u64>
             + Copied
             + Registered<Waker = u64>
-            + Debug
             + Drop,
         M::Reply: Parts<V::Heard> + Drop,
     {
@@ -201,7 +153,7 @@ fn read_commands<V, R, W>(
 ) -> Result<Vec<Command<V::Ask, u64, V::Call>>, Fault>
 where
     V: Vocabulary,
-    R: Read + Drop,
+    R: ByteSource,
     W: Write,
 {
     let mut commands = Vec::new(alloc);
@@ -223,7 +175,7 @@ fn refused(_: AllocError) -> Fault {
     Fault::OutOfMemory
 }
 
-impl<D: Delivery> Trial<D> {
+impl<D: Delivery, P: Progress> Trial<D, P> {
     // Tries each end after each line.
     fn try_all<Q, C, A, M, W>(
         &mut self,
@@ -239,6 +191,7 @@ impl<D: Delivery> Trial<D> {
         W: Write,
     {
         let mut machine = machine;
+        let lines = (commands.len() as u64).saturating_add(1);
         for (place, command) in commands.iter().enumerate() {
             machine.step(&self.delivery, command);
             let rest = commands.get(place.saturating_add(1)..).unwrap_or(&[]);
@@ -248,6 +201,7 @@ impl<D: Delivery> Trial<D> {
             if self.tried.is_cut {
                 break;
             }
+            self.progress.hear(line, lines, self.tried.ends);
         }
         Ok(())
     }

@@ -3,7 +3,7 @@ use crate::Delivery;
 use crate::standing::{Standing, Standings};
 use esync_machine::primitive::{Answer, Command};
 use esync_machine::run::Machine;
-use esync_script::player::Copied;
+use esync_words::copied::Copied;
 use esync_words::play::Parts;
 use std::alloc::AllocError;
 use std::marker::PhantomData;

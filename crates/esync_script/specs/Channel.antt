@@ -1,5 +1,5 @@
 -- The words of a channel, and the text of what it tells.
-use Rattle.std.specs.Prelude.{ℕ, List, ◌++◌, codes, decimal, Option, None, Ok, Err, if◌then◌else◌}
+use Rattle.std.specs.Prelude.{ℕ, List, ◌++◌, codes, decimal, Option, None, Ok, Err, if◌then◌else◌, [], Bool}
 use Rattle.std.specs.Option.{option_map}
 use Rattle.esync_channel.specs.declared.channel.TrySendError.TheVariants.{Full}
 use Rattle.esync_channel.specs.declared.channel.TryReceiveError.TheVariants.{Empty}
@@ -10,6 +10,10 @@ use Rattle.esync_channel.specs.declared.channel.machine.ChannelCall.TheVariants.
 use Rattle.esync_channel.specs.declared.channel.machine.ChannelHeard.{ChannelHeard}
 use Rattle.esync_channel.specs.declared.channel.machine.ChannelHeard.TheVariants.{Ready, Received, TrySent, TryReceived, Number}
 use Rattle.esync_words.specs.Words.{is_text, nothing, one}
+use Rattle.esync_base.specs.Keeping.{Keeping}
+use Rattle.esync_channel.specs.Mailbox.{Slots}
+use Rattle.esync_channel.specs.ChannelRules.{channel_rules, channel_wakings}
+use Rattle.esync_script.specs.Setting.{Setting, setting_of}
 
 abbrev pub channel_asks : List ℕ → List (List ℕ) → Option (ChannelAsk ℕ)
 channel_asks name words =
@@ -36,3 +40,11 @@ channel_text (TrySent (Err (Full message))) = codes "Err(Full(" ++ decimal messa
 channel_text (TryReceived (Ok message)) = codes "Ok(" ++ decimal message ++ codes ")"
 channel_text (TryReceived (Err Empty)) = codes "Err(Empty)"
 channel_text (Number number) = decimal number
+
+-- no waker in either slot
+abbrev pub nobody_waits : Slots ℕ
+nobody_waits = record { receivers = []; senders = [] }
+
+-- a channel or a priority channel, which keeps its messages so
+abbrev pub channel_setting : (ℕ → ℕ → Bool) → Keeping ℕ → Setting
+channel_setting eq keeping = setting_of 1 (channel_rules keeping) (channel_wakings eq keeping) channel_asks channel_calls channel_text [] nobody_waits

@@ -1,3 +1,4 @@
+pub mod Setting
 pub mod Channel
 pub mod Signal
 pub mod Semaphore

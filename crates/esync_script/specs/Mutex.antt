@@ -1,5 +1,5 @@
 -- The words of a mutex of two values, and the text of what it tells.
-use Rattle.std.specs.Prelude.{ℕ, List, ◌++◌, codes, decimal, Option, None, Ok, Err, if◌then◌else◌}
+use Rattle.std.specs.Prelude.{ℕ, List, ◌++◌, codes, decimal, Option, None, Ok, Err, if◌then◌else◌, [], false, Bool}
 use Rattle.std.specs.Option.{option_map}
 use Rattle.esync_guards.specs.declared.mutex.machine.Lock.{Lock}
 use Rattle.esync_guards.specs.declared.mutex.machine.MutexCall.{MutexCall}
@@ -7,6 +7,8 @@ use Rattle.esync_guards.specs.declared.mutex.machine.MutexCall.TheVariants.{TryL
 use Rattle.esync_guards.specs.declared.mutex.machine.MutexHeard.{MutexHeard}
 use Rattle.esync_guards.specs.declared.mutex.machine.MutexHeard.TheVariants.{Locked, Tried, Value, Part}
 use Rattle.esync_words.specs.Words.{is_text, nothing, one, two, number_and_values}
+use Rattle.esync_guards.specs.MutexRules.{Lock as LockObject, mutex_rules, mutex_wakings}
+use Rattle.esync_script.specs.Setting.{Setting, setting_of}
 
 abbrev pub a_lock : Lock
 a_lock = record {}
@@ -29,3 +31,17 @@ mutex_text (Tried (Ok _)) = codes "Ok"
 mutex_text (Tried (Err _)) = codes "Err(TryLockError)"
 mutex_text (Value v) = codes "(" ++ decimal v.0 ++ codes "," ++ decimal v.1 ++ codes ")"
 mutex_text (Part x) = codes "(" ++ decimal x ++ codes ")"
+
+-- a value of two, which nobody has locked
+abbrev pub a_free_lock : ℕ → ℕ → LockObject (ℕ × ℕ)
+a_free_lock v x = record { held = false; value = (v, x) }
+
+-- the second of two, and the two with another second
+abbrev pub second : ℕ × ℕ → ℕ
+second v = v.1
+
+abbrev pub with_second : ℕ × ℕ → ℕ → ℕ × ℕ
+with_second v x = (v.0, x)
+
+abbrev pub mutex_setting : (ℕ → ℕ → Bool) → ℕ → ℕ → Setting
+mutex_setting eq v x = setting_of 1 (mutex_rules second with_second) (mutex_wakings eq) mutex_asks mutex_calls mutex_text (a_free_lock v x) []

@@ -9,6 +9,8 @@ use Rattle.esync_cells.specs.declared.once_lock.machine.OnceHeard.{OnceHeard}
 use Rattle.esync_cells.specs.declared.once_lock.machine.OnceHeard.TheVariants.{Got, Found, HasSet, Shown, IsSet}
 use Rattle.esync_words.specs.Words.{is_text, nothing, one}
 use Rattle.esync_words.specs.Text.{option_text}
+use Rattle.esync_cells.specs.OnceRules.{once_rules, once_wakings}
+use Rattle.esync_script.specs.Setting.{Setting, setting_of}
 
 abbrev pub a_get : Get
 a_get = record {}
@@ -33,3 +35,6 @@ once_text (HasSet (Err (Set value))) = codes "Err(Set(" ++ decimal value ++ code
 once_text (Shown value) = decimal value
 once_text (IsSet true) = codes "true"
 once_text (IsSet false) = codes "false"
+
+abbrev pub once_setting : Setting
+once_setting = setting_of 1 (once_rules ℕ) (once_wakings ℕ ℕ) once_asks once_calls once_text None tt

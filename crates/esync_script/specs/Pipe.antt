@@ -1,5 +1,5 @@
 -- The words of a pipe, and the text of what it tells.
-use Rattle.std.specs.Prelude.{ℕ, List, ◌++◌, codes, decimal, Option, None, Result, Ok, Err, if◌then◌else◌}
+use Rattle.std.specs.Prelude.{ℕ, List, ◌++◌, codes, decimal, Option, None, Result, Ok, Err, if◌then◌else◌, [], Bool}
 use Rattle.std.specs.Option.{option_map}
 use Rattle.esync_pipe.specs.declared.pipe.TryReadError.{TryReadError}
 use Rattle.esync_pipe.specs.declared.pipe.TryReadError.TheVariants.{Empty}
@@ -12,6 +12,10 @@ use Rattle.esync_pipe.specs.declared.pipe.machine.PipeHeard.{PipeHeard}
 use Rattle.esync_pipe.specs.declared.pipe.machine.PipeHeard.TheVariants.{Wrote, WroteAll, HasRead, Filled, TryWrote, HasTriedRead, TryFilled, Number}
 use Rattle.esync_words.specs.Words.{is_text, nothing, one, row, and_then, below}
 use Rattle.esync_words.specs.Text.{bytes_text}
+use Rattle.esync_base.specs.Ring.{Ringed}
+use Rattle.esync_pipe.specs.PipeRules.{pipe_rules, pipe_wakings}
+use Rattle.esync_pipe.specs.Piped.{Slots as PipeSlots}
+use Rattle.esync_script.specs.Setting.{Setting, setting_of}
 
 -- how many bytes to read: at most 16
 abbrev pub a_count : List (List ℕ) → Option ℕ
@@ -55,3 +59,14 @@ pipe_text (TryWrote (Err Full)) = codes "Err(Full)"
 pipe_text (HasTriedRead tried) = tried_text tried
 pipe_text (TryFilled tried) = tried_text tried
 pipe_text (Number number) = decimal number
+
+-- no byte, and no waker in either slot
+abbrev pub an_empty_pipe : Ringed ℕ
+an_empty_pipe = record { items = []; front = 0 }
+
+abbrev pub no_slot : PipeSlots ℕ
+no_slot = record { readers = []; writers = [] }
+
+-- a pipe, of which a step hands out two wakers at most
+abbrev pub pipe_setting : (ℕ → ℕ → Bool) → ℕ → Setting
+pipe_setting eq places = setting_of 2 (pipe_rules places) (pipe_wakings eq places) pipe_asks pipe_calls pipe_text an_empty_pipe no_slot

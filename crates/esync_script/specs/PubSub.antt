@@ -1,5 +1,5 @@
 -- The words of publishers and subscribers, and the text of what these hear.
-use Rattle.std.specs.Prelude.{ℕ, List, ◌++◌, codes, decimal, Option, Some, None, Ok, Err, if◌then◌else◌}
+use Rattle.std.specs.Prelude.{ℕ, List, ◌++◌, codes, decimal, Option, Some, None, Ok, Err, if◌then◌else◌, [], Bool}
 use Rattle.std.specs.Option.{option_map}
 use Rattle.esync_pubsub.specs.declared.pubsub.Error.TheVariants.{MaximumSubscribersReached, MaximumPublishersReached}
 use Rattle.esync_log.specs.declared.log.TryPublishError.TheVariants.{Full, Exhausted}
@@ -13,6 +13,10 @@ use Rattle.esync_pubsub.specs.declared.pubsub.machine.PubSubHeard.{PubSubHeard}
 use Rattle.esync_pubsub.specs.declared.pubsub.machine.PubSubHeard.TheVariants.{Published, Read, ReadPure, Streamed, Came, TriedPublish, PublishedAtOnce, Tried, TriedPure, Unread, Number}
 use Rattle.esync_words.specs.Words.{is_text, nothing, one, two}
 use Rattle.esync_words.specs.Text.{option_text}
+use Rattle.std.proofs.Math.ListN.{replicate}
+use Rattle.esync_pubsub.specs.PubSub.{Lists}
+use Rattle.esync_pubsub.specs.PubSubRules.{Topic, pubsub_rules, pubsub_wakings}
+use Rattle.esync_script.specs.Setting.{Setting, setting_of, IsSame, NeedsNone}
 
 abbrev pub pubsub_asks : List ℕ → List (List ℕ) → Option (PubSubAsk ℕ)
 pubsub_asks name words =
@@ -63,3 +67,19 @@ pubsub_text (Tried None) = codes "None"
 pubsub_text (TriedPure found) = option_text found
 pubsub_text (Unread count) = decimal count
 pubsub_text (Number number) = decimal number
+
+-- a pub-sub channel in which nobody is, with four places for subscribers; its first message has this number
+abbrev pub a_new_topic : ℕ → Topic ℕ
+a_new_topic first = record {
+  log = record { held = []; next = first; positions = replicate 4 None };
+  subscribers = replicate 16 None;
+  publishers = replicate 16 None;
+}
+
+-- no waker in either list
+abbrev pub no_lists : Lists ℕ
+no_lists = record { subscribers = []; publishers = [] }
+
+-- a channel of places messages for four subscribers and four publishers, of which a step hands out four wakers at most
+abbrev pub pubsub_setting : (ℕ → ℕ → Bool) → ℕ → ℕ → Setting
+pubsub_setting eq places first = setting_of 4 (pubsub_rules IsSame NeedsNone places 4) (pubsub_wakings eq 4 4) pubsub_asks pubsub_calls pubsub_text (a_new_topic first) no_lists

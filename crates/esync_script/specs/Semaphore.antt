@@ -1,5 +1,5 @@
 -- The words of the semaphores, and the text of what they tell.
-use Rattle.std.specs.Prelude.{ℕ, List, ◌++◌, codes, decimal, Option, None, Result, Ok, Err, if◌then◌else◌}
+use Rattle.std.specs.Prelude.{ℕ, List, ◌++◌, codes, decimal, Option, None, Result, Ok, Err, if◌then◌else◌, [], Bool}
 use Rattle.std.specs.Option.{option_map}
 use Rattle.esync_permits.specs.declared.semaphore.Amount.{Amount}
 use Rattle.esync_permits.specs.declared.semaphore.Amount.TheVariants.{Exactly, AllFrom}
@@ -10,6 +10,9 @@ use Rattle.esync_permits.specs.declared.semaphore.machine.PermitHeard.{PermitHea
 use Rattle.esync_permits.specs.declared.semaphore.machine.PermitHeard.TheVariants.{Granted, Tried, Count}
 use Rattle.esync_words.specs.Words.{is_text, nothing, one, two}
 use Rattle.esync_words.specs.Text.{option_text}
+use Rattle.esync_permits.specs.GreedyRules.{greedy_rules, greedy_wakings}
+use Rattle.esync_permits.specs.FairRules.{PermitQueue, fair_rules, fair_wakings}
+use Rattle.esync_script.specs.Setting.{Setting, setting_of}
 
 abbrev pub permit_asks : List ℕ → List (List ℕ) → Option Amount
 permit_asks name words =
@@ -37,3 +40,13 @@ permit_text granted (Count permits) = decimal permits
 abbrev pub fair_text : Result ℕ WaitQueueFull → List ℕ
 fair_text (Ok permits) = decimal permits
 fair_text (Err e) = codes "Err(WaitQueueFull)"
+
+abbrev pub greedy_setting : (ℕ → ℕ → Bool) → ℕ → Setting
+greedy_setting eq permits = setting_of 1 greedy_rules (greedy_wakings eq) permit_asks permit_calls (permit_text decimal) permits []
+
+-- so many permits, for which nobody waits
+abbrev pub an_empty_queue : ℕ → PermitQueue
+an_empty_queue permits = record { permits = permits; queue = [] }
+
+abbrev pub fair_setting : ℕ → ℕ → Setting
+fair_setting places permits = setting_of 1 (fair_rules places) fair_wakings permit_asks permit_calls (permit_text fair_text) (an_empty_queue permits) []

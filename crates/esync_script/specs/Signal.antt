@@ -1,5 +1,5 @@
 -- The words of a signal, and the text of what it tells.
-use Rattle.std.specs.Prelude.{ℕ, List, ◌++◌, codes, decimal, true, false, Option, None, if◌then◌else◌}
+use Rattle.std.specs.Prelude.{ℕ, List, ◌++◌, codes, decimal, true, false, Option, None, if◌then◌else◌, [], Bool}
 use Rattle.std.specs.Option.{option_map}
 use Rattle.esync_cells.specs.declared.signal.machine.Wait.{Wait}
 use Rattle.esync_cells.specs.declared.signal.machine.SignalCall.{SignalCall}
@@ -8,6 +8,8 @@ use Rattle.esync_cells.specs.declared.signal.machine.SignalHeard.{SignalHeard}
 use Rattle.esync_cells.specs.declared.signal.machine.SignalHeard.TheVariants.{Waited, Taken, Signaled}
 use Rattle.esync_words.specs.Words.{is_text, nothing, one}
 use Rattle.esync_words.specs.Text.{option_text}
+use Rattle.esync_cells.specs.SignalRules.{signal_rules, signal_wakings}
+use Rattle.esync_script.specs.Setting.{Setting, setting_of}
 
 abbrev pub a_wait : Wait
 a_wait = record {}
@@ -28,3 +30,6 @@ signal_text (Waited value) = codes "Ready(" ++ decimal value ++ codes ")"
 signal_text (Taken taken) = option_text taken
 signal_text (Signaled true) = codes "true"
 signal_text (Signaled false) = codes "false"
+
+abbrev pub signal_setting : (ℕ → ℕ → Bool) → Setting
+signal_setting eq = setting_of 1 (signal_rules ℕ) (signal_wakings eq) signal_asks signal_calls signal_text None []

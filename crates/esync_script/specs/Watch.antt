@@ -1,5 +1,5 @@
 -- The words of a watch, the text of what it tells, and what its changes and tests mean.
-use Rattle.std.specs.Prelude.{◌≡◌, ℕ, ◌+◌, ◌%◌, ◌^◌, ◌==◌, Bool, true, false, List, ◌++◌, codes, decimal, Option, Some, None, Ok, Err, if◌then◌else◌, refl}
+use Rattle.std.specs.Prelude.{◌≡◌, ℕ, ◌+◌, ◌%◌, ◌^◌, ◌==◌, Bool, true, false, List, ◌++◌, codes, decimal, Option, Some, None, Ok, Err, if◌then◌else◌, refl, [], nat_lt}
 use Rattle.std.specs.Option.{option_map}
 use Rattle.esync_cells.specs.declared.watch.machine.Await.{Await}
 use Rattle.esync_cells.specs.declared.watch.machine.Reading.TheVariants.{Get, Changed, GetAnd, ChangedAnd}
@@ -11,6 +11,9 @@ use Rattle.esync_script.specs.declared.watch.Adds.{Adds}
 use Rattle.esync_script.specs.declared.watch.Below.{Below}
 use Rattle.esync_words.specs.Words.{is_text, nothing, one, two}
 use Rattle.esync_words.specs.Text.{option_text}
+use Rattle.std.proofs.Math.ListN.{replicate}
+use Rattle.esync_cells.specs.WatchRules.{Watch, watch_rules, watch_wakings}
+use Rattle.esync_script.specs.Setting.{Setting, setting_of, IsSame, NeedsNone}
 
 -- a value with this much added, modulo 2^32; where there is nothing to add it is as it was
 abbrev pub added : ℕ → Option ℕ → Option ℕ
@@ -69,3 +72,21 @@ watch_text (Found found) = option_text found
 watch_text (Version version) = decimal version
 watch_text (HasValue true) = codes "true"
 watch_text (HasValue false) = codes "false"
+
+-- a watch with this value, if there is one, and without receivers
+abbrev pub a_new_watch : Option ℕ → Watch ℕ
+a_new_watch value = record { value = value; version = 0; receivers = replicate 16 None }
+
+-- what a change of a script makes of a value, and whether it tells; and which values pass a test
+abbrev pub changed : Adds → Option ℕ → Option ℕ
+changed change value = added change.amount value
+
+abbrev pub tells_change : Adds → Option ℕ → Bool
+tells_change change value = adds change.amount value
+
+abbrev pub passes : Below → ℕ → Bool
+passes below value = nat_lt value below.limit
+
+-- a watch, of which a step hands out as many wakers at most as receivers are counted
+abbrev pub watch_setting : (ℕ → ℕ → Bool) → ℕ → Option ℕ → Setting
+watch_setting eq places value = setting_of places (watch_rules places IsSame NeedsNone changed tells_change passes) (watch_wakings eq places tells_change) watch_asks watch_calls watch_text (a_new_watch value) []

@@ -1,5 +1,5 @@
 -- The words of a zero-copy channel, and the text of what it tells.
-use Rattle.std.specs.Prelude.{ℕ, List, ◌++◌, codes, decimal, Option, Some, None, Ok, Err, if◌then◌else◌}
+use Rattle.std.specs.Prelude.{ℕ, List, ◌++◌, codes, decimal, Option, Some, None, Ok, Err, if◌then◌else◌, [], Bool}
 use Rattle.std.specs.Option.{option_map}
 use Rattle.esync_zerocopy.specs.declared.zerocopy_channel.Side.{Side}
 use Rattle.esync_zerocopy.specs.declared.zerocopy_channel.Side.TheVariants.{Sender, Receiver}
@@ -10,6 +10,11 @@ use Rattle.esync_zerocopy.specs.declared.zerocopy_channel.machine.ZeroCall.TheVa
 use Rattle.esync_zerocopy.specs.declared.zerocopy_channel.machine.ZeroHeard.{ZeroHeard}
 use Rattle.esync_zerocopy.specs.declared.zerocopy_channel.machine.ZeroHeard.TheVariants.{Lends, Tried, Cleared, Count}
 use Rattle.esync_words.specs.Words.{is_text, nothing, one}
+use Rattle.std.proofs.Math.ListN.{replicate}
+use Rattle.esync_zerocopy.specs.Slots.{Waiting, all_spare}
+use Rattle.esync_zerocopy.specs.Lending.{Slots}
+use Rattle.esync_zerocopy.specs.ZeroRules.{zero_rules, zero_wakings}
+use Rattle.esync_script.specs.Setting.{Setting, setting_of}
 
 abbrev pub zero_asks : List ℕ → List (List ℕ) → Option Side
 zero_asks name words =
@@ -44,3 +49,13 @@ zero_text (Tried None) = codes "None"
 zero_text (Cleared (Ok _)) = codes "Ok"
 zero_text (Cleared (Err _)) = codes "Err(SlotLent)"
 zero_text (Count n) = decimal n
+
+-- n slots of value 0, all spare, and no waker in either slot
+abbrev pub zero_slots : ℕ → Slots ℕ
+zero_slots n = record { sides = all_spare n; values = replicate n 0 }
+
+abbrev pub no_side_waits : Waiting ℕ
+no_side_waits = record { senders = []; receivers = [] }
+
+abbrev pub zero_setting : (ℕ → ℕ → Bool) → ℕ → Setting
+zero_setting eq places = setting_of 1 (zero_rules ℕ) (zero_wakings eq) zero_asks zero_calls zero_text (zero_slots places) no_side_waits

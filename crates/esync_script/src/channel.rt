@@ -1,7 +1,11 @@
 //! The words of a channel and of a priority channel.
-use esync_channel::channel::machine::{ChannelAsk, ChannelCall, ChannelHeard};
-use esync_channel::channel::{TryReceiveError, TrySendError};
-use esync_words::vocabulary::{Place, Vocabulary};
+use crate::scripted::Scripted;
+use esync_channel::channel::machine::{ChannelAsk, ChannelCall, ChannelHeard, ChannelRun};
+use esync_channel::channel::{Mailbox, TryReceiveError, TrySendError};
+use esync_machine::requests::Requests;
+use esync_priority::prio::Kind;
+use esync_priority::priority_channel::machine::PriorityRun;
+use esync_words::vocabulary::{Place, REQS, Vocabulary};
 use esync_words::words::Words;
 use std::io::{self, Write};
 
@@ -58,11 +62,55 @@ impl Vocabulary for ChannelWords {
         }
     }
 
+    fn questions() -> &'static [&'static str] {
+        &["len", "free", "try-receive"]
+    }
+
     fn place(number: usize) -> Option<Place> {
         match number {
             0 => Some(Place::of("the receivers", "a message came")),
             1 => Some(Place::of("the senders", "there may be room")),
             _ => None,
         }
+    }
+}
+
+/// A channel of at most `N` messages.
+pub type Listed<const N: usize> = ChannelRun<u32, u64, N, REQS, 1>;
+
+impl<const N: usize> Scripted<ChannelWords> for Listed<N> {
+    type First = ();
+
+    ghost use Rattle.std.specs.Prelude.{ℕ, ◌≤◌};
+    ghost use Rattle.esync_base.specs.Keeping.{BoundedList};
+    ghost use Rattle.esync_script.specs.Channel.{channel_setting};
+    ghost use Rattle.esync_script.specs.Setting.{BeginsAs};
+
+    ghost CanBegin = { λ first. N ≤ 8 };
+
+    ghost IsNew = { λ first m. BeginsAs (channel_setting ⟦<u64 as PartialEq>⟧.eq (BoundedList ℕ N)) (Self.semantics.object m) (Self.semantics.registrations m) };
+
+    fn begin(_first: ()) -> Self {
+        Requests::new(Mailbox::new())
+    }
+}
+
+/// A priority channel of at most `N` messages.
+pub type Prioritized<Q, const N: usize> = PriorityRun<u32, u64, Q, N, REQS, 1>;
+
+impl<Q: Kind<u32>, const N: usize> Scripted<ChannelWords> for Prioritized<Q, N> {
+    type First = ();
+
+    ghost use Rattle.std.specs.Prelude.{ℕ, ◌≤◌};
+    ghost use Rattle.esync_priority.specs.Prio.{Bag};
+    ghost use Rattle.esync_script.specs.Channel.{channel_setting};
+    ghost use Rattle.esync_script.specs.Setting.{BeginsAs};
+
+    ghost CanBegin = { λ first. N ≤ 8 };
+
+    ghost IsNew = { λ first m. BeginsAs (channel_setting ⟦<u64 as PartialEq>⟧.eq (Bag ℕ Q.above N)) (Self.semantics.object m) (Self.semantics.registrations m) };
+
+    fn begin(_first: ()) -> Self {
+        Requests::new(Mailbox::new())
     }
 }

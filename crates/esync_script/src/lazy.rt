@@ -1,6 +1,9 @@
 //! The words of a value that is made when it is first asked for.
-use esync_cells::lazy_lock::machine::{LazyCall, NoAsk};
-use esync_words::vocabulary::Vocabulary;
+use crate::scripted::Scripted;
+use esync_cells::lazy_lock::Given;
+use esync_cells::lazy_lock::machine::{LazyCall, LazyHolder, LazyRun, NoAsk};
+use esync_machine::requests::Requests;
+use esync_words::vocabulary::{REQS, Vocabulary};
 use esync_words::words::Words;
 use std::io::{self, Write};
 
@@ -37,5 +40,19 @@ impl Vocabulary for LazyWords {
 
     fn print<W: Write>(heard: &u32, output: &mut W) -> io::Result<()> {
         write!(output, "{heard}")
+    }
+}
+
+impl Scripted<LazyWords> for LazyRun<u32, Given<u32>, u64, REQS, 1> {
+    /// The value that will be made.
+    type First = u32;
+
+    ghost use Rattle.esync_script.specs.Lazy.{lazy_setting};
+    ghost use Rattle.esync_script.specs.Setting.{BeginsAs};
+
+    ghost IsNew = { λ value m. BeginsAs (lazy_setting value) (Self.semantics.object m) (Self.semantics.registrations m) };
+
+    fn begin(value: u32) -> Self {
+        Requests::new(LazyHolder::new(Given { value }))
     }
 }

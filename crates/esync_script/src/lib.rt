@@ -5,7 +5,7 @@ ghost use Rattle.std.specs.Prelude.{◌≡◌, ◌⊎◌, Result, Some, Err, IsO
 ghost use Rattle.esync_script.specs.Opening.{PlaysScript, EndsScript, status_of_outcome};
 
 use esync_priority::prio::{Kind, Max, Min};
-use esync_words::diagram::{Diagram, Pages};
+use esync_words::diagram::Diagram;
 use esync_words::explain::Explained;
 use esync_words::fault::Fault;
 use esync_words::lines::Lines;
@@ -21,6 +21,7 @@ pub mod opening;
 pub mod pipe;
 pub mod player;
 pub mod pubsub;
+pub mod scripted;
 pub mod semaphore;
 pub mod signal;
 pub mod watch;
@@ -47,7 +48,7 @@ pub fn script<R: Read + Drop, W: Write + Drop, E: Write + Drop>(
     output: W,
     errors: E,
 ) -> u8
-    ensures { (outcome : Result (Unit {0}) Fault) × (result ≡ status_of_outcome outcome) × EndsScript ⟦<u64 as PartialEq>⟧.eq ⟦<Replies as Telling>⟧.tells ⟦<Max as Kind<u32>>⟧.above ⟦<Min as Kind<u32>>⟧.above ⟦<Replies as Telling>⟧.opening ⟦<Replies as Telling>⟧.closing (R.remaining input) outcome }
+    ensures { (outcome : Result (Unit {0}) Fault) × (result ≡ status_of_outcome outcome) × EndsScript ⟦<u64 as PartialEq>⟧.eq ⟦<Max as Kind<u32>>⟧.above ⟦<Min as Kind<u32>>⟧.above ⟦<Replies as Telling>⟧.story (R.remaining input) outcome }
 {
     run(alloc, &mut Replies {}, input, output, errors)
 }
@@ -63,29 +64,14 @@ pub fn trace<R: Read + Drop, W: Write + Drop, E: Write + Drop>(
     output: W,
     errors: E,
 ) -> u8
-    ensures { (outcome : Result (Unit {0}) Fault) × (result ≡ status_of_outcome outcome) × EndsScript ⟦<u64 as PartialEq>⟧.eq ⟦<Diagram as Telling>⟧.tells ⟦<Max as Kind<u32>>⟧.above ⟦<Min as Kind<u32>>⟧.above ⟦<Diagram as Telling>⟧.opening ⟦<Diagram as Telling>⟧.closing (R.remaining input) outcome }
+    ensures { (outcome : Result (Unit {0}) Fault) × (result ≡ status_of_outcome outcome) × EndsScript ⟦<u64 as PartialEq>⟧.eq ⟦<Max as Kind<u32>>⟧.above ⟦<Min as Kind<u32>>⟧.above ⟦<Diagram as Telling>⟧.story (R.remaining input) outcome }
 {
     run(alloc, &mut Diagram {}, input, output, errors)
 }
 
-/// Reads a script, writes it as a document of Markdown, and returns the status, as `script` does.
-///
-/// The document has the diagram of `trace` in pages of at most 50 lines, each in a fence of its own: viewers of Mermaid take no
-/// more than 50,000 bytes of a diagram, and a line is drawn by at most 840.
-pub fn trace_pages<R: Read + Drop, W: Write + Drop, E: Write + Drop>(
-    alloc: Global,
-    input: R,
-    output: W,
-    errors: E,
-) -> u8
-    ensures { (outcome : Result (Unit {0}) Fault) × (result ≡ status_of_outcome outcome) × EndsScript ⟦<u64 as PartialEq>⟧.eq ⟦<Pages as Telling>⟧.tells ⟦<Max as Kind<u32>>⟧.above ⟦<Min as Kind<u32>>⟧.above ⟦<Pages as Telling>⟧.opening ⟦<Pages as Telling>⟧.closing (R.remaining input) outcome }
-{
-    run(alloc, &mut Pages {}, input, output, errors)
-}
-
 /// Reads a script, writes what its commands are answered, each behind its line and its number, and returns the status, as
 /// `script` does. To `notes` it writes, behind each answer, for each waker that was handed out where it stood and why it was
-/// told, and what the primitive holds: its object, its requests, and who is registered where.
+/// told, and then who is registered where, which requests wait or are due, and what the primitive would answer now to such calls as `len`.
 ///
 /// Neither is buffered, so `notes` may be where `output` is. No contract says what stands in the notes.
 pub fn explain<R: Read + Drop, W: Write + Drop, N: Write + Drop, E: Write + Drop>(
@@ -95,9 +81,9 @@ pub fn explain<R: Read + Drop, W: Write + Drop, N: Write + Drop, E: Write + Drop
     notes: N,
     errors: E,
 ) -> u8
-    ensures { (outcome : Result (Unit {0}) Fault) × (result ≡ status_of_outcome outcome) × EndsScript ⟦<u64 as PartialEq>⟧.eq ⟦<Explained<N> as Telling>⟧.tells ⟦<Max as Kind<u32>>⟧.above ⟦<Min as Kind<u32>>⟧.above ⟦<Explained<N> as Telling>⟧.opening ⟦<Explained<N> as Telling>⟧.closing (R.remaining input) outcome }
+    ensures { (outcome : Result (Unit {0}) Fault) × (result ≡ status_of_outcome outcome) × EndsScript ⟦<u64 as PartialEq>⟧.eq ⟦<Max as Kind<u32>>⟧.above ⟦<Min as Kind<u32>>⟧.above ⟦<Explained<N> as Telling>⟧.story (R.remaining input) outcome }
 {
-    let mut explained = Explained::new(alloc, notes);
+    let mut explained = Explained::new(notes);
     let outcome = play_script(alloc, &mut explained, input, &mut output);
     status(outcome, errors)
 }
@@ -113,27 +99,37 @@ pub fn play_script<T: Telling, R: Read + Drop, W: Write>(
     input: R,
     output: &mut W,
 ) -> Result<(), Fault>
-    ensures { PlaysScript ⟦<u64 as PartialEq>⟧.eq T.tells ⟦<Max as Kind<u32>>⟧.above ⟦<Min as Kind<u32>>⟧.above T.opening T.closing (R.remaining input) (W.contents output.old) (W.contents output.new) result }
+    ensures { PlaysScript ⟦<u64 as PartialEq>⟧.eq ⟦<Max as Kind<u32>>⟧.above ⟦<Min as Kind<u32>>⟧.above T.story (R.remaining input) (W.contents output.old) (W.contents output.new) result }
 {
-    match Lines::new(alloc, input) {
-        Ok(mut lines) => opening::play_lines(alloc, telling, &mut lines, output),
+    match Lines::buffered(alloc, input) {
+        Ok(mut lines) => opening::play_lines(telling, &mut lines, output),
         Err(fault) => Err(fault),
     }
+}
+
+/// Plays a whole script that stands in memory, and writes what `telling` tells of it, as `play_script` does. It asks for no memory,
+/// and doesn't flush the output.
+///
+/// No read of it fails: an error says which line is no command, or that `telling` or a write of the output failed.
+pub fn play_bytes<T: Telling, W: Write>(
+    telling: &mut T,
+    text: &[u8],
+    output: &mut W,
+) -> Result<(), Fault>
+    ensures { PlaysScript ⟦<u64 as PartialEq>⟧.eq ⟦<Max as Kind<u32>>⟧.above ⟦<Min as Kind<u32>>⟧.above T.story (Some text.now) (W.contents output.old) (W.contents output.new) result }
+{
+    let mut lines = Lines::new(text);
+    opening::play_lines(telling, &mut lines, output)
 }
 
 /// Plays a whole script that stands in memory, and appends what `telling` tells of it, as `play_script` does.
 ///
 /// No read or write of it fails: an error says which line is no command, or that memory was refused, be it for `output`.
-pub fn play_text<T: Telling>(
-    alloc: Global,
-    telling: &mut T,
-    text: &str,
-    output: &mut Vec<u8>,
-) -> Result<(), Fault>
-    ensures plays { PlaysScript ⟦<u64 as PartialEq>⟧.eq T.tells ⟦<Max as Kind<u32>>⟧.above ⟦<Min as Kind<u32>>⟧.above T.opening T.closing (Some text.now) (Some output.old.items) (Some output.new.items) result }
+pub fn play_text<T: Telling>(telling: &mut T, text: &str, output: &mut Vec<u8>) -> Result<(), Fault>
+    ensures plays { PlaysScript ⟦<u64 as PartialEq>⟧.eq ⟦<Max as Kind<u32>>⟧.above ⟦<Min as Kind<u32>>⟧.above T.story (Some text.now) (Some output.old.items) (Some output.new.items) result }
     ensures err { IfErr result (λ fault. fault ≡ Fault.InputOutput → ⊥) }
 {
-    match play_script(alloc, telling, text.as_bytes(), output) {
+    match play_bytes(telling, text.as_bytes(), output) {
         Err(Fault::InputOutput) => Err(Fault::OutOfMemory),
         outcome => outcome,
     }
@@ -146,7 +142,7 @@ fn run<T: Telling, R: Read + Drop, W: Write + Drop, E: Write + Drop>(
     output: W,
     errors: E,
 ) -> u8
-    ensures { (outcome : Result (Unit {0}) Fault) × (result ≡ status_of_outcome outcome) × EndsScript ⟦<u64 as PartialEq>⟧.eq T.tells ⟦<Max as Kind<u32>>⟧.above ⟦<Min as Kind<u32>>⟧.above T.opening T.closing (R.remaining input) outcome }
+    ensures { (outcome : Result (Unit {0}) Fault) × (result ≡ status_of_outcome outcome) × EndsScript ⟦<u64 as PartialEq>⟧.eq ⟦<Max as Kind<u32>>⟧.above ⟦<Min as Kind<u32>>⟧.above T.story (R.remaining input) outcome }
 {
     status(play_buffered(alloc, telling, input, output), errors)
 }
@@ -176,7 +172,7 @@ pub fn play_buffered<T: Telling, R: Read + Drop, W: Write + Drop>(
     input: R,
     output: W,
 ) -> Result<(), Fault>
-    ensures { EndsScript ⟦<u64 as PartialEq>⟧.eq T.tells ⟦<Max as Kind<u32>>⟧.above ⟦<Min as Kind<u32>>⟧.above T.opening T.closing (R.remaining input) result }
+    ensures { EndsScript ⟦<u64 as PartialEq>⟧.eq ⟦<Max as Kind<u32>>⟧.above ⟦<Min as Kind<u32>>⟧.above T.story (R.remaining input) result }
 {
     let mut output = BufWriter::new(alloc, output).map_err(|_| Fault::OutOfMemory)?;
     let outcome = play_script(alloc, telling, input, &mut output);

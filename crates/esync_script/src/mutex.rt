@@ -1,7 +1,9 @@
 //! The words of a mutex.
-use esync_guards::mutex::TryLockError;
-use esync_guards::mutex::machine::{Lock, MutexCall, MutexHeard};
-use esync_words::vocabulary::{Place, Vocabulary};
+use crate::scripted::Scripted;
+use esync_guards::mutex::machine::{Guarded, Lock, MutexCall, MutexHeard, MutexRun};
+use esync_guards::mutex::{Second, TryLockError};
+use esync_machine::requests::Requests;
+use esync_words::vocabulary::{Place, REQS, Vocabulary};
 use esync_words::words::Words;
 use std::io::{self, Write};
 
@@ -57,10 +59,31 @@ impl Vocabulary for MutexWords {
         }
     }
 
+    fn questions() -> &'static [&'static str] {
+        &[
+            "read 0", "read 1", "read 2", "read 3", "read 4", "read 5", "read 6", "read 7",
+            "read 8", "read 9", "read 10", "read 11", "read 12", "read 13", "read 14", "read 15",
+        ]
+    }
+
     fn place(number: usize) -> Option<Place> {
         match number {
             0 => Some(Place::of("the waiter", "the lock is free")),
             _ => None,
         }
+    }
+}
+
+impl Scripted<MutexWords> for MutexRun<(u32, u32), u32, Second, u64, REQS, 1> {
+    /// The two values.
+    type First = (u32, u32);
+
+    ghost use Rattle.esync_script.specs.Mutex.{mutex_setting};
+    ghost use Rattle.esync_script.specs.Setting.{BeginsAs};
+
+    ghost IsNew = { λ value m. BeginsAs (mutex_setting ⟦<u64 as PartialEq>⟧.eq value.0 value.1) (Self.semantics.object m) (Self.semantics.registrations m) };
+
+    fn begin(value: (u32, u32)) -> Self {
+        Requests::new(Guarded::new(value, Second {}))
     }
 }

@@ -1,8 +1,10 @@
 //! The words of a value that is set once.
-use esync_cells::once_lock::InitError;
-use esync_cells::once_lock::machine::{Get, OnceCall, OnceHeard};
+use crate::scripted::Scripted;
+use esync_cells::once_lock::machine::{Get, OnceCall, OnceHeard, OnceRun};
+use esync_cells::once_lock::{InitError, OnceState};
+use esync_machine::requests::Requests;
 use esync_words::printing::print_option;
-use esync_words::vocabulary::Vocabulary;
+use esync_words::vocabulary::{REQS, Vocabulary};
 use esync_words::words::Words;
 use std::io::{self, Write};
 
@@ -42,6 +44,10 @@ impl Vocabulary for OnceWords {
         }
     }
 
+    fn questions() -> &'static [&'static str] {
+        &["is-set", "try-get"]
+    }
+
     fn print<W: Write>(heard: &OnceHeard<u32>, output: &mut W) -> io::Result<()> {
         match heard {
             OnceHeard::Got(value) => write!(output, "Ready({value})"),
@@ -52,5 +58,18 @@ impl Vocabulary for OnceWords {
             OnceHeard::IsSet(true) => write!(output, "true"),
             OnceHeard::IsSet(false) => write!(output, "false"),
         }
+    }
+}
+
+impl Scripted<OnceWords> for OnceRun<u32, u64, REQS, 1> {
+    type First = ();
+
+    ghost use Rattle.esync_script.specs.Once.{once_setting};
+    ghost use Rattle.esync_script.specs.Setting.{BeginsAs};
+
+    ghost IsNew = { λ first m. BeginsAs once_setting (Self.semantics.object m) (Self.semantics.registrations m) };
+
+    fn begin(_first: ()) -> Self {
+        Requests::new(OnceState::new())
     }
 }

@@ -4,11 +4,13 @@ ghost use Rattle.std.specs.Io.KnownBytes.{Appends};
 ghost use Rattle.esync_words.specs.Words.{row};
 ghost use Rattle.esync_script.specs.Pipe.{a_count, ready_text, tried_text};
 
+use crate::scripted::Scripted;
+use esync_machine::requests::Requests;
 use esync_pipe::bytes::Bytes;
-use esync_pipe::pipe::machine::{PipeAsk, PipeCall, PipeHeard};
+use esync_pipe::pipe::machine::{PipeAsk, PipeCall, PipeHeard, PipeRows, PipeRun};
 use esync_pipe::pipe::{TryReadError, TryWriteError};
 use esync_words::printing::print_bytes;
-use esync_words::vocabulary::{Place, Vocabulary};
+use esync_words::vocabulary::{Place, REQS, Vocabulary};
 use esync_words::words::Words;
 use std::io::{self, Write};
 
@@ -110,11 +112,34 @@ impl Vocabulary for PipeWords {
         }
     }
 
+    fn questions() -> &'static [&'static str] {
+        &["len", "free", "try-read 16"]
+    }
+
     fn place(number: usize) -> Option<Place> {
         match number {
             0 => Some(Place::of("the readers", "bytes came")),
             1 => Some(Place::of("the writers", "there may be room")),
             _ => None,
         }
+    }
+}
+
+/// A pipe of at most `N` bytes.
+pub type Ring<const N: usize> = PipeRun<u64, N, PLACES, REQS, 2>;
+
+impl<const N: usize> Scripted<PipeWords> for Ring<N> {
+    type First = ();
+
+    ghost use Rattle.std.specs.Prelude.{◌≤◌};
+    ghost use Rattle.esync_script.specs.Pipe.{pipe_setting};
+    ghost use Rattle.esync_script.specs.Setting.{BeginsAs};
+
+    ghost CanBegin = { λ first. N ≤ 8 };
+
+    ghost IsNew = { λ first m. BeginsAs (pipe_setting ⟦<u64 as PartialEq>⟧.eq N) (Self.semantics.object m) (Self.semantics.registrations m) };
+
+    fn begin(_first: ()) -> Self {
+        Requests::new(PipeRows::new())
     }
 }

@@ -1,5 +1,5 @@
 //! What goes through the lines of a script, whichever primitive line 1 names.
-ghost use Rattle.std.specs.Prelude.{ℕ, List, Option, Result, IfOk};
+ghost use Rattle.std.specs.Prelude.{ℕ, List, Option, Result};
 ghost use Rattle.esync_machine.specs.Runs.{Meaning};
 ghost use Rattle.esync_machine.specs.declared.primitive.Answer.{Answer as AnswerOf};
 ghost use Rattle.esync_machine.specs.declared.primitive.Command.{Command as CommandOf};
@@ -7,44 +7,19 @@ ghost use Rattle.esync_words.specs.declared.fault.Fault.{Fault as FaultOf};
 ghost use Rattle.esync_words.specs.Commands.{says, command};
 ghost use Rattle.esync_script.specs.Player.{plays_and_tells};
 
-use esync_base::kept::Kept;
 use esync_base::waitqueue::Registered;
-use esync_machine::primitive::{Command, Primitive};
-use esync_machine::requests::Requests;
-use esync_machine::run::{Keep, Machine};
+use esync_machine::primitive::Command;
+use esync_machine::run::Machine;
+use esync_words::copied::Copied;
 use esync_words::fault::Fault;
-use esync_words::lines::Lines;
+use esync_words::lines::{ByteSource, Lines};
 use esync_words::play::{Parts, Telling, play};
 use esync_words::vocabulary::Vocabulary;
-use std::alloc::AllocError;
-use std::fmt::Debug;
-use std::io::{Read, Write};
-
-/// A machine of which a copy is made, to try on it what the machine itself goes on without.
-pub trait Copied: Sized {
-    /// This is a copy of that: it has the same object, and the same wakers registered.
-    ghost IsCopy: { Self → Self → Type 0 };
-
-    fn copied(&self) -> Result<Self, AllocError>
-        ensures { IfOk result (λ copy. IsCopy copy self.now) };
-}
-
-impl<P: Primitive<K> + Kept, const REQS: usize, const K: usize> Copied for Requests<P, REQS, K>
-where
-    P::Held: Copy,
-{
-    ghost use Rattle.esync_machine.specs.Histories.{IsLike};
-
-    ghost IsCopy = { IsLike ⟦<Requests<P, REQS, K> as Machine>⟧.semantics };
-
-    fn copied(&self) -> Result<Self, AllocError> {
-        self.keep()
-    }
-}
+use std::io::Write;
 
 /// Goes through the lines behind line 1, over the machine that line 1 names. Each `Telling` does so: it gives each line to the
 /// machine as a command, and tells what comes of it.
-pub trait Player<R: Read + Drop, W: Write> {
+pub trait Player<R: ByteSource, W: Write> {
     ghost use Rattle.std.specs.Prelude.{ℕ, List, Option, Result};
     ghost use Rattle.esync_machine.specs.Runs.{Meaning};
     ghost use Rattle.esync_machine.specs.declared.primitive.Answer.{Answer as AnswerOf};
@@ -65,16 +40,15 @@ pub trait Player<R: Read + Drop, W: Write> {
         M: Machine<Command = Command<V::Ask, u64, V::Call>, Waker = u64>
             + Copied
             + Registered<Waker = u64>
-            + Debug
             + Drop,
         M::Reply: Parts<V::Heard> + Drop,
         ensures { plays self.old self.new V.Ask V.Call V.Heard M.Reply M.semantics.meaning (says (command V.asks V.calls)) V.text M.Reply.answer M.Reply.wakes (M.semantics.object machine) (M.semantics.registrations machine) lines.old.number lines.old.left (W.contents output.old) (W.contents output.new) result };
 }
 
-impl<T: Telling, R: Read + Drop, W: Write> Player<R, W> for T {
+impl<T: Telling, R: ByteSource, W: Write> Player<R, W> for T {
     ghost use Rattle.esync_script.specs.Player.{plays_and_tells};
 
-    ghost plays = { λ old new. plays_and_tells T.tells };
+    ghost plays = { λ old new. plays_and_tells T.story (T.noted old) (T.noted new) };
 
     fn play<V, M>(&mut self, machine: M, lines: &mut Lines<R>, output: &mut W) -> Result<(), Fault>
     where
@@ -84,7 +58,6 @@ impl<T: Telling, R: Read + Drop, W: Write> Player<R, W> for T {
         M: Machine<Command = Command<V::Ask, u64, V::Call>, Waker = u64>
             + Copied
             + Registered<Waker = u64>
-            + Debug
             + Drop,
         M::Reply: Parts<V::Heard> + Drop,
     {

@@ -1,12 +1,17 @@
 //! The words of publishers and subscribers.
-ghost use Rattle.std.specs.Prelude.{OnOk, ◌++◌, codes};
+ghost use Rattle.std.specs.Prelude.{◌≡◌, ◌≤◌, OnOk, ◌++◌, codes};
 ghost use Rattle.std.specs.Io.KnownBytes.{Appends};
-ghost use Rattle.esync_script.specs.PubSub.{read_text};
+ghost use Rattle.esync_script.specs.PubSub.{a_new_topic, no_lists, read_text};
+ghost use Rattle.esync_script.specs.Setting.{new_object};
 
-use esync_pubsub::pubsub::machine::{PubSubAsk, PubSubCall, PubSubHeard};
+use esync_base::waitqueue::Wakes;
+use esync_log::log::LogStore;
+use esync_machine::requests::Requests;
+use esync_machine::run::Machine;
+use esync_pubsub::pubsub::machine::{Events, PubSubAsk, PubSubCall, PubSubHeard};
 use esync_pubsub::pubsub::{Error, TryPublishError, WaitResult};
 use esync_words::printing::print_option;
-use esync_words::vocabulary::{Place, Vocabulary};
+use esync_words::vocabulary::{Place, REQS, Vocabulary};
 use esync_words::words::Words;
 use std::io::{self, Write};
 
@@ -124,4 +129,19 @@ fn print_ready<W: Write>(answer: &WaitResult<u32>, output: &mut W) -> io::Result
     write!(output, "Ready(")?;
     print_read(answer, output)?;
     write!(output, ")")
+}
+
+/// A pub-sub channel over this log, with four places for subscribers and four for publishers.
+pub type Topic<L> = Requests<Events<L, Wakes<u64, 4>, Wakes<u64, 4>, REQS>, REQS, 4>;
+
+/// A pub-sub channel over this log in which nobody is, and whose first message has this number.
+///
+/// A topic isn't `Scripted`: over an open log it can't be shown that the machine which `serve` makes fits in memory.
+pub fn topic<L: LogStore<Message = u32>>(first: u64) -> Topic<L>
+    requires messages { 1 ≤ L.capacity }
+    requires subscribers { L.places ≡ 4 }
+    ensures object { ⟦<Topic<L> as Machine>⟧.semantics.object result ≡ new_object (a_new_topic first) }
+    ensures registrations { ⟦<Topic<L> as Machine>⟧.semantics.registrations result ≡ no_lists }
+{
+    Requests::new(Events::new_at(first))
 }

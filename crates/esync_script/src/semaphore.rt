@@ -4,10 +4,14 @@ ghost use Rattle.std.specs.Io.KnownBytes.{Appends};
 ghost use Rattle.esync_words.specs.Text.{option_text};
 ghost use Rattle.esync_script.specs.Semaphore.{permit_asks, permit_calls};
 
+use crate::scripted::Scripted;
+use esync_machine::requests::Requests;
+use esync_permits::semaphore::machine::fair::FairRun;
+use esync_permits::semaphore::machine::greedy::GreedyRun;
 use esync_permits::semaphore::machine::{PermitCall, PermitHeard};
-use esync_permits::semaphore::{Amount, WaitQueueFull};
+use esync_permits::semaphore::{Amount, FairState, GreedyState, WaitQueueFull};
 use esync_words::printing::print_option;
-use esync_words::vocabulary::{Place, Vocabulary};
+use esync_words::vocabulary::{Place, REQS, Vocabulary};
 use esync_words::words::Words;
 use std::io::{self, Write};
 
@@ -84,6 +88,10 @@ impl Vocabulary for GreedyWords {
         }
     }
 
+    fn questions() -> &'static [&'static str] {
+        &["permits"]
+    }
+
     fn place(number: usize) -> Option<Place> {
         match number {
             0 => Some(Place::of("the waiter", "permits came")),
@@ -130,6 +138,10 @@ impl Vocabulary for FairWords {
         }
     }
 
+    fn questions() -> &'static [&'static str] {
+        &["permits"]
+    }
+
     fn place(number: usize) -> Option<Place> {
         match number {
             0 => Some(Place {
@@ -139,5 +151,39 @@ impl Vocabulary for FairWords {
             }),
             _ => None,
         }
+    }
+}
+
+impl Scripted<GreedyWords> for GreedyRun<u64, REQS, 1> {
+    /// How many permits there are.
+    type First = usize;
+
+    ghost use Rattle.esync_script.specs.Semaphore.{greedy_setting};
+    ghost use Rattle.esync_script.specs.Setting.{BeginsAs};
+
+    ghost IsNew = { λ permits m. BeginsAs (greedy_setting ⟦<u64 as PartialEq>⟧.eq permits) (Self.semantics.object m) (Self.semantics.registrations m) };
+
+    fn begin(permits: usize) -> Self {
+        Requests::new(GreedyState::new(permits))
+    }
+}
+
+/// A fair semaphore with a queue of `N` places.
+pub type Queued<const N: usize> = FairRun<u64, N, REQS, 1>;
+
+impl<const N: usize> Scripted<FairWords> for Queued<N> {
+    /// How many permits there are.
+    type First = usize;
+
+    ghost use Rattle.std.specs.Prelude.{◌≤◌};
+    ghost use Rattle.esync_script.specs.Semaphore.{fair_setting};
+    ghost use Rattle.esync_script.specs.Setting.{BeginsAs};
+
+    ghost CanBegin = { λ permits. N ≤ 8 };
+
+    ghost IsNew = { λ permits m. BeginsAs (fair_setting N permits) (Self.semantics.object m) (Self.semantics.registrations m) };
+
+    fn begin(permits: usize) -> Self {
+        Requests::new(FairState::new(permits))
     }
 }

@@ -1,7 +1,10 @@
 //! The words of a signal.
-use esync_cells::signal::machine::{SignalCall, SignalHeard, Wait};
+use crate::scripted::Scripted;
+use esync_cells::signal::SignalState;
+use esync_cells::signal::machine::{SignalCall, SignalHeard, SignalRun, Wait};
+use esync_machine::requests::Requests;
 use esync_words::printing::print_option;
-use esync_words::vocabulary::{Place, Vocabulary};
+use esync_words::vocabulary::{Place, REQS, Vocabulary};
 use esync_words::words::Words;
 use std::io::{self, Write};
 
@@ -49,10 +52,27 @@ impl Vocabulary for SignalWords {
         }
     }
 
+    fn questions() -> &'static [&'static str] {
+        &["signaled", "try-take"]
+    }
+
     fn place(number: usize) -> Option<Place> {
         match number {
             0 => Some(Place::of("the waiter", "a value came")),
             _ => None,
         }
+    }
+}
+
+impl Scripted<SignalWords> for SignalRun<u32, u64, REQS, 1> {
+    type First = ();
+
+    ghost use Rattle.esync_script.specs.Setting.{BeginsAs};
+    ghost use Rattle.esync_script.specs.Signal.{signal_setting};
+
+    ghost IsNew = { λ first m. BeginsAs (signal_setting ⟦<u64 as PartialEq>⟧.eq) (Self.semantics.object m) (Self.semantics.registrations m) };
+
+    fn begin(_first: ()) -> Self {
+        Requests::new(SignalState::new())
     }
 }

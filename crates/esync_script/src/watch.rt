@@ -2,10 +2,12 @@
 ghost use Rattle.std.specs.Prelude.{◌≡◌};
 ghost use Rattle.esync_script.specs.Watch.{watch_asks, watch_reads};
 
-use esync_cells::watch::machine::{Await, Reading, WatchCall, WatchHeard};
+use crate::scripted::Scripted;
+use esync_cells::watch::machine::{Await, Reading, WatchCall, WatchHeard, WatchRun, Watched};
 use esync_cells::watch::{Change, Judge};
+use esync_machine::requests::Requests;
 use esync_words::printing::print_option;
-use esync_words::vocabulary::{Place, Vocabulary};
+use esync_words::vocabulary::{Place, REQS, Vocabulary};
 use esync_words::words::Words;
 use std::io::{self, Write};
 
@@ -153,10 +155,37 @@ impl Vocabulary for WatchWords {
         }
     }
 
+    fn questions() -> &'static [&'static str] {
+        &["id", "try-get"]
+    }
+
     fn place(number: usize) -> Option<Place> {
         match number {
             0 => Some(Place::of("the receivers", "a newer value came")),
             _ => None,
+        }
+    }
+}
+
+/// A watch of at most `N` counted receivers.
+pub type Counted<const N: usize> = WatchRun<u32, u64, Adds, Below, N, REQS, REQS, N>;
+
+impl<const N: usize> Scripted<WatchWords> for Counted<N> {
+    /// The value, if there is one.
+    type First = Option<u32>;
+
+    ghost use Rattle.std.specs.Prelude.{◌≤◌};
+    ghost use Rattle.esync_script.specs.Setting.{BeginsAs};
+    ghost use Rattle.esync_script.specs.Watch.{watch_setting};
+
+    ghost CanBegin = { λ value. (1 ≤ N) × (N ≤ 8) };
+
+    ghost IsNew = { λ value m. BeginsAs (watch_setting ⟦<u64 as PartialEq>⟧.eq N value) (Self.semantics.object m) (Self.semantics.registrations m) };
+
+    fn begin(value: Option<u32>) -> Self {
+        match value {
+            Some(value) => Requests::new(Watched::new_with(value)),
+            None => Requests::new(Watched::new()),
         }
     }
 }

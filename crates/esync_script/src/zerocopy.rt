@@ -3,10 +3,13 @@ ghost use Rattle.std.specs.Prelude.{◌≡◌, OnOk};
 ghost use Rattle.std.specs.Io.KnownBytes.{Appends};
 ghost use Rattle.esync_script.specs.Zerocopy.{lent_text};
 
-use esync_words::vocabulary::{Place, Vocabulary};
+use crate::scripted::Scripted;
+use arrayvec::ArrayVec;
+use esync_machine::requests::Requests;
+use esync_words::vocabulary::{Place, REQS, Vocabulary};
 use esync_words::words::Words;
 use esync_zerocopy::zerocopy_channel::machine::{Lent, ZeroCall, ZeroHeard};
-use esync_zerocopy::zerocopy_channel::{Side, SlotLent};
+use esync_zerocopy::zerocopy_channel::{RowState, Side, SlotLent};
 use std::io::{self, Write};
 
 // Prints the number of a slot, and the value that a receiver is shown.
@@ -79,11 +82,34 @@ impl Vocabulary for ZeroWords {
         }
     }
 
+    fn questions() -> &'static [&'static str] {
+        &["len", "free"]
+    }
+
     fn place(number: usize) -> Option<Place> {
         match number {
             0 => Some(Place::of("the receivers", "a slot is held")),
             1 => Some(Place::of("the senders", "a slot is spare")),
             _ => None,
         }
+    }
+}
+
+/// A zero-copy channel of `N` slots, which stand in a row of their own.
+pub type Slotted<const N: usize> = Requests<RowState<ArrayVec<u32, N>, u64>, REQS, 1>;
+
+impl<const N: usize> Scripted<ZeroWords> for Slotted<N> {
+    type First = ();
+
+    ghost use Rattle.std.specs.Prelude.{◌<◌, ◌≤◌};
+    ghost use Rattle.esync_script.specs.Setting.{BeginsAs};
+    ghost use Rattle.esync_script.specs.Zerocopy.{zero_setting};
+
+    ghost CanBegin = { λ first. (0 < N) × (N ≤ 8) };
+
+    ghost IsNew = { λ first m. BeginsAs (zero_setting ⟦<u64 as PartialEq>⟧.eq N) (Self.semantics.object m) (Self.semantics.registrations m) };
+
+    fn begin(_first: ()) -> Self {
+        Requests::new(RowState::new(ArrayVec::from([0; N])))
     }
 }

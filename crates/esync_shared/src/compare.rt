@@ -41,7 +41,7 @@ impl Display for Found {
 /// That of the script, where the machine doesn't come to its end.
 pub fn compare<R: Wait>(rt: &R, alloc: Global, script: &str) -> Result<Found, Fault> {
     let mut machine = Vec::new(alloc);
-    play_text(alloc, &mut Replies {}, script, &mut machine)?;
+    play_text(&mut Replies {}, script, &mut machine)?;
     let machine = text(machine)?;
     for first in [Door::Own, Door::Handle, Door::Dynamic] {
         let mut shared = Vec::new(alloc);

@@ -25,12 +25,12 @@ use esync_notes::Notes;
 use esync_permits::semaphore::machine::{PermitCall, PermitHeard};
 use esync_permits::semaphore::{Amount, FairState, GreedyState, PermitState, SharedSemaphore};
 use esync_pipe::pipe::{DynamicReader, DynamicWriter, SharedPipe};
-use esync_priority::prio::{Kind, PrioQueue};
+use esync_priority::prio::{Kind, Max, Min, PrioQueue};
 use esync_pubsub::pubsub::{LogStore, PubSubChannel, SharedPubSub};
 use esync_script::channel::ChannelWords;
 use esync_script::mutex::MutexWords;
 use esync_script::once::OnceWords;
-use esync_script::opening::Capacity;
+use esync_script::opening::{Capacity, Opening};
 use esync_script::pipe::PipeWords;
 use esync_script::pubsub::PubSubWords;
 use esync_script::semaphore::{FairWords, GreedyWords};
@@ -44,6 +44,54 @@ use std::alloc::{AllocError, Global};
 use std::io::Write;
 use std::sync::Wait;
 
+/// Over the primitive that line 1 names.
+pub fn named<R: Wait, W: Write>(
+    stage: Stage<'_, '_, R>,
+    opening: Opening,
+    script: &mut Script<'_>,
+    output: &mut W,
+) -> Result<(), Fault> {
+    match opening {
+        Opening::Channel(capacity) => channel(stage, capacity, script, output),
+        Opening::Max(capacity) => priority::<Max, R, W>(stage, capacity, script, output),
+        Opening::Min(capacity) => priority::<Min, R, W>(stage, capacity, script, output),
+        Opening::Signal => signal(stage, script, output),
+        Opening::Greedy(permits) => greedy(stage, permits, script, output),
+        Opening::Fair(capacity, permits) => fair(stage, capacity, permits, script, output),
+        Opening::Pipe(capacity) => pipe(stage, capacity, script, output),
+        Opening::PubSub(capacity, first) => pubsub(stage, capacity, first, script, output),
+        Opening::Once => once(stage, script, output),
+        // Its calls ask that its closure can be called, which can't be said of a value that a form keeps. Tests show what it does.
+        Opening::Lazy(_) => Err(Fault::NotACommand(1)),
+        Opening::Mutex(value, part) => mutex(stage, value, part, script, output),
+        Opening::Watch(capacity, value) => watch(stage, capacity, value, script, output),
+        Opening::Zerocopy(capacity) => zerocopy(stage, capacity, script, output),
+    }
+}
+
+// An expression of a capacity, which has to be written for each: a number of places is part of a type. The number stands where
+// `N` does, or first among what a macro is given.
+macro_rules! at_capacity {
+    ($capacity:ident, [$($before:tt)*] N [$($after:tt)*]) => {
+        match $capacity {
+            Capacity::One => $($before)* 1 $($after)*,
+            Capacity::Two => $($before)* 2 $($after)*,
+            Capacity::Three => $($before)* 3 $($after)*,
+            Capacity::Four => $($before)* 4 $($after)*,
+            Capacity::Eight => $($before)* 8 $($after)*,
+        }
+    };
+    ($capacity:ident, $play:ident!($($argument:tt)*)) => {
+        match $capacity {
+            Capacity::One => $play!(1, $($argument)*),
+            Capacity::Two => $play!(2, $($argument)*),
+            Capacity::Three => $play!(3, $($argument)*),
+            Capacity::Four => $play!(4, $($argument)*),
+            Capacity::Eight => $play!(8, $($argument)*),
+        }
+    };
+}
+
 // Over a channel that keeps its messages so.
 fn mailbox<S: Store<Message = u32>, R: Wait, W: Write>(
     stage: Stage<'_, '_, R>,
@@ -55,40 +103,28 @@ fn mailbox<S: Store<Message = u32>, R: Wait, W: Write>(
     serve::<ChannelWords, _, R, W>(stage, form, script, output)
 }
 
-/// Over a channel.
-pub fn channel<R: Wait, W: Write>(
+// Over a channel.
+fn channel<R: Wait, W: Write>(
     stage: Stage<'_, '_, R>,
     capacity: Capacity,
     script: &mut Script<'_>,
     output: &mut W,
 ) -> Result<(), Fault> {
-    match capacity {
-        Capacity::One => mailbox::<Deque<u32, 1>, R, W>(stage, script, output),
-        Capacity::Two => mailbox::<Deque<u32, 2>, R, W>(stage, script, output),
-        Capacity::Three => mailbox::<Deque<u32, 3>, R, W>(stage, script, output),
-        Capacity::Four => mailbox::<Deque<u32, 4>, R, W>(stage, script, output),
-        Capacity::Eight => mailbox::<Deque<u32, 8>, R, W>(stage, script, output),
-    }
+    at_capacity!(capacity, [mailbox::<Deque<u32,] N [>, R, W>(stage, script, output)])
 }
 
-/// Over a priority channel of this kind.
-pub fn priority<K: Kind<u32>, R: Wait, W: Write>(
+// Over a priority channel of this kind.
+fn priority<K: Kind<u32>, R: Wait, W: Write>(
     stage: Stage<'_, '_, R>,
     capacity: Capacity,
     script: &mut Script<'_>,
     output: &mut W,
 ) -> Result<(), Fault> {
-    match capacity {
-        Capacity::One => mailbox::<PrioQueue<u32, K, 1>, R, W>(stage, script, output),
-        Capacity::Two => mailbox::<PrioQueue<u32, K, 2>, R, W>(stage, script, output),
-        Capacity::Three => mailbox::<PrioQueue<u32, K, 3>, R, W>(stage, script, output),
-        Capacity::Four => mailbox::<PrioQueue<u32, K, 4>, R, W>(stage, script, output),
-        Capacity::Eight => mailbox::<PrioQueue<u32, K, 8>, R, W>(stage, script, output),
-    }
+    at_capacity!(capacity, [mailbox::<PrioQueue<u32, K,] N [>, R, W>(stage, script, output)])
 }
 
-/// Over a signal.
-pub fn signal<R: Wait, W: Write>(
+// Over a signal.
+fn signal<R: Wait, W: Write>(
     stage: Stage<'_, '_, R>,
     script: &mut Script<'_>,
     output: &mut W,
@@ -118,8 +154,8 @@ where
     serve::<V, _, R, W>(stage, form, script, output)
 }
 
-/// Over a greedy semaphore.
-pub fn greedy<R: Wait, W: Write>(
+// Over a greedy semaphore.
+fn greedy<R: Wait, W: Write>(
     stage: Stage<'_, '_, R>,
     permits: usize,
     script: &mut Script<'_>,
@@ -140,21 +176,15 @@ fn queue<const N: usize, R: Wait, W: Write>(
     semaphore::<FairState<u64, N>, FairWords, _, R, W>(stage, permits, script, output)
 }
 
-/// Over a fair semaphore.
-pub fn fair<R: Wait, W: Write>(
+// Over a fair semaphore.
+fn fair<R: Wait, W: Write>(
     stage: Stage<'_, '_, R>,
     capacity: Capacity,
     permits: usize,
     script: &mut Script<'_>,
     output: &mut W,
 ) -> Result<(), Fault> {
-    match capacity {
-        Capacity::One => queue::<1, R, W>(stage, permits, script, output),
-        Capacity::Two => queue::<2, R, W>(stage, permits, script, output),
-        Capacity::Three => queue::<3, R, W>(stage, permits, script, output),
-        Capacity::Four => queue::<4, R, W>(stage, permits, script, output),
-        Capacity::Eight => queue::<8, R, W>(stage, permits, script, output),
-    }
+    at_capacity!(capacity, [queue::<] N [, R, W>(stage, permits, script, output)])
 }
 
 // Over a pipe that is split anew for each call.
@@ -197,20 +227,14 @@ fn bytes<B: ByteStore, R: Wait, W: Write>(
     }
 }
 
-/// Over a pipe.
-pub fn pipe<R: Wait, W: Write>(
+// Over a pipe.
+fn pipe<R: Wait, W: Write>(
     stage: Stage<'_, '_, R>,
     capacity: Capacity,
     script: &mut Script<'_>,
     output: &mut W,
 ) -> Result<(), Fault> {
-    match capacity {
-        Capacity::One => bytes::<ByteRing<1>, R, W>(stage, script, output),
-        Capacity::Two => bytes::<ByteRing<2>, R, W>(stage, script, output),
-        Capacity::Three => bytes::<ByteRing<3>, R, W>(stage, script, output),
-        Capacity::Four => bytes::<ByteRing<4>, R, W>(stage, script, output),
-        Capacity::Eight => bytes::<ByteRing<8>, R, W>(stage, script, output),
-    }
+    at_capacity!(capacity, [bytes::<ByteRing<] N [>, R, W>(stage, script, output)])
 }
 
 // Over this pub-sub channel, at which nobody is.
@@ -243,8 +267,8 @@ macro_rules! topic {
     }};
 }
 
-/// Over a pub-sub channel, whose first message has the number 0: a shared channel begins nowhere else.
-pub fn pubsub<R: Wait, W: Write>(
+// Over a pub-sub channel, whose first message has the number 0: a shared channel begins nowhere else.
+fn pubsub<R: Wait, W: Write>(
     stage: Stage<'_, '_, R>,
     capacity: Capacity,
     first: u64,
@@ -254,17 +278,11 @@ pub fn pubsub<R: Wait, W: Write>(
     if first != 0 {
         return Err(Fault::NotACommand(1));
     }
-    match capacity {
-        Capacity::One => topic!(1, R, stage, script, output),
-        Capacity::Two => topic!(2, R, stage, script, output),
-        Capacity::Three => topic!(3, R, stage, script, output),
-        Capacity::Four => topic!(4, R, stage, script, output),
-        Capacity::Eight => topic!(8, R, stage, script, output),
-    }
+    at_capacity!(capacity, topic!(R, stage, script, output))
 }
 
-/// Over a value that is set once.
-pub fn once<R: Wait, W: Write>(
+// Over a value that is set once.
+fn once<R: Wait, W: Write>(
     stage: Stage<'_, '_, R>,
     script: &mut Script<'_>,
     output: &mut W,
@@ -273,8 +291,8 @@ pub fn once<R: Wait, W: Write>(
     serve::<OnceWords, _, R, W>(stage, form, script, output)
 }
 
-/// Over a mutex.
-pub fn mutex<R: Wait, W: Write>(
+// Over a mutex.
+fn mutex<R: Wait, W: Write>(
     stage: Stage<'_, '_, R>,
     value: u32,
     part: u32,
@@ -314,21 +332,15 @@ fn value<const N: usize, R: Wait, W: Write>(
     latest(stage, &watch, script, output)
 }
 
-/// Over a watch.
-pub fn watch<R: Wait, W: Write>(
+// Over a watch.
+fn watch<R: Wait, W: Write>(
     stage: Stage<'_, '_, R>,
     capacity: Capacity,
     first: Option<u32>,
     script: &mut Script<'_>,
     output: &mut W,
 ) -> Result<(), Fault> {
-    match capacity {
-        Capacity::One => value::<1, R, W>(stage, first, script, output),
-        Capacity::Two => value::<2, R, W>(stage, first, script, output),
-        Capacity::Three => value::<3, R, W>(stage, first, script, output),
-        Capacity::Four => value::<4, R, W>(stage, first, script, output),
-        Capacity::Eight => value::<8, R, W>(stage, first, script, output),
-    }
+    at_capacity!(capacity, [value::<] N [, R, W>(stage, first, script, output)])
 }
 
 fn slot(number: usize) -> Slot<Numbered> {
@@ -359,8 +371,8 @@ fn slots(alloc: Global, capacity: Capacity) -> Result<Vec<Slot<Numbered>>, Alloc
     }
 }
 
-/// Over a zero-copy channel.
-pub fn zerocopy<R: Wait, W: Write>(
+// Over a zero-copy channel.
+fn zerocopy<R: Wait, W: Write>(
     stage: Stage<'_, '_, R>,
     capacity: Capacity,
     script: &mut Script<'_>,

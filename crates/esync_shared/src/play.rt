@@ -3,7 +3,6 @@ use crate::over;
 use esync_forms::form::{Doors, Form, NUMBERS, Places, turn};
 use esync_machine::primitive::Command;
 use esync_notes::Notes;
-use esync_priority::prio::{Max, Min};
 use esync_script::opening::Opening;
 use esync_words::fault::Fault;
 use esync_words::lines::LONGEST;
@@ -69,30 +68,7 @@ pub fn play<R: Wait, W: Write>(
         notes: &notes,
         doors,
     };
-    match opening {
-        Opening::Channel(capacity) => over::channel(stage, capacity, &mut script, output),
-        Opening::Max(capacity) => {
-            over::priority::<Max, R, W>(stage, capacity, &mut script, output)
-        }
-        Opening::Min(capacity) => {
-            over::priority::<Min, R, W>(stage, capacity, &mut script, output)
-        }
-        Opening::Signal => over::signal(stage, &mut script, output),
-        Opening::Greedy(permits) => over::greedy(stage, permits, &mut script, output),
-        Opening::Fair(capacity, permits) => {
-            over::fair(stage, capacity, permits, &mut script, output)
-        }
-        Opening::Pipe(capacity) => over::pipe(stage, capacity, &mut script, output),
-        Opening::PubSub(capacity, first) => {
-            over::pubsub(stage, capacity, first, &mut script, output)
-        }
-        Opening::Once => over::once(stage, &mut script, output),
-        // Its calls ask that its closure can be called, which can't be said of a value that a form keeps. Tests show what it does.
-        Opening::Lazy(_) => Err(Fault::NotACommand(1)),
-        Opening::Mutex(value, part) => over::mutex(stage, value, part, &mut script, output),
-        Opening::Watch(capacity, value) => over::watch(stage, capacity, value, &mut script, output),
-        Opening::Zerocopy(capacity) => over::zerocopy(stage, capacity, &mut script, output),
-    }
+    over::named(stage, opening, &mut script, output)
 }
 
 /// What every shared form is played with.

@@ -8,3 +8,6 @@ pub mod Flags
 pub mod Waiting
 pub mod Opening
 pub mod Functional
+pub mod EachLike
+pub mod SeveralDetermined
+pub mod Together

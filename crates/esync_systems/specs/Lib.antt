@@ -1,9 +1,15 @@
 pub mod Pair
 pub mod PairLaws
 pub mod Parts
+pub mod Either
+pub mod EitherLaws
+pub mod One
 pub mod Asking
 pub mod Schedules
 pub mod Positions
 pub mod Certificates
 pub mod Verdicts
 pub mod Functional
+pub mod Several
+pub mod SeveralLaws
+pub mod EachPart

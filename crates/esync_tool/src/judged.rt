@@ -175,8 +175,8 @@ fn notes(alloc: Global, script: &str, count: u64) -> Result<Vec<u8>, Stopped> {
     }
     let mut notes = Vec::new(alloc);
     let mut answers = Vec::new(alloc);
-    let mut explained = Explained::new(alloc, &mut notes);
-    play_text(alloc, &mut explained, lines.as_str(), &mut answers)?;
+    let mut explained = Explained::new(&mut notes);
+    play_text(&mut explained, lines.as_str(), &mut answers)?;
     drop(explained);
     Ok(notes)
 }

@@ -7,6 +7,7 @@ use std::alloc::Global;
 use std::fs::Files;
 use std::io::{Read, Write};
 use std::sync::Wait;
+use std::time::Clock;
 
 mod arguments;
 mod bad_line;
@@ -15,6 +16,7 @@ mod inputs;
 mod judged;
 mod language;
 mod source;
+mod steps;
 mod stopped;
 mod svg;
 mod tasks;
@@ -29,6 +31,8 @@ pub struct Streams<I: Drop, O: Drop, N: Drop, E: Drop> {
     /// Where the notes of an explanation go, as a rule to the output.
     pub notes: N,
     pub errors: E,
+    /// The errors are a terminal, where somebody waits.
+    pub is_watched: bool,
 }
 
 /// Does what the words of a command line ask for, of which the first is the program's name, and returns the status.
@@ -50,7 +54,7 @@ pub fn esync<R, I, O, N, E>(
     streams: Streams<I, O, N, E>,
 ) -> u8
 where
-    R: Files + Wait,
+    R: Files + Wait + Clock,
     I: Read + Drop,
     O: Write + Drop,
     N: Write + Drop,
@@ -74,7 +78,7 @@ fn asked<R, I, O, N, E>(
     streams: &mut Streams<I, O, N, E>,
 ) -> Result<u8, Stopped>
 where
-    R: Files + Wait,
+    R: Files + Wait + Clock,
     I: Read + Drop,
     O: Write + Drop,
     N: Write + Drop,

@@ -1,10 +1,12 @@
 //! A script as a picture that a browser shows, in SVG.
 //!
-//! The picture is a function of the lines of a script and of the replies that `esync run` prints of them. There is a lane for the
-//! primitive, for who calls, and for each task, by its waker. A row has the number of its line, the command above the arrow from
-//! who gives it, and the answer below. Each wake is an arrow. A bar in a task's lane stands from the poll that was answered Pending
-//! to the wake, or to the next poll or the end of that request. A page has 50 lines, and bars go on from one to the next.
+//! The picture is a function of the steps of a script, as they are told while it is played. There is a lane for the primitive, for
+//! who calls, and for each task, by its waker. A row has the number of its line, the command above the arrow from who gives it, and
+//! the answer below. Each wake is an arrow. A bar in a task's lane stands from the poll that was answered Pending to the wake, or to
+//! the next poll or the end of that request. A page has 50 lines, and bars go on from one to the next.
+use crate::steps::{Step, Steps};
 use crate::stopped::Stopped;
+use esync_words::play::Giver;
 use std::alloc::{AllocError, Global};
 use std::io::{self, Write};
 
@@ -45,58 +47,25 @@ text { font: 13px ui-monospace, monospace; fill: #1a1a1a }
 .wake { stroke: #1b7a3d; stroke-width: 2 }
 ";
 
-/// A line that was played: its text, and what was printed of it.
-#[derive(Clone, Copy)]
-struct Event<'a> {
-    line: &'a str,
-    answer: &'a str,
-    // The wakers that it handed out, with a space between two, or `-`.
-    wakers: &'a str,
-}
-
-/// Who gives the command of a line.
-#[derive(Clone, Copy, PartialEq)]
-enum Giver {
-    Task { request: u64, waker: u64 },
-    Dropper { request: u64 },
-    Caller,
-}
-
-impl Giver {
-    fn of(line: &str) -> Giver {
-        let mut words = line.split(' ');
-        let name = words.next();
-        let request = words.next().and_then(number);
-        let waker = words.next().and_then(number);
-        match (name, request, waker) {
-            (Some("poll"), Some(request), Some(waker)) => Giver::Task { request, waker },
-            (Some("end"), Some(request), _) => Giver::Dropper { request },
-            _ => Giver::Caller,
-        }
-    }
-
-    fn lane(self) -> Lane {
-        match self {
-            Giver::Task { waker, .. } => Lane::Task(waker),
-            Giver::Dropper { .. } | Giver::Caller => Lane::Caller,
-        }
-    }
-}
-
-fn number(word: &str) -> Option<u64> {
-    word.parse::<u64>().ok()
-}
-
 #[derive(Clone, Copy, PartialEq)]
 enum Lane {
     Caller,
     Task(u64),
 }
 
+impl Lane {
+    fn of(giver: Giver) -> Lane {
+        match giver {
+            Giver::Task { waker, .. } => Lane::Task(waker),
+            Giver::Starter(_) | Giver::Dropper(_) | Giver::Caller => Lane::Caller,
+        }
+    }
+}
+
 /// A request that waits, and from where its bar is drawn.
 #[derive(Clone, Copy)]
 struct Waiting {
-    request: u64,
+    request: usize,
     waker: u64,
     from: u64,
 }
@@ -104,7 +73,7 @@ struct Waiting {
 /// What ends a wait: the request was polled or dropped, or the task was woken.
 #[derive(Clone, Copy)]
 enum Over {
-    Request(u64),
+    Request(usize),
     Waker(u64),
 }
 
@@ -125,27 +94,20 @@ struct Bar {
     to: u64,
 }
 
-/// Draws a script that was answered so, or its first lines where there are fewer replies.
-pub fn draw<W: Write>(
-    alloc: Global,
-    script: &str,
-    replies: &str,
-    output: &mut W,
-) -> Result<(), Stopped> {
-    let events = events_of(alloc, script, replies)?;
-    let name = script.lines().next().unwrap_or("");
+/// Draws the steps of a script, or of its first lines.
+pub fn draw<W: Write>(alloc: Global, script: &Steps, output: &mut W) -> Result<(), Stopped> {
+    let name = script.name();
     let mut pages = Pages {
         alloc,
         body: Vec::new(alloc),
         waits: Vec::new(alloc),
-        line: 2,
         top: 0,
         width: LANES,
     };
-    if events.is_empty() {
+    if script.steps().is_empty() {
         pages.page(name, &[])?;
     }
-    for page in events.chunks(PAGE) {
+    for page in script.steps().chunks(PAGE) {
         pages.page(name, page)?;
     }
     let (width, height) = (pages.width, pages.top);
@@ -170,48 +132,32 @@ pub fn draw<W: Write>(
     Ok(())
 }
 
-fn events_of<'a>(
-    alloc: Global,
-    script: &'a str,
-    replies: &'a str,
-) -> Result<Vec<Event<'a>>, AllocError> {
-    let mut events = Vec::new(alloc);
-    for (line, reply) in script.lines().skip(1).zip(replies.lines()) {
-        let (answer, wakers) = reply.split_once(" | ").unwrap_or((reply, "-"));
-        events.push(Event {
-            line,
-            answer,
-            wakers,
-        })?;
-    }
-    Ok(events)
-}
-
 /// The pages that were drawn, and what goes on to the next.
 #[derive(Drop)]
 struct Pages {
     alloc: Global,
     body: Vec<u8>,
     waits: Vec<Waiting>,
-    // The number of the next line.
-    line: u64,
     // Where the next page begins.
     top: u64,
     width: u64,
 }
 
 impl Pages {
-    // Draws a page of these lines.
-    fn page(&mut self, name: &str, events: &[Event<'_>]) -> Result<(), Stopped> {
-        let lanes = self.lanes(events)?;
+    // Draws a page of these steps.
+    fn page(&mut self, name: &str, steps: &[Step]) -> Result<(), Stopped> {
+        let lanes = self.lanes(steps)?;
         let first = self.top.saturating_add(HEAD);
-        let last = events
+        let last = steps
             .iter()
-            .fold(first, |y, event| y.saturating_add(height_of(event)));
-        let bars = self.bars(events, first, last)?;
+            .fold(first, |y, step| y.saturating_add(height_of(step)));
+        let bars = self.bars(steps, first, last)?;
         let count = lanes.len() as u64;
         let width = LANES.saturating_add(count.saturating_mul(BETWEEN));
         self.width = self.width.max(width);
+        if let Some(step) = steps.first() {
+            self.from(step.number)?;
+        }
         self.head(name, &lanes, last)?;
         for bar in bars.iter() {
             let x = x_of(&lanes, Lane::Task(bar.waker)).saturating_sub(5);
@@ -223,47 +169,39 @@ impl Pages {
             )?;
         }
         let mut y = first;
-        for event in events {
-            self.row(event, &lanes, y)?;
-            y = y.saturating_add(height_of(event));
-            self.line = self.line.saturating_add(1);
+        for step in steps {
+            self.row(step, &lanes, y)?;
+            y = y.saturating_add(height_of(step));
         }
         self.top = last.saturating_add(FOOT);
         Ok(())
     }
 
-    // The lanes of a page: of who already waits, and of who is there in its lines.
-    fn lanes(&self, events: &[Event<'_>]) -> Result<Vec<Lane>, AllocError> {
+    // The lanes of a page: of who already waits, and of who is there in its steps.
+    fn lanes(&self, steps: &[Step]) -> Result<Vec<Lane>, AllocError> {
         let mut lanes = Vec::new(self.alloc);
         for waiting in self.waits.iter() {
             add(&mut lanes, Lane::Task(waiting.waker))?;
         }
-        for event in events {
-            add(&mut lanes, Giver::of(event.line).lane())?;
-            for waker in event.wakers.split(' ') {
-                if let Some(waker) = number(waker) {
-                    add(&mut lanes, Lane::Task(waker))?;
-                }
+        for step in steps {
+            add(&mut lanes, Lane::of(step.giver))?;
+            for waker in step.wakers.iter() {
+                add(&mut lanes, Lane::Task(*waker))?;
             }
         }
         Ok(lanes)
     }
 
     // The bars of a page whose rows stand between these heights. Who still waits then is kept for the next.
-    fn bars(
-        &mut self,
-        events: &[Event<'_>],
-        first: u64,
-        last: u64,
-    ) -> Result<Vec<Bar>, AllocError> {
+    fn bars(&mut self, steps: &[Step], first: u64, last: u64) -> Result<Vec<Bar>, AllocError> {
         let mut bars = Vec::new(self.alloc);
         let mut y = first;
         for waiting in self.waits.iter_mut() {
             waiting.from = first.saturating_sub(ROW / 2);
         }
-        for event in events {
-            self.wait(event, y, &mut bars)?;
-            y = y.saturating_add(height_of(event));
+        for step in steps {
+            self.wait(step, y, &mut bars)?;
+            y = y.saturating_add(height_of(step));
         }
         for waiting in self.waits.iter() {
             bars.push(Bar {
@@ -275,12 +213,12 @@ impl Pages {
         Ok(bars)
     }
 
-    // Notes who waits after a line, and whose wait it ends.
-    fn wait(&mut self, event: &Event<'_>, y: u64, bars: &mut Vec<Bar>) -> Result<(), AllocError> {
-        match Giver::of(event.line) {
+    // Notes who waits after a step, and whose wait it ends.
+    fn wait(&mut self, step: &Step, y: u64, bars: &mut Vec<Bar>) -> Result<(), AllocError> {
+        match step.giver {
             Giver::Task { request, waker } => {
                 self.end(y, bars, Over::Request(request))?;
-                if event.answer == "Pending" {
+                if step.is_pending {
                     self.waits.push(Waiting {
                         request,
                         waker,
@@ -288,15 +226,13 @@ impl Pages {
                     })?;
                 }
             }
-            Giver::Dropper { request } => self.end(y, bars, Over::Request(request))?,
-            Giver::Caller => {}
+            Giver::Dropper(request) => self.end(y, bars, Over::Request(request))?,
+            Giver::Starter(_) | Giver::Caller => {}
         }
         let mut at = y.saturating_add(ANSWER);
-        for waker in event.wakers.split(' ') {
-            if let Some(waker) = number(waker) {
-                at = at.saturating_add(WAKE);
-                self.end(at, bars, Over::Waker(waker))?;
-            }
+        for waker in step.wakers.iter() {
+            at = at.saturating_add(WAKE);
+            self.end(at, bars, Over::Waker(*waker))?;
         }
         Ok(())
     }
@@ -319,17 +255,21 @@ impl Pages {
         Ok(())
     }
 
+    // Says with which line a page begins, unless it is the first.
+    fn from(&mut self, line: u64) -> io::Result<()> {
+        if self.top == 0 {
+            return Ok(());
+        }
+        let y = self.top.saturating_sub(4);
+        writeln!(
+            self.body,
+            "<text class=\"from\" x=\"8\" y=\"{y}\">from line {line}</text>"
+        )
+    }
+
     // Draws the lanes, down to this height, and their names.
     fn head(&mut self, name: &str, lanes: &[Lane], last: u64) -> Result<(), Stopped> {
         let top = self.top;
-        if top > 0 {
-            let y = top.saturating_sub(4);
-            writeln!(
-                self.body,
-                "<text class=\"from\" x=\"8\" y=\"{y}\">from line {}</text>",
-                self.line
-            )?;
-        }
         let (below, middle) = (top.saturating_add(36), top.saturating_add(25));
         writeln!(
             self.body,
@@ -367,23 +307,23 @@ impl Pages {
         Ok(())
     }
 
-    // Draws a line at this height.
-    fn row(&mut self, event: &Event<'_>, lanes: &[Lane], y: u64) -> Result<(), Stopped> {
+    // Draws a step at this height.
+    fn row(&mut self, step: &Step, lanes: &[Lane], y: u64) -> Result<(), Stopped> {
         let (above, below) = (y.saturating_sub(5), y.saturating_add(14));
-        let x = x_of(lanes, Giver::of(event.line).lane());
+        let x = x_of(lanes, Lane::of(step.giver));
         let text = OBJECT.saturating_add(12);
         writeln!(
             self.body,
             "<text class=\"number\" x=\"44\" y=\"{above}\" text-anchor=\"end\">{}</text>",
-            self.line
+            step.number
         )?;
         write!(self.body, "<text x=\"{text}\" y=\"{above}\">")?;
-        told(event.line, &mut self.body)?;
+        told(step.line.as_str(), &mut self.body)?;
         write!(
             self.body,
             "</text><text class=\"answer\" x=\"{text}\" y=\"{below}\">"
         )?;
-        told(event.answer, &mut self.body)?;
+        told(step.answer.as_str(), &mut self.body)?;
         writeln!(self.body, "</text>")?;
         writeln!(
             self.body,
@@ -391,30 +331,28 @@ impl Pages {
             OBJECT.saturating_add(3)
         )?;
         let mut at = y.saturating_add(ANSWER);
-        for waker in event.wakers.split(' ') {
-            if let Some(waker) = number(waker) {
-                at = at.saturating_add(WAKE);
-                let to = x_of(lanes, Lane::Task(waker)).saturating_sub(6);
-                writeln!(
-                    self.body,
-                    "<path class=\"wake\" d=\"M{} {at}H{to}\" marker-end=\"url(#head)\"/>",
-                    LANES.saturating_sub(120)
-                )?;
-                writeln!(
-                    self.body,
-                    "<text x=\"{}\" y=\"{}\" text-anchor=\"end\">wakes {waker}</text>",
-                    LANES.saturating_sub(126),
-                    at.saturating_add(4)
-                )?;
-            }
+        for waker in step.wakers.iter() {
+            at = at.saturating_add(WAKE);
+            let to = x_of(lanes, Lane::Task(*waker)).saturating_sub(6);
+            writeln!(
+                self.body,
+                "<path class=\"wake\" d=\"M{} {at}H{to}\" marker-end=\"url(#head)\"/>",
+                LANES.saturating_sub(120)
+            )?;
+            writeln!(
+                self.body,
+                "<text x=\"{}\" y=\"{}\" text-anchor=\"end\">wakes {waker}</text>",
+                LANES.saturating_sub(126),
+                at.saturating_add(4)
+            )?;
         }
         Ok(())
     }
 }
 
 // How high a row is.
-fn height_of(event: &Event<'_>) -> u64 {
-    let count = event.wakers.split(' ').filter_map(number).count() as u64;
+fn height_of(step: &Step) -> u64 {
+    let count = step.wakers.len() as u64;
     ROW.saturating_add(count.saturating_mul(WAKE))
 }
 

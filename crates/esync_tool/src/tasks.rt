@@ -4,24 +4,28 @@ use crate::by_line::ByLine;
 use crate::inputs::{hint, read_all, reasoned, status, text_of, with_reason};
 use crate::judged::{check, check_as_json, unjudged_as_json};
 use crate::source::Keeping;
+use crate::steps::Steps;
 use crate::stopped::Stopped;
 use crate::svg::draw;
 use clap::ArgMatches;
-use esync_ends::try_ends;
+use esync_ends::gauge::Gauge;
+use esync_ends::{Progress, Reaches, try_ends};
 use esync_forms::form::{Door, Doors};
 use esync_script::{play_buffered, play_script, play_text};
 use esync_shared::compare::compare;
 use esync_shared::play::play;
 use esync_words::beside::Beside;
-use esync_words::diagram::{Diagram, Pages};
+use esync_words::diagram::Diagram;
 use esync_words::explain::Explained;
 use esync_words::fault::Fault;
+use esync_words::pages::Pages;
 use esync_words::play::{Replies, Telling};
 use std::alloc::Global;
 use std::fmt::{self, Display, Formatter};
 use std::fs::{File, Files};
 use std::io::{self, Read, Write};
 use std::sync::Wait;
+use std::time::Clock;
 
 /// Does what the command of this name asks for.
 pub fn perform<R, I, O, N, E>(
@@ -32,7 +36,7 @@ pub fn perform<R, I, O, N, E>(
     streams: &mut Streams<I, O, N, E>,
 ) -> Result<u8, Stopped>
 where
-    R: Files + Wait,
+    R: Files + Wait + Clock,
     I: Read + Drop,
     O: Write + Drop,
     N: Write + Drop,
@@ -43,7 +47,7 @@ where
         "run" if matches.get_flag("beside") => tell(rt, alloc, &mut Beside {}, file, streams),
         "run" => tell(rt, alloc, &mut Replies {}, file, streams),
         "draw" if matches.get_str("format") == Some("markdown") => {
-            tell(rt, alloc, &mut Pages {}, file, streams)
+            tell(rt, alloc, &mut Pages::new(), file, streams)
         }
         "draw" if matches.get_str("format") == Some("svg") => {
             with_files(rt, alloc, Work::Draw, matches, streams)
@@ -170,7 +174,7 @@ fn explained_of<S: Read + Drop, O: Write + Drop, N: Write + Drop>(
 ) -> Result<(), Stopped> {
     let mut kept = Keeping::new(alloc, source);
     let mut answers = ByLine::new(alloc, output)?;
-    let mut explained = Explained::new(alloc, ByLine::new(alloc, notes)?);
+    let mut explained = Explained::new(ByLine::new(alloc, notes)?);
     let outcome = play_script(alloc, &mut explained, &mut kept, &mut answers);
     with_reason(alloc, outcome, &kept)
 }
@@ -197,7 +201,7 @@ fn with_files<R, I, O, N, E>(
     streams: &mut Streams<I, O, N, E>,
 ) -> Result<u8, Stopped>
 where
-    R: Files + Wait,
+    R: Files + Wait + Clock,
     I: Read + Drop,
     O: Write + Drop,
     N: Drop,
@@ -213,11 +217,13 @@ where
             input,
             output,
             errors,
+            is_watched,
             ..
         } = streams;
         let heading = are_counted.then_some(*name);
         let mut told = Vec::new(alloc);
-        let outcome = gone_through(rt, alloc, what, name, input, &mut told);
+        let gauge = Gauge::new(rt, &mut *errors, *is_watched);
+        let outcome = gone_through(rt, alloc, what, name, input, gauge, &mut told);
         if let Err(error) = write_told(heading, what, &told, output) {
             return Ok(status(name, Err(Stopped::from(error)), errors).max(greatest));
         }
@@ -266,19 +272,21 @@ impl Display for Counts {
 
 // Reads a whole file, and does it with its text: whether it holds, and what is told of it. As JSON it is also told why a file has no
 // verdict.
-fn gone_through<R, I>(
+fn gone_through<R, I, P>(
     rt: &R,
     alloc: Global,
     what: Work,
     name: &str,
     input: &mut I,
+    progress: P,
     told: &mut Vec<u8>,
 ) -> Result<bool, Stopped>
 where
     R: Files + Wait,
     I: Read + Drop,
+    P: Progress,
 {
-    let outcome = judged(rt, alloc, what, name, input, told);
+    let outcome = judged(rt, alloc, what, name, input, progress, told);
     if outcome.is_err() {
         // (no line is told that was cut for want of memory)
         let cut = told.iter().rev().take_while(|byte| **byte != b'\n').count();
@@ -294,17 +302,19 @@ where
     outcome
 }
 
-fn judged<R, I>(
+fn judged<R, I, P>(
     rt: &R,
     alloc: Global,
     what: Work,
     name: &str,
     input: &mut I,
+    progress: P,
     told: &mut Vec<u8>,
 ) -> Result<bool, Stopped>
 where
     R: Files + Wait,
     I: Read + Drop,
+    P: Progress,
 {
     let bytes = read_all(rt, alloc, name, input)?;
     let text = text_of(alloc, &bytes)?;
@@ -313,7 +323,9 @@ where
         Work::CheckWithReasons => check(alloc, text, true, told),
         Work::CheckAsJson => check_as_json(alloc, name, text, told),
         Work::Draw => drawn(alloc, text, told),
-        Work::Ends(limit) => try_ends(alloc, text, limit, told).map_err(Stopped::from),
+        Work::Ends(limit) => {
+            try_ends(alloc, Reaches {}, progress, text, limit, told).map_err(Stopped::from)
+        }
         Work::Shared => played(rt, alloc, text, told),
         Work::Compare => compared(rt, alloc, text, told),
     };
@@ -344,12 +356,12 @@ fn write_told<O: Write>(
 
 // Plays a script, and draws what was played of it. Where there is no memory for all of that, nothing is drawn.
 fn drawn(alloc: Global, text: &str, output: &mut Vec<u8>) -> Result<bool, Stopped> {
-    let mut replies = Vec::new(alloc);
-    let played = play_text(alloc, &mut Replies {}, text, &mut replies);
+    let mut steps = Steps::new(alloc);
+    let played = play_text(&mut steps, text, &mut Vec::new(alloc));
     if matches!(played, Err(Fault::NotACommand(1) | Fault::OutOfMemory)) {
         played?;
     }
-    let outcome = draw(alloc, text, str::from_utf8(&replies).unwrap_or(""), output);
+    let outcome = draw(alloc, &steps, output);
     if outcome.is_err() {
         output.clear();
     }

@@ -13,9 +13,10 @@ use Rattle.esync_machine.specs.HistoriesLaws.{no_history, longer, good_run_of}
 use Rattle.esync_words.specs.declared.fault.Fault.{Fault}
 use Rattle.esync_words.specs.declared.fault.Fault.TheVariants.{NotACommand, InputOutput, OutOfMemory}
 use Rattle.esync_words.specs.Lines.{Source, IsRead, first_line, other_lines}
+use Rattle.esync_words.specs.Story.{Transcript}
 use Rattle.esync_words.specs.Words.{words_of}
 use Rattle.esync_words.specs.Commands.{says, named}
-use Rattle.esync_words.specs.Played.{IsJudged, Reads, AreSaid, told, Ends, Played, line_number, next_number}
+use Rattle.esync_words.specs.Played.{IsJudged, Reads, AreSaid, noted, told, Ends, Played, line_number, next_number}
 use Rattle.esync_words.proofs.Known.{appends_nothing, appends_kept, appends_more}
 
 true_or_false : (b : Bool) → (b ≡ true) ⊎ (b ≡ false)
@@ -55,29 +56,30 @@ same_length : {S C A W : Type 0} {X : Semantics S C A W} {old new : S} {cs : Lis
 same_length h = ap length h.answers.0 ∙ length-map h.steps (λ s. s.command) ∙ sym (ap length h.answers.1 ∙ length-map h.steps (λ s. s.reply))
 
 -- behind a fault that isn't told of a line, nothing is said of what is left
-pub ends_unjudged : {C A W : Type 0} (M : Meaning C A W) (command : List ℕ → Option C) (tells : ℕ → List ℕ → C → A → List ℕ) (n : ℕ) (rest : List ℕ) (fault : Fault) → (IsJudged (Err fault) → ⊥) → Ends M command tells n rest (Err fault)
-ends_unjudged M command tells n rest (NotACommand k) h = absurd (h tt)
-ends_unjudged M command tells n rest InputOutput h = tt
-ends_unjudged M command tells n rest OutOfMemory h = tt
+pub ends_unjudged : {C A W : Type 0} (M : Meaning C A W) (command : List ℕ → Option C) (T : Transcript C A) (n : ℕ) (rest : List ℕ) (fault : Fault) → (IsJudged (Err fault) → ⊥) → Ends M command T n rest (Err fault)
+ends_unjudged M command T n rest (NotACommand k) h = absurd (h tt)
+ends_unjudged M command T n rest InputOutput h = tt
+ends_unjudged M command T n rest OutOfMemory h = tt
 
-module _ {S C A W : Type 0} (X : Semantics S C A W) (command : List ℕ → Option C) (tells : ℕ → List ℕ → C → A → List ℕ) where
+module _ {S C A W : Type 0} (X : Semantics S C A W) (command : List ℕ → Option C) (T : Transcript C A) where
   -- the commands so far, and what was written
-  pub record SoFar (old now : S) (n : ℕ) (left : Option (List ℕ)) (number : ℕ) (rest : Option (List ℕ)) (before after : Option (List ℕ)) : Type 0 where
+  pub record SoFar (was is : T.Notes) (old now : S) (n : ℕ) (left : Option (List ℕ)) (number : ℕ) (rest : Option (List ℕ)) (before after : Option (List ℕ)) : Type 0 where
     pub lines : List (List ℕ)
     pub commands : List C
     pub replies : List A
-    pub said : AreSaid X.meaning command tells lines commands
+    pub said : AreSaid X.meaning command T lines commands
     pub history : History X old commands replies now
     pub read : IfSome left (λ text. (r : List ℕ) × (rest ≡ Some r) × Reads text lines r)
     pub numbered : number ≡ line_number n lines
-    pub printed : Appends before after (told X.meaning command tells n lines commands replies)
+    pub printed : Appends before after (told X.meaning command T was n lines commands replies)
+    pub remembered : is ≡ noted X.meaning command T was commands replies
 
   read_none : (left : Option (List ℕ)) → IfSome left (λ text. (r : List ℕ) × (left ≡ Some r) × Reads text [] r)
   read_none None = tt
   read_none (Some text) = (text, refl, refl)
 
-  pub nothing_so_far : (old : S) (n : ℕ) (left before : Option (List ℕ)) → SoFar old old n left n left before before
-  nothing_so_far old n left before = record {
+  pub nothing_so_far : (was : T.Notes) (old : S) (n : ℕ) (left before : Option (List ℕ)) → SoFar was was old old n left n left before before
+  nothing_so_far was old n left before = record {
     lines = [];
     commands = [];
     replies = [];
@@ -86,23 +88,31 @@ module _ {S C A W : Type 0} (X : Semantics S C A W) (command : List ℕ → Opti
     read = read_none left;
     numbered = refl;
     printed = appends_nothing before;
+    remembered = refl;
   }
 
-  said_more : (ls : List (List ℕ)) (cs : List C) (l : List ℕ) (c : C) → AreSaid X.meaning command tells ls cs → command l ≡ Some c → AreSaid X.meaning command tells (ls ++ l ∷ []) (cs ++ c ∷ [])
+  said_more : (ls : List (List ℕ)) (cs : List C) (l : List ℕ) (c : C) → AreSaid X.meaning command T ls cs → command l ≡ Some c → AreSaid X.meaning command T (ls ++ l ∷ []) (cs ++ c ∷ [])
   said_more [] [] l c h e = (e, tt)
   said_more (m ∷ ls) (d ∷ cs) l c h e = (h.0, said_more ls cs l c h.1 e)
   said_more [] (d ∷ cs) l c h e = absurd h
   said_more (m ∷ ls) [] l c h e = absurd h
 
-  told_more : (n : ℕ) (ls : List (List ℕ)) (cs : List C) (as' : List A) (l : List ℕ) (c : C) (a : A) → AreSaid X.meaning command tells ls cs → length cs ≡ length as' → told X.meaning command tells n (ls ++ l ∷ []) (cs ++ c ∷ []) (as' ++ a ∷ []) ≡ told X.meaning command tells n ls cs as' ++ tells (next_number (line_number n ls)) l c a
-  told_more n [] [] [] l c a h e = append-nil (tells (next_number n) l c a)
-  told_more n (m ∷ ls) (d ∷ cs) (b ∷ as') l c a h e =
+  told_more : (was : T.Notes) (n : ℕ) (ls : List (List ℕ)) (cs : List C) (as' : List A) (l : List ℕ) (c : C) (a : A) → AreSaid X.meaning command T ls cs → length cs ≡ length as' → told X.meaning command T was n (ls ++ l ∷ []) (cs ++ c ∷ []) (as' ++ a ∷ []) ≡ told X.meaning command T was n ls cs as' ++ T.tells (noted X.meaning command T was cs as') (next_number (line_number n ls)) l c a
+  told_more was n [] [] [] l c a h e = append-nil (T.tells was (next_number n) l c a)
+  told_more was n (m ∷ ls) (d ∷ cs) (b ∷ as') l c a h e =
       let k = next_number n in
-      ap (λ xs. tells k m d b ++ xs) (told_more k ls cs as' l c a h.1 (omega (arith, e))) ∙ sym (append_assoc (tells k m d b) (told X.meaning command tells k ls cs as') (tells (next_number (line_number k ls)) l c a))
-  told_more n [] [] (b ∷ as') l c a h e = absurd cc
-  told_more n (m ∷ ls) (d ∷ cs) [] l c a h e = absurd cc
-  told_more n [] (d ∷ cs) as' l c a h e = absurd h
-  told_more n (m ∷ ls) [] as' l c a h e = absurd h
+      let then = T.next_notes was d b in
+      ap (λ xs. T.tells was k m d b ++ xs) (told_more then k ls cs as' l c a h.1 (omega (arith, e))) ∙ sym (append_assoc (T.tells was k m d b) (told X.meaning command T then k ls cs as') (T.tells (noted X.meaning command T then cs as') (next_number (line_number k ls)) l c a))
+  told_more was n [] [] (b ∷ as') l c a h e = absurd cc
+  told_more was n (m ∷ ls) (d ∷ cs) [] l c a h e = absurd cc
+  told_more was n [] (d ∷ cs) as' l c a h e = absurd h
+  told_more was n (m ∷ ls) [] as' l c a h e = absurd h
+
+  noted_more : (was : T.Notes) (cs : List C) (as' : List A) (c : C) (a : A) → length cs ≡ length as' → noted X.meaning command T was (cs ++ c ∷ []) (as' ++ a ∷ []) ≡ T.next_notes (noted X.meaning command T was cs as') c a
+  noted_more was [] [] c a e = refl
+  noted_more was (d ∷ cs) (b ∷ as') c a e = noted_more (T.next_notes was d b) cs as' c a (omega (arith, e))
+  noted_more was [] (b ∷ as') c a e = absurd cc
+  noted_more was (d ∷ cs) [] c a e = absurd cc
 
   read_more : (left rest : Option (List ℕ)) (ls : List (List ℕ)) (s : Source) → IfSome left (λ text. (r : List ℕ) × (rest ≡ Some r) × Reads text ls r) → IfSome rest (λ text. IsRead 256 text true s) → length s.line ≤ 256 → IfSome left (λ text. (r : List ℕ) × (s.left ≡ Some r) × Reads text (ls ++ s.line ∷ []) r)
   read_more None rest ls s h i l = tt
@@ -112,8 +122,8 @@ module _ {S C A W : Type 0} (X : Semantics S C A W) (command : List ℕ → Opti
       (other_lines h.0, w.1, rw w.0 (reads_more text ls h.0 h.2 j.0))
 
   -- another line was read, and is a command, which the machine has answered
-  pub more_so_far : (old mid now : S) (n : ℕ) (left : Option (List ℕ)) (number : ℕ) (rest before after written : Option (List ℕ)) (s : Source) (line : List ℕ) (c : C) (a : A) → SoFar old mid n left number rest before after → s.number ≡ next_number number → IfSome rest (λ text. IsRead 256 text true s) → line ≡ s.line → length line ≤ 256 → command line ≡ Some c → Turn X mid c a now → Appends after written (tells s.number line c a) → SoFar old now n left s.number s.left before written
-  more_so_far old mid now n left number rest before after written s line c a f k i e l is_said turn p = record {
+  pub more_so_far : (was is then : T.Notes) (old mid now : S) (n : ℕ) (left : Option (List ℕ)) (number : ℕ) (rest before after written : Option (List ℕ)) (s : Source) (line : List ℕ) (c : C) (a : A) → SoFar was is old mid n left number rest before after → s.number ≡ next_number number → IfSome rest (λ text. IsRead 256 text true s) → line ≡ s.line → length line ≤ 256 → command line ≡ Some c → Turn X mid c a now → Appends after written (T.tells is s.number line c a) → then ≡ T.next_notes is c a → SoFar was then old now n left s.number s.left before written
+  more_so_far was is then old mid now n left number rest before after written s line c a f k i e l is_said turn p m = record {
     lines = f.lines ++ line ∷ [];
     commands = f.commands ++ c ∷ [];
     replies = f.replies ++ a ∷ [];
@@ -121,11 +131,12 @@ module _ {S C A W : Type 0} (X : Semantics S C A W) (command : List ℕ → Opti
     history = longer f.history turn;
     read = rw e (read_more left rest f.lines s f.read i (rw e at l));
     numbered = k ∙ rw f.numbered (sym (line_number-more n f.lines line));
-    printed = rw (told_more n f.lines f.commands f.replies line c a f.said (same_length f.history), ← f.numbered, ← k) (appends_more before after written _ _ f.printed p);
+    printed = rw (told_more was n f.lines f.commands f.replies line c a f.said (same_length f.history), ← f.numbered, ← k, ← f.remembered) (appends_more before after written _ _ f.printed p);
+    remembered = m ∙ rw (noted_more was f.commands f.replies c a (same_length f.history), ← f.remembered) refl;
   }
 
-  pub kept_so_far : (old now : S) (n : ℕ) (left : Option (List ℕ)) (number : ℕ) (rest before after written : Option (List ℕ)) → SoFar old now n left number rest before after → Keeps after written → SoFar old now n left number rest before written
-  kept_so_far old now n left number rest before after written f k = record {
+  pub kept_so_far : (was is : T.Notes) (old now : S) (n : ℕ) (left : Option (List ℕ)) (number : ℕ) (rest before after written : Option (List ℕ)) → SoFar was is old now n left number rest before after → Keeps after written → SoFar was is old now n left number rest before written
+  kept_so_far was is old now n left number rest before after written f k = record {
     lines = f.lines;
     commands = f.commands;
     replies = f.replies;
@@ -134,15 +145,16 @@ module _ {S C A W : Type 0} (X : Semantics S C A W) (command : List ℕ → Opti
     read = f.read;
     numbered = f.numbered;
     printed = appends_kept before after written _ f.printed k;
+    remembered = f.remembered;
   }
 
-  ended : (n : ℕ) (left rest : Option (List ℕ)) (ls : List (List ℕ)) (outcome : Result (Unit {0}) Fault) → IfSome left (λ text. (r : List ℕ) × (rest ≡ Some r) × Reads text ls r) → ((r : List ℕ) → rest ≡ Some r → Ends X.meaning command tells (line_number n ls) r outcome) → IfSome left (λ text. (r : List ℕ) × Reads text ls r × Ends X.meaning command tells (line_number n ls) r outcome)
+  ended : (n : ℕ) (left rest : Option (List ℕ)) (ls : List (List ℕ)) (outcome : Result (Unit {0}) Fault) → IfSome left (λ text. (r : List ℕ) × (rest ≡ Some r) × Reads text ls r) → ((r : List ℕ) → rest ≡ Some r → Ends X.meaning command T (line_number n ls) r outcome) → IfSome left (λ text. (r : List ℕ) × Reads text ls r × Ends X.meaning command T (line_number n ls) r outcome)
   ended n None rest ls outcome h e = tt
   ended n (Some text) rest ls outcome h e = (h.0, h.2, e h.0 h.1)
 
   -- the script ends so
-  pub ends_so : OwedAreIdle X → (old now : S) (n : ℕ) (left : Option (List ℕ)) (number : ℕ) (rest before after : Option (List ℕ)) (outcome : Result (Unit {0}) Fault) → SoFar old now n left number rest before after → ((r : List ℕ) → rest ≡ Some r → Ends X.meaning command tells number r outcome) → Played X.meaning command tells (X.object old) (X.registrations old) n left before after outcome
-  ends_so law old now n left number rest before after outcome f e = record {
+  pub ends_so : OwedAreIdle X → (was is : T.Notes) (old now : S) (n : ℕ) (left : Option (List ℕ)) (number : ℕ) (rest before after : Option (List ℕ)) (outcome : Result (Unit {0}) Fault) → SoFar was is old now n left number rest before after → ((r : List ℕ) → rest ≡ Some r → Ends X.meaning command T number r outcome) → Played X.meaning command T was is (X.object old) (X.registrations old) n left before after outcome
+  ends_so law was is old now n left number rest before after outcome f e = record {
     lines = f.lines;
     commands = f.commands;
     replies = f.replies;
@@ -150,13 +162,14 @@ module _ {S C A W : Type 0} (X : Semantics S C A W) (command : List ℕ → Opti
     registered2 = X.registrations now;
     said = f.said;
     run = good_run_of law f.history;
-    read = ended n left rest f.lines outcome f.read (λ r g. subst (λ k. Ends X.meaning command tells k r outcome) f.numbered (e r g));
+    read = ended n left rest f.lines outcome f.read (λ r g. subst (λ k. Ends X.meaning command T k r outcome) f.numbered (e r g));
     printed = λ _. f.printed;
+    remembered = λ _. f.remembered;
   }
 
   -- the last reply was told in part, or not at all
-  pub ends_untold : OwedAreIdle X → (old mid now : S) (n : ℕ) (left : Option (List ℕ)) (number : ℕ) (rest before after written : Option (List ℕ)) (s : Source) (line : List ℕ) (c : C) (a : A) (fault : Fault) → SoFar old mid n left number rest before after → IfSome rest (λ text. IsRead 256 text true s) → line ≡ s.line → length line ≤ 256 → command line ≡ Some c → Turn X mid c a now → (IsJudged (Err fault) → ⊥) → Played X.meaning command tells (X.object old) (X.registrations old) n left before written (Err fault)
-  ends_untold law old mid now n left number rest before after written s line c a fault f i e l is_said turn u = record {
+  pub ends_untold : OwedAreIdle X → (was is then : T.Notes) (old mid now : S) (n : ℕ) (left : Option (List ℕ)) (number : ℕ) (rest before after written : Option (List ℕ)) (s : Source) (line : List ℕ) (c : C) (a : A) (fault : Fault) → SoFar was is old mid n left number rest before after → IfSome rest (λ text. IsRead 256 text true s) → line ≡ s.line → length line ≤ 256 → command line ≡ Some c → Turn X mid c a now → (IsJudged (Err fault) → ⊥) → Played X.meaning command T was then (X.object old) (X.registrations old) n left before written (Err fault)
+  ends_untold law was is then old mid now n left number rest before after written s line c a fault f i e l is_said turn u = record {
     lines = f.lines ++ line ∷ [];
     commands = f.commands ++ c ∷ [];
     replies = f.replies ++ a ∷ [];
@@ -164,8 +177,9 @@ module _ {S C A W : Type 0} (X : Semantics S C A W) (command : List ℕ → Opti
     registered2 = X.registrations now;
     said = said_more f.lines f.commands line c f.said is_said;
     run = good_run_of law (longer f.history turn);
-    read = ended n left s.left (f.lines ++ line ∷ []) (Err fault) (rw e (read_more left rest f.lines s f.read i (rw e at l))) (λ r g. ends_unjudged X.meaning command tells _ r fault u);
+    read = ended n left s.left (f.lines ++ line ∷ []) (Err fault) (rw e (read_more left rest f.lines s f.read i (rw e at l))) (λ r g. ends_unjudged X.meaning command T _ r fault u);
     printed = λ j. absurd (u j);
+    remembered = λ j. absurd (u j);
   }
 
 -- What is left of a script is this, and a line was read of it, or none.

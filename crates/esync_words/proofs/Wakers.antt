@@ -1,12 +1,14 @@
 -- Wakers, printed one after another.
-use Rattle.std.proofs.Common.{◌≡◌, ℕ, ◌+◌, ◌<◌, List, [], ◌∷◌, ◌++◌, Option, Some, None, length, take, get_or, refl, ap, append_assoc, append-nil}
-use Rattle.std.specs.Prelude.{IsTrue, is_none, ◌↔◌}
-use Rattle.std.specs.List.{list_all}
+use Rattle.std.proofs.Common.{◌≡◌, ℕ, ◌+◌, ◌<◌, List, [], ◌∷◌, ◌++◌, Option, Some, None, length, take, get_or, nat_eq, refl, ap, append_assoc, append-nil}
+use Rattle.std.specs.Prelude.{IsTrue, is_none, ◌↔◌, ◌||◌}
+use Rattle.std.specs.List.{list_all, list_any}
+use Rattle.std.specs.Option.{option_eq}
 use Rattle.std.specs.Io.KnownBytes.{Appends}
 use Rattle.std.proofs.lemmas.List.{take_more}
 use Rattle.esync_base.specs.Rows.{items_of}
 use Rattle.esync_words.proofs.Known.{appends_more}
 use Rattle.esync_words.specs.Text.{each_text}
+use Rattle.esync_words.specs.Diagram.{is_woken}
 
 items_of-append : {A : Type 0} → (xs ys : List (Option A)) → items_of (xs ++ ys) ≡ items_of xs ++ items_of ys
 items_of-append [] ys = refl
@@ -41,3 +43,9 @@ pub free_row : (row : List (Option ℕ)) → IsTrue (list_all is_none row) ↔ (
 free_row [] = (λ h. refl, λ h. refl)
 free_row (None ∷ row) = free_row row
 free_row (Some w ∷ row) = (λ h. absurd cc, λ h. absurd cc)
+
+-- a place of the row has a waker that is equal to this
+pub any_waker : (row : List (Option ℕ)) (w : ℕ) → list_any (λ place. option_eq nat_eq place (Some w)) row ≡ is_woken (items_of row) w
+any_waker [] w = refl
+any_waker (Some v ∷ row) w = ap (λ b. nat_eq v w || b) (any_waker row w)
+any_waker (None ∷ row) w = any_waker row w

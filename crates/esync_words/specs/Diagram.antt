@@ -1,26 +1,34 @@
 -- The text of a picture, in the language of Mermaid.
-use Rattle.std.specs.Prelude.{ℕ, List, ◌∷◌, [], ◌++◌, codes, decimal, ◌%◌, ◌==◌, if◌then◌else◌}
+use Rattle.std.specs.Prelude.{ℕ, List, ◌∷◌, [], ◌++◌, Option, Some, None, Bool, codes, decimal, ◌%◌, ◌==◌, if◌then◌else◌, slice_set}
+use Rattle.std.proofs.Math.ListN.{replicate}
+use Rattle.std.specs.List.{list_any}
+use Rattle.esync_base.specs.Rows.{items_of}
 use Rattle.esync_machine.specs.declared.primitive.Answer.{Answer}
 use Rattle.esync_machine.specs.declared.primitive.Answer.TheVariants.{Done, Pending, NoSuch, NoMemory, Gives}
+use Rattle.esync_machine.specs.Numbers.{swept}
 use Rattle.esync_words.specs.declared.play.Giver.{Giver}
-use Rattle.esync_words.specs.declared.play.Giver.TheVariants.{Task, Dropper, Caller}
+use Rattle.esync_words.specs.declared.play.Giver.TheVariants.{Task, Starter, Dropper, Caller}
+use Rattle.esync_words.specs.Story.{Story, without_notes}
 use Rattle.esync_words.specs.Text.{answer_text, each_text}
 
 -- the lane of who gives a command
 abbrev pub lane_text : Giver → List ℕ
-lane_text (Task w) = codes "task_" ++ decimal w
+lane_text (Task r w) = codes "task_" ++ decimal w
+lane_text (Starter r) = codes "caller"
 lane_text (Dropper r) = codes "caller"
 lane_text Caller = codes "caller"
 
 -- the arrow of a command
 abbrev pub arrow_text : Giver → List ℕ
-arrow_text (Task w) = codes "->>object: "
+arrow_text (Task r w) = codes "->>object: "
+arrow_text (Starter r) = codes "->>object: "
 arrow_text Caller = codes "->>object: "
 arrow_text (Dropper r) = codes "-xobject: "
 
 -- what it says: the line, but for the word that drops a request, which the language has as a word of its own
 abbrev pub said_text : Giver → List ℕ → List ℕ
-said_text (Task w) line = line
+said_text (Task r w) line = line
+said_text (Starter r) line = line
 said_text Caller line = line
 said_text (Dropper r) line = codes "drop " ++ decimal r
 
@@ -59,6 +67,10 @@ head_text line = (codes "sequenceDiagram" ++ 10 ∷ []) ++ participant_text line
 abbrev pub step_text : {A : Type 0} → (A → List ℕ) → ℕ → List ℕ → Giver → Answer A → List ℕ → List ℕ
 step_text text number line giver answer wakers = ((command_text giver number line ++ reply_text giver (answer_text text answer)) ++ wait_text giver answer) ++ each_text wake_text wakers
 
+-- a picture
+abbrev pub diagram_story : Story
+diagram_story = without_notes head_text (λ A text number line giver answer wakers. step_text text number line giver answer wakers) []
+
 -- a fence, which Markdown has around a picture
 abbrev pub fence_text : List ℕ
 fence_text = codes "```mermaid" ++ 10 ∷ []
@@ -66,10 +78,70 @@ fence_text = codes "```mermaid" ++ 10 ∷ []
 abbrev pub fence_end : List ℕ
 fence_end = codes "```" ++ 10 ∷ []
 
--- every page but the first begins so, with the line of this number
-abbrev pub page_text : ℕ → List ℕ
-page_text number = codes "```\n\nFrom line " ++ decimal number ++ codes ":\n\n```mermaid\nsequenceDiagram\n    participant object\n"
+-- What a document notes of the lines before.
+pub record Noted : Type 0 where
+  -- line 1
+  pub name : List ℕ
+  -- for each number of a request, the waker with which it waits
+  pub waits : List (Option ℕ)
+
+-- line 1 alone: no request waits
+abbrev pub noted_first : List ℕ → Noted
+noted_first line = record { name = line; waits = replicate 16 None }
+
+-- a poll that is answered Pending waits, with its waker
+abbrev pub waker_if_pending : {A : Type 0} → ℕ → Answer A → Option ℕ
+waker_if_pending w Pending = Some w
+waker_if_pending w Done = None
+waker_if_pending w NoSuch = None
+waker_if_pending w NoMemory = None
+waker_if_pending w (Gives a) = None
+
+-- who waits behind a command: of a request that was polled its last poll says so, and one that was started or dropped doesn't
+abbrev pub waits_behind : {A : Type 0} → List (Option ℕ) → Giver → Answer A → List (Option ℕ)
+waits_behind waits (Task r w) answer = slice_set waits r (waker_if_pending w answer)
+waits_behind waits (Starter r) Done = slice_set waits r None
+waits_behind waits (Starter r) Pending = waits
+waits_behind waits (Starter r) NoSuch = waits
+waits_behind waits (Starter r) NoMemory = waits
+waits_behind waits (Starter r) (Gives a) = waits
+waits_behind waits (Dropper r) answer = slice_set waits r None
+waits_behind waits Caller answer = waits
+
+-- one of these wakers is equal to this
+abbrev pub is_woken : List ℕ → ℕ → Bool
+is_woken wakers w = list_any (λ v. v == w) wakers
+
+-- who still waits, once these wakers were handed out
+abbrev pub waits_still : List (Option ℕ) → List ℕ → List (Option ℕ)
+waits_still waits wakers = swept (is_woken wakers) waits
+
+abbrev pub noted_next : {A : Type 0} → Noted → Giver → Answer A → List ℕ → Noted
+noted_next noted giver answer wakers = record { name = noted.name; waits = waits_still (waits_behind noted.waits giver answer) wakers }
+
+-- the note of a request that waits
+abbrev pub waits_text : ℕ → List ℕ
+waits_text w = codes "    Note over task_" ++ decimal w ++ (codes ": waits" ++ 10 ∷ [])
+
+-- between two pages, of which the second begins with the line of this number
+abbrev pub between_text : ℕ → List ℕ
+between_text number = codes "```\n\nFrom line " ++ decimal number ++ codes ":\n\n"
+
+-- every page but the first begins so: with line 1, and a note for each request that waits
+abbrev pub page_text : ℕ → Noted → List ℕ
+page_text number noted = ((between_text number ++ fence_text) ++ head_text noted.name) ++ each_text waits_text (items_of noted.waits)
 
 -- a page has at most 50 lines
-abbrev pub break_text : ℕ → List ℕ
-break_text number = if number % 50 == 1 then page_text number else []
+abbrev pub break_text : ℕ → Noted → List ℕ
+break_text number noted = if number % 50 == 1 then page_text number noted else []
+
+-- a document of pages
+abbrev pub pages_story : Story
+pages_story = record {
+  Notes = Noted;
+  head = λ line. fence_text ++ head_text line;
+  first_notes = noted_first;
+  tells = λ A text noted number line giver answer wakers. break_text number noted ++ step_text text number line giver answer wakers;
+  next_notes = λ A noted giver answer wakers. noted_next noted giver answer wakers;
+  foot = fence_end;
+}

@@ -9,7 +9,7 @@ pub mod Beside
 pub mod Commands
 pub mod CommandsLaws
 pub mod Text
-pub mod Tells
+pub mod Story
 pub mod Diagram
 pub mod Explained
 pub mod Played

@@ -5,6 +5,7 @@ use Rattle.esync_machine.specs.Runs.{Meaning, GoodRun}
 use Rattle.esync_words.specs.declared.fault.Fault.{Fault}
 use Rattle.esync_words.specs.declared.fault.Fault.TheVariants.{NotACommand, InputOutput, OutOfMemory}
 use Rattle.esync_words.specs.Lines.{first_line, other_lines}
+use Rattle.esync_words.specs.Story.{Story, Transcript}
 
 -- the script came to its end, or to a line that is no command
 abbrev pub IsJudged : Result (Unit {0}) Fault → Type 0
@@ -27,7 +28,7 @@ abbrev pub Reads : List ℕ → List (List ℕ) → List ℕ → Type 0
 Reads text [] rest = rest ≡ text
 Reads text (line ∷ lines) rest = (text ≡ [] → ⊥) × (line ≡ first_line text) × Reads (other_lines text) lines rest
 
-module _ {Command Reply Waker : Type 0} (M : Meaning Command Reply Waker) (command : List ℕ → Option Command) (tells : ℕ → List ℕ → Command → Reply → List ℕ) where
+module _ {Command Reply Waker : Type 0} (M : Meaning Command Reply Waker) (command : List ℕ → Option Command) (T : Transcript Command Reply) where
   -- each line says the command
   abbrev pub AreSaid : List (List ℕ) → List Command → Type 0
   AreSaid [] [] = Unit {0}
@@ -35,12 +36,18 @@ module _ {Command Reply Waker : Type 0} (M : Meaning Command Reply Waker) (comma
   AreSaid [] (c ∷ cs) = ⊥
   AreSaid (line ∷ lines) [] = ⊥
 
-  -- what is written of each line behind the first n, its command and its reply
-  abbrev pub told : ℕ → List (List ℕ) → List Command → List Reply → List ℕ
-  told n (line ∷ lines) (c ∷ cs) (a ∷ as') = tells (next_number n) line c a ++ told (next_number n) lines cs as'
-  told n [] cs as' = []
-  told n (line ∷ lines) [] as' = []
-  told n (line ∷ lines) (c ∷ cs) [] = []
+  -- what is noted behind these commands and their replies
+  abbrev pub noted : T.Notes → List Command → List Reply → T.Notes
+  noted was (c ∷ cs) (a ∷ as') = noted (T.next_notes was c a) cs as'
+  noted was [] as' = was
+  noted was (c ∷ cs) [] = was
+
+  -- what is written of each line behind the first n, its command and its reply, by what is noted of those before
+  abbrev pub told : T.Notes → ℕ → List (List ℕ) → List Command → List Reply → List ℕ
+  told was n (line ∷ lines) (c ∷ cs) (a ∷ as') = T.tells was (next_number n) line c a ++ told (T.next_notes was c a) (next_number n) lines cs as'
+  told was n [] cs as' = []
+  told was n (line ∷ lines) [] as' = []
+  told was n (line ∷ lines) (c ∷ cs) [] = []
 
   -- where a script ended so behind line n, of which this is left: at the end, or at the first line that is no command
   abbrev pub Ends : ℕ → List ℕ → Result (Unit {0}) Fault → Type 0
@@ -49,8 +56,9 @@ module _ {Command Reply Waker : Type 0} (M : Meaning Command Reply Waker) (comma
   Ends n rest (Err InputOutput) = Unit {0}
   Ends n rest (Err OutOfMemory) = Unit {0}
 
-  -- A script was played behind its first n lines, from this object, with these wakers registered.
-  pub record Played (old : M.Object) (registered : M.Registered) (n : ℕ) (left : Option (List ℕ)) (before after : Option (List ℕ)) (outcome : Result (Unit {0}) Fault) : Type 0 where
+  -- A script was played behind its first n lines, of which this was noted, from this object, with these wakers registered. At its end, or at
+  -- a line that is no command, this is noted.
+  pub record Played (was now : T.Notes) (old : M.Object) (registered : M.Registered) (n : ℕ) (left : Option (List ℕ)) (before after : Option (List ℕ)) (outcome : Result (Unit {0}) Fault) : Type 0 where
     pub lines : List (List ℕ)
     pub commands : List Command
     pub replies : List Reply
@@ -61,15 +69,17 @@ module _ {Command Reply Waker : Type 0} (M : Meaning Command Reply Waker) (comma
     pub run : GoodRun M old registered commands replies new registered2
     -- the lines are those of the text, from the first to the last, or up to the first that is no command
     pub read : IfSome left (λ text. (rest : List ℕ) × Reads text lines rest × Ends (line_number n lines) rest outcome)
-    pub printed : IsJudged outcome → Appends before after (told n lines commands replies)
+    pub printed : IsJudged outcome → Appends before after (told was n lines commands replies)
+    pub remembered : IsJudged outcome → now ≡ noted was commands replies
 
--- Line 1 of a script names this, and what was written of it.
-pub record Opened {Opening : Type 0} (says : List ℕ → Option Opening) (text : List ℕ → List ℕ) (opening : Opening) (left rest before after : Option (List ℕ)) : Type 0 where
+-- Line 1 of a script names this, and this is noted of it.
+pub record Opened {Opening : Type 0} (says : List ℕ → Option Opening) (S : Story) (opening : Opening) (notes : S.Notes) (left rest before after : Option (List ℕ)) : Type 0 where
   pub line : List ℕ
   pub said : says line ≡ Some opening
   -- it is the first line of the text, and the others are left
   pub read : IfSome left (λ all. (all ≡ [] → ⊥) × (line ≡ first_line all) × (rest ≡ Some (other_lines all)))
-  pub printed : Appends before after (text line)
+  pub printed : Appends before after (S.head line)
+  pub noted : notes ≡ S.first_notes line
 
 -- There is no line 1, or it names nothing, and nothing is written.
 pub record NotOpened {Opening : Type 0} (says : List ℕ → Option Opening) (fault : Fault) (left before after : Option (List ℕ)) : Type 0 where

@@ -17,22 +17,19 @@ use std::io::{self, Write};
 pub struct Beside {}
 
 impl Telling for Beside {
-    ghost use Rattle.std.specs.Prelude.{[], ◌++◌, ◌∷◌};
-    ghost use Rattle.esync_words.specs.Beside.{beside_text};
+    ghost use Rattle.esync_words.specs.Beside.{beside_story};
 
-    ghost opening = { λ line. line ++ 10 ∷ [] };
+    ghost story = { beside_story };
 
-    ghost tells = { λ A text number line giver answer wakers. beside_text text line answer wakers };
+    ghost noted = { λ beside. tt };
 
-    ghost closing = { [] };
-
-    fn open<W: Write>(&self, line: &str, output: &mut W) -> Result<(), Fault> {
+    fn open<W: Write>(&mut self, line: &str, output: &mut W) -> Result<(), Fault> {
         writeln!(output, "{line}")?;
         Ok(())
     }
 
     fn tell<V: Vocabulary, W: Write>(
-        &self,
+        &mut self,
         _number: u64,
         line: &str,
         _giver: Giver,

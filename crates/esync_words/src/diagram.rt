@@ -1,9 +1,9 @@
-//! A script as a sequence diagram in the language of Mermaid, alone or in a document of Markdown.
-ghost use Rattle.std.specs.Prelude.{◌≡◌, ℕ, List, OnOk, IfErr, ◌++◌, codes};
+//! A script as a sequence diagram in the language of Mermaid.
+ghost use Rattle.std.specs.Prelude.{◌≡◌, OnOk, IfErr};
 ghost use Rattle.std.specs.Io.KnownBytes.{Appends};
 ghost use Rattle.esync_base.specs.Rows.{items_of};
 ghost use Rattle.esync_words.specs.Text.{answer_text, each_text};
-ghost use Rattle.esync_words.specs.Diagram.{lane_text, arrow_text, said_text, command_text, back_text, reply_text, note_text, wait_text, participant_text, wake_text, fence_text, page_text, break_text};
+ghost use Rattle.esync_words.specs.Diagram.{lane_text, arrow_text, said_text, command_text, back_text, reply_text, note_text, wait_text, participant_text, wake_text, head_text, step_text};
 ghost use Rattle.esync_words.specs.Played.{IsJudged};
 
 use crate::fault::Fault;
@@ -19,23 +19,19 @@ use std::io::{self, Write};
 pub struct Diagram {}
 
 impl Telling for Diagram {
-    ghost use Rattle.std.specs.Prelude.{[]};
-    ghost use Rattle.esync_words.specs.Diagram.{head_text, step_text};
+    ghost use Rattle.esync_words.specs.Diagram.{diagram_story};
 
-    ghost opening = { head_text };
+    ghost story = { diagram_story };
 
-    ghost tells = { λ A text number line giver answer wakers. step_text text number line giver answer wakers };
+    ghost noted = { λ diagram. tt };
 
-    ghost closing = { [] };
-
-    fn open<W: Write>(&self, line: &str, output: &mut W) -> Result<(), Fault> {
-        writeln!(output, "sequenceDiagram")?;
-        print_participant(line, output)?;
+    fn open<W: Write>(&mut self, line: &str, output: &mut W) -> Result<(), Fault> {
+        print_head(line, output)?;
         Ok(())
     }
 
     fn tell<V: Vocabulary, W: Write>(
-        &self,
+        &mut self,
         number: u64,
         line: &str,
         giver: Giver,
@@ -43,11 +39,7 @@ impl Telling for Diagram {
         wakers: &[Option<u64>],
         output: &mut W,
     ) -> Result<(), Fault> {
-        print_command(giver, number, line, output)?;
-        print_reply::<V, W>(giver, answer, output)?;
-        print_wait(giver, answer, output)?;
-        print_wakes(wakers, output)?;
-        Ok(())
+        print_step::<V, W>(number, line, giver, answer, wakers, output)
     }
 
     fn close<W: Write>(&self, _output: &mut W) -> Result<(), Fault> {
@@ -55,63 +47,32 @@ impl Telling for Diagram {
     }
 }
 
-/// Diagrams in a document of Markdown, each in a fence, of at most 50 lines.
-#[derive(Clone, Copy, Debug, PartialEq, Eq)]
-pub struct Pages {}
-
-impl Telling for Pages {
-    ghost use Rattle.std.specs.Prelude.{◌++◌};
-    ghost use Rattle.esync_words.specs.Diagram.{fence_text, fence_end, head_text, break_text, step_text};
-
-    ghost opening = { λ line. fence_text ++ head_text line };
-
-    ghost tells = { λ A text number line giver answer wakers. break_text number ++ step_text text number line giver answer wakers };
-
-    ghost closing = { fence_end };
-
-    fn open<W: Write>(&self, line: &str, output: &mut W) -> Result<(), Fault> {
-        writeln!(output, "```mermaid")?;
-        Diagram {}.open(line, output)?;
-        Ok(())
-    }
-
-    fn tell<V: Vocabulary, W: Write>(
-        &self,
-        number: u64,
-        line: &str,
-        giver: Giver,
-        answer: &Answer<V::Heard>,
-        wakers: &[Option<u64>],
-        output: &mut W,
-    ) -> Result<(), Fault> {
-        print_break(number, output)?;
-        Diagram {}.tell::<V, W>(number, line, giver, answer, wakers, output)?;
-        Ok(())
-    }
-
-    fn close<W: Write>(&self, output: &mut W) -> Result<(), Fault> {
-        writeln!(output, "```")?;
-        Ok(())
-    }
-}
-
-// Begins another page where this line is the first of one.
-fn print_break<W: Write>(number: u64, output: &mut W) -> io::Result<()>
-    ensures { OnOk result (Appends (W.contents output.old) (W.contents output.new) (break_text number)) }
+/// Prints the head of a picture, whose primitive line 1 names.
+pub(crate) fn print_head<W: Write>(line: &str, output: &mut W) -> io::Result<()>
+    ensures { OnOk result (Appends (W.contents output.old) (W.contents output.new) (head_text line.now)) }
 {
-    if number % 50 == 1 {
-        print_page(number, output)?;
-    }
+    writeln!(output, "sequenceDiagram")?;
+    print_participant(line, output)?;
     Ok(())
 }
 
-fn print_page<W: Write>(number: u64, output: &mut W) -> io::Result<()>
-    ensures { OnOk result (Appends (W.contents output.old) (W.contents output.new) (page_text number)) }
+/// Prints a command, its answer, whether who gives it waits, and the wakers that are handed out, in a row that may have empty places.
+pub(crate) fn print_step<V: Vocabulary, W: Write>(
+    number: u64,
+    line: &str,
+    giver: Giver,
+    answer: &Answer<V::Heard>,
+    wakers: &[Option<u64>],
+    output: &mut W,
+) -> Result<(), Fault>
+    ensures ok { OnOk result (Appends (W.contents output.old) (W.contents output.new) (step_text V.text number line.now giver answer.now (items_of wakers.now))) }
+    ensures err { IfErr result (λ fault. IsJudged (Err fault) → ⊥) }
 {
-    write!(
-        output,
-        "```\n\nFrom line {number}:\n\n```mermaid\nsequenceDiagram\n    participant object\n"
-    )
+    print_command(giver, number, line, output)?;
+    print_reply::<V, W>(giver, answer, output)?;
+    print_wait(giver, answer, output)?;
+    print_wakes(wakers, output)?;
+    Ok(())
 }
 
 fn print_participant<W: Write>(line: &str, output: &mut W) -> io::Result<()>
@@ -158,7 +119,8 @@ fn print_lane<W: Write>(giver: Giver, output: &mut W) -> io::Result<()>
     ensures { OnOk result (Appends (W.contents output.old) (W.contents output.new) (lane_text giver)) }
 {
     match giver {
-        Giver::Task(waker) => write!(output, "task_{waker}"),
+        Giver::Task { waker, .. } => write!(output, "task_{waker}"),
+        Giver::Starter(_) => write!(output, "caller"),
         Giver::Dropper(_) => write!(output, "caller"),
         Giver::Caller => write!(output, "caller"),
     }
@@ -169,7 +131,8 @@ fn print_arrow<W: Write>(giver: Giver, output: &mut W) -> io::Result<()>
 {
     match giver {
         Giver::Dropper(_) => write!(output, "-xobject: "),
-        Giver::Task(_) => write!(output, "->>object: "),
+        Giver::Task { .. } => write!(output, "->>object: "),
+        Giver::Starter(_) => write!(output, "->>object: "),
         Giver::Caller => write!(output, "->>object: "),
     }
 }
@@ -179,7 +142,8 @@ fn print_said<W: Write>(giver: Giver, line: &str, output: &mut W) -> io::Result<
 {
     match giver {
         Giver::Dropper(r) => write!(output, "drop {r}"),
-        Giver::Task(_) => write!(output, "{line}"),
+        Giver::Task { .. } => write!(output, "{line}"),
+        Giver::Starter(_) => write!(output, "{line}"),
         Giver::Caller => write!(output, "{line}"),
     }
 }

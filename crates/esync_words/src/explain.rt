@@ -1,26 +1,59 @@
-//! A script with an explanation of each line: what the primitive holds behind it, who is registered where, and why each waker
-//! was handed out.
-ghost use Rattle.std.specs.Prelude.{◌≡◌, ℕ, List, OnOk, IfErr, ◌++◌, codes};
+//! A script with an explanation of each line: why each waker was handed out, who is registered where behind it, which requests wait,
+//! and what the primitive would answer then.
+ghost use Rattle.std.specs.Prelude.{◌≡◌, ◌≤◌, ◌⊎◌, ℕ, List, [], ◌∷◌, length, true, false, OnOk, IfErr, Err, ◌++◌, codes};
 ghost use Rattle.std.specs.Io.KnownBytes.{Appends};
 ghost use Rattle.esync_base.specs.Rows.{items_of};
 ghost use Rattle.esync_words.specs.Explained.{numbered_text};
 ghost use Rattle.esync_words.specs.Played.{IsJudged};
 
+use crate::copied::Copied;
 use crate::fault::Fault;
-use crate::play::{Giver, Telling};
-use crate::printing::print_reply;
-use crate::vocabulary::{Place, Vocabulary};
+use crate::play::{Giver, Parts, Telling};
+use crate::printing::{print_answer, print_reply};
+use crate::vocabulary::{Place, REQS, Vocabulary, read_command};
+use crate::words::Words;
+use arrayvec::ArrayVec;
 use esync_base::waitqueue::Registered;
-use esync_machine::primitive::Answer;
-use std::alloc::Global;
-use std::fmt::Debug;
+use esync_machine::primitive::{Answer, Command};
+use esync_machine::run::Machine;
 use std::io::{self, Write};
 
 // Who is registered at a place.
-#[derive(Clone, Copy, PartialEq, Eq)]
+#[derive(Clone, Copy, Default, PartialEq, Eq)]
 struct Standing {
     place: usize,
     waker: u64,
+}
+
+// Who is registered, place by place. No primitive of a script has room for more than 8 wakers.
+#[derive(Drop)]
+struct Standings {
+    row: ArrayVec<Standing, REQS>,
+    // There was no room for somebody.
+    others: bool,
+}
+
+impl Standings {
+    fn new() -> Self
+        ensures row { result.row.items ≡ [] }
+        ensures others { result.others ≡ false }
+    {
+        Standings {
+            row: ArrayVec::new(),
+            others: false,
+        }
+    }
+
+    // Adds somebody, or else that there are others.
+    fn add(&mut self, standing: Standing)
+        ensures { ((self.new.row.items ≡ self.old.row.items ++ standing ∷ []) × (self.new.others ≡ self.old.others)) ⊎ ((REQS ≤ length self.old.row.items) × (self.new ≡ record self.old { others = true })) }
+    {
+        if self.row.is_full() {
+            self.others = true;
+        } else {
+            self.row.push(standing);
+        }
+    }
 }
 
 /// Each line with its number, and what it is answered; and to `notes`, why each waker was handed out, and what the machine holds
@@ -29,38 +62,33 @@ struct Standing {
 pub struct Explained<N: Write + Drop> {
     notes: N,
     // Who was registered behind the line before.
-    before: Vec<Standing>,
-    alloc: Global,
+    before: Standings,
 }
 
 impl<N: Write + Drop> Explained<N> {
     /// Writes its notes there. At first nobody is registered.
-    pub fn new(alloc: Global, notes: N) -> Self {
+    pub fn new(notes: N) -> Self {
         Explained {
             notes,
-            before: Vec::new(alloc),
-            alloc,
+            before: Standings::new(),
         }
     }
 }
 
 impl<N: Write + Drop> Telling for Explained<N> {
-    ghost use Rattle.std.specs.Prelude.{[]};
-    ghost use Rattle.esync_words.specs.Explained.{explained_text, numbered_text};
+    ghost use Rattle.esync_words.specs.Explained.{explained_story};
 
-    ghost opening = { numbered_text 1 };
+    ghost story = { explained_story };
 
-    ghost tells = { λ A text number line giver answer wakers. explained_text text number line answer wakers };
+    ghost noted = { λ explained. tt };
 
-    ghost closing = { [] };
-
-    fn open<W: Write>(&self, line: &str, output: &mut W) -> Result<(), Fault> {
+    fn open<W: Write>(&mut self, line: &str, output: &mut W) -> Result<(), Fault> {
         print_line(1, line, output)?;
         Ok(())
     }
 
     fn tell<V: Vocabulary, W: Write>(
-        &self,
+        &mut self,
         number: u64,
         line: &str,
         _giver: Giver,
@@ -73,20 +101,27 @@ impl<N: Write + Drop> Telling for Explained<N> {
         print_reply::<V, W>(answer, wakers, output)
     }
 
-    fn look<V: Vocabulary, M: Registered<Waker = u64> + Debug>(
-        &mut self,
-        giver: Giver,
-        wakers: &[Option<u64>],
-        machine: &M,
-    ) -> Result<(), Fault> {
-        let now = registered::<V, M>(self.alloc, machine)?;
+    fn look<V, M>(&mut self, giver: Giver, wakers: &[Option<u64>], machine: &M) -> Result<(), Fault>
+    where
+        V: Vocabulary,
+        M: Machine<Command = Command<V::Ask, u64, V::Call>>
+            + Registered<Waker = u64>
+            + Copied
+            + Drop,
+        M::Reply: Parts<V::Heard> + Drop,
+    {
+        let now = registered::<V, M>(machine);
         for waker in wakers {
             if let Some(waker) = waker {
-                explain::<V, N>(*waker, giver, &self.before, &now, &mut self.notes)?;
+                explain::<V, N>(*waker, giver, &self.before.row, &now.row, &mut self.notes)?;
             }
         }
-        note_standing::<V, N>(&now, &mut self.notes)?;
-        writeln!(self.notes, "   {machine:?}")?;
+        note_standing::<V, N>(&now.row, &mut self.notes)?;
+        if now.others {
+            writeln!(self.notes, "   others are registered too")?;
+        }
+        note_requests::<V, M, N>(machine, &mut self.notes)?;
+        note_questions::<V, M, N>(machine, &mut self.notes)?;
         self.before = now;
         Ok(())
     }
@@ -103,26 +138,20 @@ fn print_line<W: Write>(number: u64, line: &str, output: &mut W) -> io::Result<(
 }
 
 // All who are registered, place by place.
-fn registered<V: Vocabulary, M: Registered<Waker = u64>>(
-    alloc: Global,
-    machine: &M,
-) -> Result<Vec<Standing>, Fault>
-    ensures { IfErr result (λ fault. IsJudged (Err fault) → ⊥) }
-{
-    let mut all = Vec::new(alloc);
+fn registered<V: Vocabulary, M: Registered<Waker = u64>>(machine: &M) -> Standings {
+    let mut all = Standings::new();
     for place in 0..usize::MAX {
         if V::place(place).is_none() {
-            return Ok(all);
+            return all;
         }
         for i in 0..usize::MAX {
             let Some(waker) = machine.registered(place, i) else {
                 break;
             };
-            all.push(Standing { place, waker })
-                .map_err(|_| Fault::OutOfMemory)?;
+            all.add(Standing { place, waker });
         }
     }
-    Ok(all)
+    all
 }
 
 // Why a waker that stood at a place was handed out, if that was the place.
@@ -153,7 +182,8 @@ fn reason_of(
         return None;
     }
     match giver {
-        Giver::Task(own) if now.contains(&stands(own)) && !before.contains(&stands(own)) => {
+        Giver::Task { waker: own, .. }
+            if now.contains(&stands(own)) && !before.contains(&stands(own)) => {
             Some(Reason::Displaced(own))
         }
         _ => Some(Reason::Told),
@@ -219,4 +249,95 @@ fn note<N: Write>(waker: u64, place: Place, reason: Reason, notes: &mut N) -> io
         Reason::Told => writeln!(notes, "{}", place.event),
         Reason::Displaced(own) => writeln!(notes, "{own} took its place"),
     }
+}
+
+// The waker with which a copy is polled. Nobody is told by it.
+const NOBODY: u64 = u64::MAX;
+
+// What a copy of the machine answers to this command.
+fn reply_of<V, M>(machine: &M, command: M::Command) -> Result<M::Reply, Fault>
+where
+    V: Vocabulary,
+    M: Machine<Command = Command<V::Ask, u64, V::Call>> + Copied + Drop,
+    ensures { IfErr result (λ fault. IsJudged (Err fault) → ⊥) }
+{
+    let mut copy = machine.copied().map_err(|_| Fault::OutOfMemory)?;
+    Ok(copy.step(command))
+}
+
+// Notes of each request whether it waits, or what a poll of it would be answered now.
+fn note_requests<V, M, N>(machine: &M, notes: &mut N) -> Result<(), Fault>
+where
+    V: Vocabulary,
+    M: Machine<Command = Command<V::Ask, u64, V::Call>> + Copied + Drop,
+    M::Reply: Parts<V::Heard> + Drop,
+    N: Write,
+    ensures { IfErr result (λ fault. IsJudged (Err fault) → ⊥) }
+{
+    for r in 0..REQS {
+        let reply = reply_of::<V, M>(machine, Command::Poll(r, NOBODY))?;
+        note_request::<V, N>(r, reply.answer(), notes)?;
+    }
+    Ok(())
+}
+
+fn note_request<V: Vocabulary, N: Write>(
+    r: usize,
+    answer: &Answer<V::Heard>,
+    notes: &mut N,
+) -> Result<(), Fault>
+    ensures { IfErr result (λ fault. IsJudged (Err fault) → ⊥) }
+{
+    match answer {
+        Answer::NoSuch => {}
+        Answer::Pending => writeln!(notes, "   request {r} waits")?,
+        _ => {
+            write!(notes, "   request {r} is due: ")?;
+            print_answer::<V, N>(answer, notes)?;
+            writeln!(notes)?;
+        }
+    }
+    Ok(())
+}
+
+// Notes in a line what the questions of these words would be answered now.
+fn note_questions<V, M, N>(machine: &M, notes: &mut N) -> Result<(), Fault>
+where
+    V: Vocabulary,
+    M: Machine<Command = Command<V::Ask, u64, V::Call>> + Copied + Drop,
+    M::Reply: Parts<V::Heard> + Drop,
+    N: Write,
+    ensures { IfErr result (λ fault. IsJudged (Err fault) → ⊥) }
+{
+    let mut is_first = true;
+    for question in V::questions() {
+        if let Some(command) = read_command::<V>(Words::of(question)) {
+            let reply = reply_of::<V, M>(machine, command)?;
+            if note_question::<V, N>(is_first, question, reply.answer(), notes)? {
+                is_first = false;
+            }
+        }
+    }
+    if !is_first {
+        writeln!(notes)?;
+    }
+    Ok(())
+}
+
+// Notes what a question would be answered, behind the one before it. `false` where it asks for what isn't there.
+fn note_question<V: Vocabulary, N: Write>(
+    is_first: bool,
+    question: &str,
+    answer: &Answer<V::Heard>,
+    notes: &mut N,
+) -> Result<bool, Fault>
+    ensures { IfErr result (λ fault. IsJudged (Err fault) → ⊥) }
+{
+    if let Answer::NoSuch = answer {
+        return Ok(false);
+    }
+    let before = if is_first { "   " } else { ", " };
+    write!(notes, "{before}{question}: ")?;
+    print_answer::<V, N>(answer, notes)?;
+    Ok(true)
 }

@@ -2,10 +2,12 @@
 #![tactic(auto)]
 
 pub mod beside;
+pub mod copied;
 pub mod diagram;
 pub mod explain;
 pub mod fault;
 pub mod lines;
+pub mod pages;
 pub mod play;
 pub mod printing;
 pub mod vocabulary;

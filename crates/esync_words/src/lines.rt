@@ -16,41 +16,99 @@ pub const LONGEST: usize = 256;
 // How many are read of a line.
 const ROOM: usize = 257;
 
+/// Where the bytes of a script come from, one after the other.
+pub trait ByteSource: Drop {
+    ghost use Rattle.std.specs.Prelude.{ℕ, List, Option};
+
+    /// The bytes that are left, where they are known.
+    ghost remaining: { Self → Option (List ℕ) };
+
+    /// Takes the next byte, if there is one.
+    fn next_byte(&mut self) -> io::Result<Option<u8>>
+        ensures { IfOk result (λ byte. MatchOption byte (Consumes (remaining self.old) (remaining self.new) [] × IsAtEnd (remaining self.new)) (λ b. Consumes (remaining self.old) (remaining self.new) (b ∷ []))) };
+
+    /// No read of the next line waits for input.
+    fn has_line(&self) -> bool;
+}
+
+/// What a reader gives, in pieces. No read of a line waits that stands whole in the buffer.
+impl<R: Read + Drop> ByteSource for BufReader<R> {
+    ghost use Rattle.std.specs.Io.Buffered.{reader_remaining};
+
+    ghost remaining = { reader_remaining R.remaining };
+
+    fn next_byte(&mut self) -> io::Result<Option<u8>> {
+        read_byte(self)
+    }
+
+    fn has_line(&self) -> bool {
+        self.buffer().contains(&b'\n')
+    }
+}
+
+/// What stands in memory. No read of it waits, and none asks for memory.
+impl ByteSource for &[u8] {
+    ghost use Rattle.std.specs.Prelude.{Some};
+
+    ghost remaining = { λ bytes. Some bytes.now };
+
+    fn next_byte(&mut self) -> io::Result<Option<u8>> {
+        let bytes: &[u8] = *self;
+        if bytes.is_empty() {
+            return Ok(None);
+        }
+        *self = &bytes[1..];
+        Ok(Some(bytes[0]))
+    }
+
+    fn has_line(&self) -> bool {
+        true
+    }
+}
+
 /// The lines of a script, read one at a time into memory of a fixed size.
 #[derive(Drop)]
-pub struct Lines<R: Read + Drop> {
-    input: BufReader<R>,
+pub struct Lines<R: ByteSource> {
+    input: R,
     line: ArrayVec<u8, ROOM>,
     number: u64,
     ended: bool,
 }
 
-impl<R: Read + Drop> Model for Lines<R> {
+impl<R: ByteSource> Model for Lines<R> {
     ghost use Rattle.std.specs.Prelude.{◌≡◌, true};
-    ghost use Rattle.std.specs.Io.Buffered.{reader_remaining};
     ghost use Rattle.std.specs.Io.KnownBytes.{IsAtEnd};
     ghost use Rattle.esync_words.specs.Lines.{Source};
 
     ghost Value = { Source };
 
-    ghost view = { λ a. record { number = a.number; line = a.line.items; left = reader_remaining R.remaining a.input; ended = a.ended } };
+    ghost view = { λ a. record { number = a.number; line = a.line.items; left = R.remaining a.input; ended = a.ended } };
 
-    ghost invariant = { λ a. a.ended ≡ true → IsAtEnd (reader_remaining R.remaining a.input) };
+    ghost invariant = { λ a. a.ended ≡ true → IsAtEnd (R.remaining a.input) };
 }
 
-impl<R: Read + Drop> Lines<R> {
-    /// No line is read yet. All memory that is needed for the lines is taken here.
-    pub fn new(alloc: Global, input: R) -> Result<Self, Fault>
+impl<R: Read + Drop> Lines<BufReader<R>> {
+    /// The lines of what a reader gives. No line is read yet. All memory that is needed for them is taken here.
+    pub fn buffered(alloc: Global, input: R) -> Result<Self, Fault>
         ensures ok { IfOk result (λ lines. lines ≡ record { number = 0; line = []; left = R.remaining input; ended = false }) }
         ensures err { IfErr result (λ fault. fault ≡ Fault.OutOfMemory) }
     {
         let input = BufReader::new(alloc, input).map_err(|_| Fault::OutOfMemory)?;
-        Ok(Lines {
+        Ok(Lines::new(input))
+    }
+}
+
+impl<R: ByteSource> Lines<R> {
+    /// No line is read yet. No memory is asked for, now or later.
+    pub fn new(input: R) -> Self
+        ensures { result ≡ record { number = 0; line = []; left = R.remaining input; ended = false } }
+    {
+        Lines {
             input,
             line: ArrayVec::new(),
             number: 0,
             ended: false,
-        })
+        }
     }
 
     /// Reads the next line, if there is one, without its line feed. The output is flushed before a read that may wait for more
@@ -66,7 +124,7 @@ impl<R: Read + Drop> Lines<R> {
         if self.ended {
             return Ok(false);
         }
-        if !self.input.buffer().contains(&b'\n') {
+        if !self.input.has_line() {
             output.flush()?;
         }
         Ok(self.read_line()?)
@@ -80,7 +138,7 @@ impl<R: Read + Drop> Lines<R> {
         ensures line { IfOk result (λ there. IfSome self.old.left (λ text. IsRead LONGEST text there self.new)) }
     {
         while !self.line.is_full() {
-            match read_byte(&mut self.input)? {
+            match self.input.next_byte()? {
                 Some(b'\n') => return Ok(true),
                 Some(byte) => self.line.push(byte),
                 None => {

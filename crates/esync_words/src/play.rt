@@ -1,31 +1,32 @@
 //! The loop that goes through the lines of a script.
-ghost use Rattle.std.specs.Prelude.{◌≡◌, ℕ, List, OnOk, IfOk, IfErr, ◌++◌};
+ghost use Rattle.std.specs.Prelude.{◌≡◌, ◌≤◌, ℕ, List, OnOk, IfOk, IfErr, ◌++◌, length};
 ghost use Rattle.std.specs.Io.KnownBytes.{Appends};
 ghost use Rattle.esync_base.specs.Rows.{items_of};
-ghost use Rattle.esync_words.specs.Text.{answer_text, line_text};
 ghost use Rattle.esync_words.specs.Commands.{says, named, command};
 ghost use Rattle.esync_words.specs.Played.{IsJudged, Opened, NotOpened, Played};
-ghost use Rattle.esync_words.specs.Tells.{giver_of, tells_of};
+ghost use Rattle.esync_words.specs.Story.{Story, giver_of, transcript_of};
 
+use crate::copied::Copied;
 use crate::fault::Fault;
-use crate::lines::Lines;
+use crate::lines::{ByteSource, LONGEST, Lines};
 use crate::printing::print_reply;
 use crate::vocabulary::{Vocabulary, read_command};
 use crate::words::Words;
 use esync_base::waitqueue::Registered;
 use esync_machine::primitive::{Answer, Command};
 use esync_machine::run::{Machine, Reply};
-use std::fmt::Debug;
-use std::io::{Read, Write};
+use std::io::Write;
 
 /// Who gives a command.
 #[derive(Clone, Copy, Debug, PartialEq, Eq)]
 pub enum Giver {
-    /// The task that this waker wakes, which polls a request.
-    Task(u64),
+    /// The task that the waker wakes, which polls the request of this number.
+    Task { request: usize, waker: u64 },
+    /// Somebody who starts a request of this number.
+    Starter(usize),
     /// Somebody who drops the request of this number.
     Dropper(usize),
-    /// Somebody who makes a request, or calls the primitive.
+    /// Somebody who calls the primitive.
     Caller,
 }
 
@@ -34,36 +35,33 @@ fn given_by<Q, C>(command: &Command<Q, u64, C>) -> Giver
     ensures { result ≡ giver_of command.now }
 {
     match command {
-        Command::Start(_, _) => Giver::Caller,
-        Command::Poll(_, waker) => Giver::Task(*waker),
+        Command::Start(r, _) => Giver::Starter(*r),
+        Command::Poll(r, waker) => Giver::Task {
+            request: *r,
+            waker: *waker,
+        },
         Command::End(r) => Giver::Dropper(*r),
         Command::Call(_) => Giver::Caller,
     }
 }
 
-/// What is written of a script while it is gone through.
+/// What is written of a script while it is gone through. It may note of each line what it writes of those behind it.
 pub trait Telling {
-    ghost use Rattle.esync_machine.specs.declared.primitive.Answer.{Answer as AnswerOf};
-    ghost use Rattle.esync_words.specs.declared.play.Giver.{Giver as GiverOf};
+    /// What is written of a script, and noted.
+    ghost story: { Story };
 
-    /// What is written of line 1, which names the primitive.
-    ghost opening: { List ℕ → List ℕ };
+    /// What is noted of the lines before.
+    ghost noted: { Self → story.Notes };
 
-    /// What is written of a line by its number, of who gives its command, of its answer, where that is the text of what a primitive
-    /// tells, and of the wakers that are handed out.
-    ghost tells: { (A : Type 0) → (A → List ℕ) → ℕ → List ℕ → GiverOf → AnswerOf A → List ℕ → List ℕ };
+    /// Writes what it tells of line 1. It is noted even where that fails.
+    fn open<W: Write>(&mut self, line: &str, output: &mut W) -> Result<(), Fault>
+        ensures ok { OnOk result (Appends (W.contents output.old) (W.contents output.new) (story.head line.now)) }
+        ensures err { IfErr result (λ fault. IsJudged (Err fault) → ⊥) }
+        ensures noted { length line.now ≤ LONGEST → noted self.new ≡ story.first_notes line.now };
 
-    /// What is written behind the last line.
-    ghost closing: { List ℕ };
-
-    /// Writes what it tells of line 1.
-    fn open<W: Write>(&self, line: &str, output: &mut W) -> Result<(), Fault>
-        ensures ok { OnOk result (Appends (W.contents output.old) (W.contents output.new) (opening line.now)) }
-        ensures err { IfErr result (λ fault. IsJudged (Err fault) → ⊥) };
-
-    /// Writes what it tells of a line, whose wakers stand in a row that may have empty places.
+    /// Writes what it tells of a line, whose wakers stand in a row that may have empty places. The line is noted even where that fails.
     fn tell<V: Vocabulary, W: Write>(
-        &self,
+        &mut self,
         number: u64,
         line: &str,
         giver: Giver,
@@ -71,24 +69,33 @@ pub trait Telling {
         wakers: &[Option<u64>],
         output: &mut W,
     ) -> Result<(), Fault>
-        ensures ok { OnOk result (Appends (W.contents output.old) (W.contents output.new) (tells V.Heard V.text number line.now giver answer.now (items_of wakers.now))) }
-        ensures err { IfErr result (λ fault. IsJudged (Err fault) → ⊥) };
+        ensures ok { OnOk result (Appends (W.contents output.old) (W.contents output.new) (story.tells V.Heard V.text (noted self.old) number line.now giver answer.now (items_of wakers.now))) }
+        ensures err { IfErr result (λ fault. IsJudged (Err fault) → ⊥) }
+        ensures noted { noted self.new ≡ story.next_notes V.Heard (noted self.old) giver answer.now (items_of wakers.now) };
 
-    /// Looks at the machine behind a line that was told. It may note what it sees, but not in the output.
-    fn look<V: Vocabulary, M: Registered<Waker = u64> + Debug>(
+    /// Looks at the machine behind a line that was told. It may keep what it sees, but writes nothing to the output, and notes nothing.
+    fn look<V, M>(
         &mut self,
         _giver: Giver,
         _wakers: &[Option<u64>],
         _machine: &M,
     ) -> Result<(), Fault>
-        ensures { IfErr result (λ fault. IsJudged (Err fault) → ⊥) }
+    where
+        V: Vocabulary,
+        M: Machine<Command = Command<V::Ask, u64, V::Call>>
+            + Registered<Waker = u64>
+            + Copied
+            + Drop,
+        M::Reply: Parts<V::Heard> + Drop,
+        ensures err { IfErr result (λ fault. IsJudged (Err fault) → ⊥) }
+        ensures noted { noted self.new ≡ noted self.old }
     {
         Ok(())
     }
 
     /// Writes what comes behind the last line.
     fn close<W: Write>(&self, output: &mut W) -> Result<(), Fault>
-        ensures ok { OnOk result (Appends (W.contents output.old) (W.contents output.new) closing) }
+        ensures ok { OnOk result (Appends (W.contents output.old) (W.contents output.new) story.foot) }
         ensures err { IfErr result (λ fault. IsJudged (Err fault) → ⊥) };
 }
 
@@ -97,20 +104,18 @@ pub trait Telling {
 pub struct Replies {}
 
 impl Telling for Replies {
-    ghost use Rattle.std.specs.Prelude.{[]};
+    ghost use Rattle.esync_words.specs.Story.{replies_story};
 
-    ghost opening = { λ line. [] };
+    ghost story = { replies_story };
 
-    ghost tells = { λ A text number line giver answer wakers. line_text (answer_text text answer) wakers };
+    ghost noted = { λ replies. tt };
 
-    ghost closing = { [] };
-
-    fn open<W: Write>(&self, _line: &str, _output: &mut W) -> Result<(), Fault> {
+    fn open<W: Write>(&mut self, _line: &str, _output: &mut W) -> Result<(), Fault> {
         Ok(())
     }
 
     fn tell<V: Vocabulary, W: Write>(
-        &self,
+        &mut self,
         _number: u64,
         _line: &str,
         _giver: Giver,
@@ -179,13 +184,13 @@ fn read_opening<O: Opens>(mut words: Words<'_>) -> Option<O>
 }
 
 /// Reads line 1 of a script, and tells of it.
-pub fn open<O: Opens, T: Telling, R: Read + Drop, W: Write>(
-    telling: &T,
+pub fn open<O: Opens, T: Telling, R: ByteSource, W: Write>(
+    telling: &mut T,
     lines: &mut Lines<R>,
     output: &mut W,
 ) -> Result<O, Fault>
     requires { lines.old.number ≡ 0 }
-    ensures ok { IfOk result (λ opening. Opened (says O.opens) T.opening opening lines.old.left lines.new.left (W.contents output.old) (W.contents output.new)) }
+    ensures ok { IfOk result (λ opening. Opened (says O.opens) T.story opening (T.noted telling.new) lines.old.left lines.new.left (W.contents output.old) (W.contents output.new)) }
     ensures number { lines.new.number ≡ 1 }
     ensures err { IfErr result (λ fault. IsJudged (Err fault) → NotOpened (says O.opens) fault lines.old.left (W.contents output.old) (W.contents output.new)) }
 {
@@ -210,12 +215,12 @@ pub fn play<V, M, T, R, W>(
 ) -> Result<(), Fault>
 where
     V: Vocabulary,
-    M: Machine<Command = Command<V::Ask, u64, V::Call>> + Registered<Waker = u64> + Debug,
+    M: Machine<Command = Command<V::Ask, u64, V::Call>> + Registered<Waker = u64> + Copied + Drop,
     M::Reply: Parts<V::Heard> + Drop,
     T: Telling,
-    R: Read + Drop,
+    R: ByteSource,
     W: Write,
-    ensures played { Played M.semantics.meaning (says (command V.asks V.calls)) (tells_of M.Reply.answer M.Reply.wakes (T.tells V.Heard V.text)) (M.semantics.object machine.old) (M.semantics.registrations machine.old) lines.old.number lines.old.left (W.contents output.old) (W.contents output.new) result }
+    ensures played { Played M.semantics.meaning (says (command V.asks V.calls)) (transcript_of T.story V.text M.Reply.answer M.Reply.wakes) (T.noted telling.old) (T.noted telling.new) (M.semantics.object machine.old) (M.semantics.registrations machine.old) lines.old.number lines.old.left (W.contents output.old) (W.contents output.new) result }
     ensures stopped { (number : ℕ) → result ≡ Err (Fault.NotACommand number) → lines.new.number ≡ number }
 {
     for _ in 0..u64::MAX {

@@ -62,6 +62,11 @@ pub trait Vocabulary {
     fn print<W: Write>(heard: &Self::Heard, output: &mut W) -> io::Result<()>
         ensures { OnOk result (Appends (W.contents output.old) (W.contents output.new) (text heard.now)) };
 
+    /// What an explanation asks a copy of the machine behind each line, in these words.
+    fn questions() -> &'static [&'static str] {
+        &[]
+    }
+
     /// The place of this number at which its wakers are registered, if there is one. The numbers have no gap.
     fn place(_number: usize) -> Option<Place> {
         None

@@ -3,6 +3,7 @@ ghost use Rattle.std.specs.Prelude.{◌≡◌, ◌<◌, vec_len, slice_set, IfSo
 ghost use Rattle.std.specs.Borrow.{LendsIf, sem, follows_if};
 
 use esync_base::waitqueue::{Context, Poll, Registered, Wakes};
+use row::Row;
 pub use shared::{
     Channel, EndsLoan, LentTo, Loan, ReceiveSlot, Receiver, SendSlot, Sender, Slot, SlotLoan,
     ZeroReceive, ZeroRequest, ZeroSend,
@@ -13,6 +14,7 @@ use turns::Turns;
 
 mod kept;
 pub mod machine;
+pub mod row;
 mod shared;
 mod turns;
 
@@ -30,29 +32,32 @@ pub enum Side {
 #[error("the other side's slot is lent")]
 pub struct SlotLent;
 
+/// The state of a zero-copy channel whose slots stand in a vector.
+pub type ChannelState<T, W> = RowState<Vec<T>, W>;
+
 /// The state of a zero-copy channel: a row of slots, whose turn each of them is, and who waits for one.
 #[derive(Debug, Drop)]
-pub struct ChannelState<T, W> {
-    slots: Vec<T>,
+pub struct RowState<S: Row, W> {
+    slots: S,
     turns: Turns<W>,
 }
 
-impl<T, W> Model for ChannelState<T, W> {
+impl<S: Row, W> Model for RowState<S, W> {
     ghost use Rattle.std.specs.Prelude.{◌≡◌, length};
     ghost use Rattle.esync_zerocopy.specs.Slots.{count};
     ghost use Rattle.esync_zerocopy.specs.Lending.{Lending, lending_code};
 
-    ghost Value = { Lending T W };
+    ghost Value = { Lending S.Item W };
 
-    ghost coded = { lending_code T.code W.code };
+    ghost coded = { lending_code S.Item.code W.code };
 
-    ghost view = { λ a. record { slots = record { sides = a.turns.sides; values = a.slots.items }; waiting = a.turns.waiting } };
+    ghost view = { λ a. record { slots = record { sides = a.turns.sides; values = S.items a.slots }; waiting = a.turns.waiting } };
 
-    ghost invariant = { λ a. length a.slots.items ≡ count a.turns.sides };
+    ghost invariant = { λ a. length (S.items a.slots) ≡ count a.turns.sides };
 }
 
 /// Who waits for a full slot, and who waits for one to fill.
-impl<T, W: Copy + Eq> Registered for ChannelState<T, W> {
+impl<S: Row, W: Copy + Eq> Registered for RowState<S, W> {
     type Waker = W;
 
     ghost use Rattle.esync_base.specs.Standing.{at_two};
@@ -64,37 +69,45 @@ impl<T, W: Copy + Eq> Registered for ChannelState<T, W> {
     }
 }
 
-impl<T: Drop, W: Copy + Eq> ChannelState<T, W> {
+impl<S: Row, W: Copy + Eq> RowState<S, W> {
     ghost use Rattle.std.specs.Prelude.{◌≡◌, ◌<◌, ◌++◌, [], length, slice_get, is_ok, ◌↔◌, IsTrue, None, false};
     ghost use Rattle.std.specs.Borrow.{LendsIf, sem, follows_if};
     ghost use Rattle.esync_zerocopy.specs.Slots.{all_spare, count, other, before, is_out, with_out, done_by, cleared, cleared_if, waits_at, waiting_unless, wakes_unless, waiting_if_cleared, wakes_if_cleared, EachOnce};
     ghost use Rattle.esync_zerocopy.specs.Lending.{first_value, lent_with, value_lent, value_polled, name_polled};
-    ghost use Rattle.esync_zerocopy.specs.contracts.zerocopy_channel.ChannelState.{the_row};
+    ghost use Rattle.esync_zerocopy.specs.contracts.zerocopy_channel.RowState.{the_row};
 
     #[tactic(auto, using(crate::proofs::Rounds::length_numbers))]
     /// A channel of these slots, all spare, and nobody who waits. There has to be a slot.
-    pub fn new(slots: Vec<T>) -> Self
-        requires { 0 < length slots.items }
-        ensures sides { result.slots.sides ≡ all_spare (length slots.items) }
-        ensures values { result.slots.values ≡ slots.items }
+    pub fn new(slots: S) -> Self
+        requires { 0 < length (S.items slots) }
+        ensures sides { result.slots.sides ≡ all_spare (length (S.items slots)) }
+        ensures values { result.slots.values ≡ S.items slots }
         ensures senders { result.waiting.senders ≡ [] }
         ensures receivers { result.waiting.receivers ≡ [] }
     {
         let capacity = slots.len();
-        ChannelState {
+        RowState {
             slots,
             turns: Turns::new(capacity),
         }
     }
 
+    // Lends the value in the slot of this number, whosever turn it is, if there is such a slot.
+    fn lend_at(&mut self, number: usize) -> Option<&mut S::Item>
+        ensures* lends { sem 𝓛 (LendsIf (the_row S.row W.row S.Item.row S.Row) S.Item.row self.entry result (λ w. record { slots = record { sides = self.old.slots.sides; values = slice_set self.old.slots.values number w }; waiting = self.old.waiting }) self.old) }
+        ensures value { value_lent result ≡ slice_get self.old.slots.values number }
+    {
+        self.slots.lend(number)
+    }
+
     #[tactic(auto, using(crate::specs::LendingLaws::first_of_none))]
-    fn lend(&mut self, side: Side) -> Option<&mut T>
-        ensures* lends { sem 𝓛 (LendsIf (the_row T.row W.row) T.row self.entry result (λ w. record { slots = lent_with side self.old.slots w; waiting = self.old.waiting }) self.old) }
+    fn lend(&mut self, side: Side) -> Option<&mut S::Item>
+        ensures* lends { sem 𝓛 (LendsIf (the_row S.row W.row S.Item.row S.Row) S.Item.row self.entry result (λ w. record { slots = lent_with side self.old.slots w; waiting = self.old.waiting }) self.old) }
         ensures value { value_lent result ≡ first_value (before side self.old.slots.sides) self.old.slots.values }
         ensures none { value_lent result ≡ None → before side self.old.slots.sides ≡ [] }
     {
         let number = self.turns.lend(side)?;
-        self.slots.get_mut(number)
+        self.lend_at(number)
     }
 
     #[tactic(auto, using(crate::specs::LendingLaws::first_of_none))]
@@ -103,22 +116,25 @@ impl<T: Drop, W: Copy + Eq> ChannelState<T, W> {
         side: Side,
         cx: &Context<W>,
         wakes: &mut Wakes<W, K>,
-    ) -> Poll<&mut T>
+    ) -> Poll<&mut S::Item>
         requires { length wakes.old < K }
-        ensures* lends { sem 𝓛 (follows_if (the_row T.row W.row) T.row self.entry.ghost_name (name_polled result) (λ w. record { slots = lent_with side self.old.slots w; waiting = self.old.waiting }) (record { slots = self.old.slots; waiting = waiting_unless W.eq (value_polled result) side cx.now self.old.waiting })) }
+        ensures* lends { sem 𝓛 (follows_if (the_row S.row W.row S.Item.row S.Row) S.Item.row self.entry.ghost_name (name_polled result) (λ w. record { slots = lent_with side self.old.slots w; waiting = self.old.waiting }) (record { slots = self.old.slots; waiting = waiting_unless W.eq (value_polled result) side cx.now self.old.waiting })) }
         ensures value { value_polled result ≡ first_value (before side self.old.slots.sides) self.old.slots.values }
         ensures none { value_polled result ≡ None → before side self.old.slots.sides ≡ [] }
         ensures wakes { wakes.new ≡ wakes.old ++ wakes_unless W.eq (value_polled result) side cx.now self.old.waiting }
     {
         match self.turns.poll_lend(side, cx, wakes) {
-            Some(number) => Poll::Ready(&mut self.slots[number]),
+            Some(number) => match self.lend_at(number) {
+                Some(slot) => Poll::Ready(slot),
+                None => Poll::Pending,
+            },
             None => Poll::Pending,
         }
     }
 
     /// Lends the next spare slot, to be written, if there is one. Until it is sent it is lent again, and what was written stays.
-    pub fn try_send(&mut self) -> Option<&mut T>
-        ensures* lends { sem 𝓛 (LendsIf (the_row T.row W.row) T.row self.entry result (λ w. record { slots = lent_with Side.Sender self.old.slots w; waiting = self.old.waiting }) self.old) }
+    pub fn try_send(&mut self) -> Option<&mut S::Item>
+        ensures* lends { sem 𝓛 (LendsIf (the_row S.row W.row S.Item.row S.Row) S.Item.row self.entry result (λ w. record { slots = lent_with Side.Sender self.old.slots w; waiting = self.old.waiting }) self.old) }
         ensures value { value_lent result ≡ first_value self.old.slots.sides.spare self.old.slots.values }
         ensures none { value_lent result ≡ None → self.old.slots.sides.spare ≡ [] }
     {
@@ -130,9 +146,9 @@ impl<T: Drop, W: Copy + Eq> ChannelState<T, W> {
         &mut self,
         cx: &Context<W>,
         wakes: &mut Wakes<W, K>,
-    ) -> Poll<&mut T>
+    ) -> Poll<&mut S::Item>
         requires { length wakes.old < K }
-        ensures* lends { sem 𝓛 (follows_if (the_row T.row W.row) T.row self.entry.ghost_name (name_polled result) (λ w. record { slots = lent_with Side.Sender self.old.slots w; waiting = self.old.waiting }) (record { slots = self.old.slots; waiting = waiting_unless W.eq (value_polled result) Side.Sender cx.now self.old.waiting })) }
+        ensures* lends { sem 𝓛 (follows_if (the_row S.row W.row S.Item.row S.Row) S.Item.row self.entry.ghost_name (name_polled result) (λ w. record { slots = lent_with Side.Sender self.old.slots w; waiting = self.old.waiting }) (record { slots = self.old.slots; waiting = waiting_unless W.eq (value_polled result) Side.Sender cx.now self.old.waiting })) }
         ensures value { value_polled result ≡ first_value self.old.slots.sides.spare self.old.slots.values }
         ensures none { value_polled result ≡ None → self.old.slots.sides.spare ≡ [] }
         ensures wakes { wakes.new ≡ wakes.old ++ wakes_unless W.eq (value_polled result) Side.Sender cx.now self.old.waiting }
@@ -152,8 +168,8 @@ impl<T: Drop, W: Copy + Eq> ChannelState<T, W> {
     }
 
     /// Lends the oldest held slot, to be read or written, if there is one. Until it is given back it is lent again.
-    pub fn try_receive(&mut self) -> Option<&mut T>
-        ensures* lends { sem 𝓛 (LendsIf (the_row T.row W.row) T.row self.entry result (λ w. record { slots = lent_with Side.Receiver self.old.slots w; waiting = self.old.waiting }) self.old) }
+    pub fn try_receive(&mut self) -> Option<&mut S::Item>
+        ensures* lends { sem 𝓛 (LendsIf (the_row S.row W.row S.Item.row S.Row) S.Item.row self.entry result (λ w. record { slots = lent_with Side.Receiver self.old.slots w; waiting = self.old.waiting }) self.old) }
         ensures value { value_lent result ≡ first_value self.old.slots.sides.held self.old.slots.values }
         ensures none { value_lent result ≡ None → self.old.slots.sides.held ≡ [] }
     {
@@ -165,9 +181,9 @@ impl<T: Drop, W: Copy + Eq> ChannelState<T, W> {
         &mut self,
         cx: &Context<W>,
         wakes: &mut Wakes<W, K>,
-    ) -> Poll<&mut T>
+    ) -> Poll<&mut S::Item>
         requires { length wakes.old < K }
-        ensures* lends { sem 𝓛 (follows_if (the_row T.row W.row) T.row self.entry.ghost_name (name_polled result) (λ w. record { slots = lent_with Side.Receiver self.old.slots w; waiting = self.old.waiting }) (record { slots = self.old.slots; waiting = waiting_unless W.eq (value_polled result) Side.Receiver cx.now self.old.waiting })) }
+        ensures* lends { sem 𝓛 (follows_if (the_row S.row W.row S.Item.row S.Row) S.Item.row self.entry.ghost_name (name_polled result) (λ w. record { slots = lent_with Side.Receiver self.old.slots w; waiting = self.old.waiting }) (record { slots = self.old.slots; waiting = waiting_unless W.eq (value_polled result) Side.Receiver cx.now self.old.waiting })) }
         ensures value { value_polled result ≡ first_value self.old.slots.sides.held self.old.slots.values }
         ensures none { value_polled result ≡ None → self.old.slots.sides.held ≡ [] }
         ensures wakes { wakes.new ≡ wakes.old ++ wakes_unless W.eq (value_polled result) Side.Receiver cx.now self.old.waiting }

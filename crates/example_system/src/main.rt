@@ -1,34 +1,39 @@
-//! Systems of two mutexes, and of one channel: what is true of every schedule of their tasks.
+//! Systems of two mutexes, of three, and of one channel: what is true of every schedule of their tasks.
 #![tactic(auto)]
 
-ghost use Rattle.std.specs.Prelude.{◌≡◌, map, Ok};
-ghost use Rattle.esync_systems.specs.Schedules.{opened, EveryScheduleCanEnd};
+ghost use Rattle.std.specs.Prelude.{◌≡◌, ℕ, map, Ok};
+ghost use Rattle.esync_systems.specs.Schedules.{opened, EveryScheduleCanEnd, EveryScheduleEnds};
 
 use esync_base::waitqueue::TaskId;
 use esync_channel::channel::ChannelState;
 use esync_channel::channel::machine::{ChannelAsk, ChannelCommand, ChannelRun};
 use esync_compared::channel::{ChannelStates, channel_is_functional};
-use esync_compared::mutex::MutexStates;
+use esync_compared::mutex::{MutexStates, PairGuarded, mutex_is_functional};
 use esync_guards::mutex::Second;
 use esync_guards::mutex::machine::{Guarded, Lock, MutexCommand, MutexRun};
 use esync_history::executor::{Act, NewError};
 use esync_machine::primitive::Command;
 use esync_machine::requests::Requests;
 use esync_machine::run::{Awaits, Machine};
-use esync_systems::compare::{ComparesBoth, ComparesRequests};
-use esync_systems::determined::determined;
-use esync_systems::explore::{Verdict, explore, explore_pair};
+use esync_systems::compare::{ComparesBoth, ComparesEach, ComparesRequests};
+use esync_systems::determined::{determined, several_determined};
+use esync_systems::explore::{Verdict, explore, explore_pair, explore_several};
 use esync_systems::pair::{Pair, PairAsk, PairCommand};
+use esync_systems::several::{PartCommand, Several};
 use std::alloc::{AllocError, Global};
 use std::io;
 
 type Mutex = MutexRun<(u32, u32), u32, Second, TaskId, 3, 1>;
+
+type Forks = Several<Mutex, 3>;
 
 type Channel = ChannelRun<u32, TaskId, 1, 8, 1>;
 
 type LockCommand = MutexCommand<(u32, u32), u32, TaskId>;
 
 type LockAct = Act<PairAsk<Lock, Lock>, PairCommand<LockCommand, LockCommand>>;
+
+type ForkAct = Act<Lock, PartCommand<LockCommand>>;
 
 type ChannelAct = Act<ChannelAsk<u32>, ChannelCommand<u32, TaskId>>;
 
@@ -96,6 +101,58 @@ fn one_order(alloc: Global, count: u8) -> Result<Vec<Vec<LockAct>>, AllocError> 
     Ok(tasks)
 }
 
+// Philosopher r takes the one fork and then the other, and puts both down. Request r of each fork is the philosopher's.
+fn dines(alloc: Global, r: u8, first: u8, second: u8) -> Result<Vec<ForkAct>, AllocError> {
+    let unlock = Command::End(r as usize);
+    Ok(vec![in alloc;
+        Act::Await(3 * r as usize + first as usize, Lock {}),
+        Act::Await(3 * r as usize + second as usize, Lock {}),
+        Act::Call(PartCommand {
+            part: second as usize,
+            command: unlock
+        }),
+        Act::Call(PartCommand {
+            part: first as usize,
+            command: unlock
+        }),
+    ]?)
+}
+
+// Each of three philosophers takes the fork of the same number first, and then the next one. Where one turns round, the last
+// takes them in the other order.
+fn philosophers(alloc: Global, one_turns_round: bool) -> Result<Vec<Vec<ForkAct>>, AllocError> {
+    let last = if one_turns_round {
+        dines(alloc, 2, 0, 2)?
+    } else {
+        dines(alloc, 2, 2, 0)?
+    };
+    Ok(vec![in alloc; dines(alloc, 0, 0, 1)?, dines(alloc, 1, 1, 2)?, last]?)
+}
+
+// What a step of a mutex answers and leaves is determined, so what is found of three holds of every schedule.
+fn explore_forks(alloc: Global, forks: Forks, tasks: &[Vec<ForkAct>]) -> Result<Verdict, NewError>
+    ensures { (turns : ℕ) → result ≡ Ok (Verdict.AllEnd turns) → EveryScheduleEnds ⟦<Forks as Machine>⟧.semantics.meaning ⟦<Forks as Awaits>⟧.starting turns (opened ⟦<Forks as Machine>⟧.semantics forks (map (λ acts. acts.items) tasks.now)) }
+{
+    mutex_is_functional::<(u32, u32), u32>();
+    determined::<PairGuarded<Second>, 1>();
+    several_determined::<Mutex, 3>();
+    let compares = ComparesEach {
+        parts: ComparesRequests {
+            states: MutexStates {},
+        },
+    };
+    explore_several(alloc, &compares, forks, tasks, 1000)
+}
+
+fn forks(alloc: Global) -> Result<Forks, AllocError> {
+    let mut others = Vec::new(alloc);
+    for _ in 0..2 {
+        others.push(Requests::new(Guarded::new((0, 0), Second {})))?;
+    }
+    let first = Requests::new(Guarded::new((0, 0), Second {}));
+    Ok(Several { first, others })
+}
+
 // Each consumer receives one message, and the last task sends so many.
 fn consumers(alloc: Global, count: usize, sent: usize) -> Result<Vec<Vec<ChannelAct>>, AllocError> {
     let mut tasks = Vec::new(alloc);
@@ -141,6 +198,10 @@ fn lock_crosswise(alloc: Global) -> Result<Verdict, NewError> {
     explore_mutexes(alloc, &opposite_orders(alloc)?)
 }
 
+fn dine(alloc: Global, one_turns_round: bool) -> Result<Verdict, NewError> {
+    explore_forks(alloc, forks(alloc)?, &philosophers(alloc, one_turns_round)?)
+}
+
 fn consume(alloc: Global, count: usize, sent: usize) -> Result<Verdict, NewError> {
     explore_channel(
         alloc,
@@ -157,5 +218,11 @@ fn main(rt: HostRuntime) -> io::Result<()> {
     tell(&rt, "one consumer", consume(alloc, 1, 1))?;
     tell(&rt, "two consumers", consume(alloc, 2, 2))?;
     tell(&rt, "two consumers, one message", consume(alloc, 2, 1))?;
-    tell(&rt, "two consumers, no message", consume(alloc, 2, 0))
+    tell(&rt, "two consumers, no message", consume(alloc, 2, 0))?;
+    tell(&rt, "three philosophers", dine(alloc, false))?;
+    tell(
+        &rt,
+        "three philosophers, one of whom turns round",
+        dine(alloc, true),
+    )
 }

@@ -1,53 +1,14 @@
-//! Two threads exchange a million messages through a channel, and sleep while they wait.
+//! Threads, and tasks on threads, that share primitives and sleep while they wait.
 #![tactic(auto)]
 
-use embassy_sync::channel::Channel;
-use embassy_sync::waitqueue::{Hand, TaskId};
-use esync_tasks::parking::Parking;
-use std::sync::Wait;
-use std::{io, thread};
+mod exchange;
+mod service;
+mod workers;
 
-const MESSAGES: u64 = 1_000_000;
-
-type Line<H> = Channel<u64, TaskId, H, 64>;
-
-// Sends the numbers below MESSAGES, and sleeps while there is no room.
-fn send_all<R: Wait, H: Hand<TaskId>>(parking: &Parking<'_, R, 2>, line: &Line<H>) {
-    let Some(mut seat) = parking.seat(0) else {
-        return;
-    };
-    for message in 0..MESSAGES {
-        seat.block_on(line.send(message));
-    }
-}
-
-// The sum of the messages, and how many of them came where they were sent. It sleeps while there is none.
-fn receive_all<R: Wait, H: Hand<TaskId>>(
-    parking: &Parking<'_, R, 2>,
-    line: &Line<H>,
-) -> (u64, u64) {
-    let mut sum: u64 = 0;
-    let mut in_order: u64 = 0;
-    let Some(mut seat) = parking.seat(1) else {
-        return (sum, in_order);
-    };
-    for next in 0..MESSAGES {
-        let message = seat.block_on(line.receive());
-        sum = sum.wrapping_add(message);
-        if message == next {
-            in_order = in_order.wrapping_add(1);
-        }
-    }
-    (sum, in_order)
-}
+use std::io;
 
 fn main(rt: HostRuntime) -> io::Result<()> {
-    let parking: Parking<'_, HostRuntime, 2> = Parking::new(&rt);
-    let line = Channel::new(&parking);
-    let ((), (sum, in_order)) = thread::join(
-        &rt,
-        || send_all(&parking, &line),
-        || receive_all(&parking, &line),
-    );
-    println!(rt; "{in_order} messages came in order, and their sum is {sum}")
+    exchange::example(&rt)?;
+    workers::example(&rt, rt.alloc())?;
+    service::example(&rt)
 }

@@ -9,6 +9,8 @@ mod ends_of_streams;
 #[cfg(test)]
 mod explanations;
 #[cfg(test)]
+mod rows;
+#[cfg(test)]
 mod scripts;
 #[cfg(test)]
 mod streams;

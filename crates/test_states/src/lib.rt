@@ -1,4 +1,4 @@
-//! What no recorded run and no script says of the states and of what they are made of, and each kind of run once.
+//! What neither a clause, a script nor a recorded run says of the states and of what they are made of, and each kind of run once.
 #![tactic(auto)]
 
 #[cfg(test)]

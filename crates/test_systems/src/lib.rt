@@ -2,7 +2,9 @@
 #![tactic(auto)]
 
 mod channels;
+mod eithers;
 mod mutexes;
+mod philosophers;
 
 use std::alloc::{AllocError, Global};
 

@@ -12,6 +12,7 @@ use esync_tool::{Streams, esync};
 use std::alloc::{AllocError, Global};
 use std::fs::Files;
 use std::sync::Wait;
+use std::time::Clock;
 use std::{env, fs, mem};
 
 /// What plays a script.
@@ -64,7 +65,7 @@ fn written_by_syncrun(alloc: Global, input: &[u8]) -> Written {
 }
 
 // What the tool writes, by these words.
-fn written_by_tool<R: Files + Wait>(
+fn written_by_tool<R: Files + Wait + Clock>(
     rt: &R,
     alloc: Global,
     line: &str,
@@ -81,6 +82,7 @@ fn written_by_tool<R: Files + Wait>(
         output: &mut output,
         notes: &mut notes,
         errors: &mut errors,
+        is_watched: false,
     };
     let status = esync(rt, alloc, words.as_slice(), streams);
     Ok(Written {
@@ -92,7 +94,7 @@ fn written_by_tool<R: Files + Wait>(
 }
 
 // What the tool writes, of a script whose first line has its words.
-fn written_by_words<R: Files + Wait>(
+fn written_by_words<R: Files + Wait + Clock>(
     rt: &R,
     alloc: Global,
     script: &[u8],
@@ -122,7 +124,11 @@ fn without_values(alloc: Global, notes: &str) -> Result<String, AllocError> {
 }
 
 // What `esync explain` writes, but for the answers and what the primitive holds.
-fn reasons_of<R: Files + Wait>(rt: &R, alloc: Global, script: &[u8]) -> anyhow::Result<Written> {
+fn reasons_of<R: Files + Wait + Clock>(
+    rt: &R,
+    alloc: Global,
+    script: &[u8],
+) -> anyhow::Result<Written> {
     let Written {
         notes,
         errors,
@@ -138,7 +144,7 @@ fn reasons_of<R: Files + Wait>(rt: &R, alloc: Global, script: &[u8]) -> anyhow::
     })
 }
 
-fn written_of<R: Files + Wait>(
+fn written_of<R: Files + Wait + Clock>(
     rt: &R,
     alloc: Global,
     mode: Mode,
@@ -153,7 +159,7 @@ fn written_of<R: Files + Wait>(
 }
 
 /// The text of what is written of a script.
-fn text_of<R: Files + Wait>(
+fn text_of<R: Files + Wait + Clock>(
     rt: &R,
     alloc: Global,
     mode: Mode,
@@ -181,7 +187,7 @@ fn scripts_of(alloc: Global, case: &[u8]) -> Result<Vec<Vec<u8>>, AllocError> {
     Ok(scripts)
 }
 
-fn text_of_case<R: Files + Wait>(
+fn text_of_case<R: Files + Wait + Clock>(
     rt: &R,
     alloc: Global,
     mode: Mode,

@@ -21,5 +21,5 @@ judged Q before after (Err fault) outcome ok err p j = elim err [
 
 pub returns : goal.returns
 returns g c j =
-    judged (λ b a outcome. PlaysScript nat_eq g.T.Telling.tells (greater nat_cmp) (less nat_cmp) g.T.Telling.opening g.T.Telling.closing (g.R.Read.remaining c.args.input) b a outcome) _ _ _ _
+    judged (λ b a outcome. PlaysScript nat_eq (greater nat_cmp) (less nat_cmp) g.T.Telling.story (g.R.Read.remaining c.args.input) b a outcome) _ _ _ _
     c.finish.ensures.ok c.finish.ensures.err c.play_script-outcome.ensures j

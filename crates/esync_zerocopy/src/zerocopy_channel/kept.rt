@@ -1,12 +1,13 @@
 //! A channel of slots that is kept as it is now.
-use super::ChannelState;
+use super::RowState;
+use super::row::CopiedRow;
 use esync_base::kept::Kept;
 use std::alloc::AllocError;
 
-impl<T: Copy, W: Copy> Kept for ChannelState<T, W> {
+impl<S: CopiedRow, W: Copy> Kept for RowState<S, W> {
     fn kept(&self) -> Result<Self, AllocError> {
-        let slots = Vec::from_slice(*self.slots.allocator(), &self.slots)?;
-        Ok(ChannelState {
+        let slots = self.slots.copied()?;
+        Ok(RowState {
             slots,
             turns: self.turns.kept()?,
         })

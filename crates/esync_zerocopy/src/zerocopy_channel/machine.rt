@@ -5,7 +5,8 @@ ghost use Rattle.esync_machine.specs.Object.{requests_meaning};
 ghost use Rattle.esync_zerocopy.specs.Slots.{EachOnce};
 ghost use Rattle.esync_zerocopy.specs.ZeroRules.{zero_rules, zero_wakings};
 
-use super::{ChannelState, Side, SlotLent};
+use super::row::Row;
+use super::{ChannelState, RowState, Side, SlotLent};
 use esync_base::waitqueue::{Context, Poll, Wakes};
 use esync_machine::primitive::{Answer, Command, Primitive, Reach, Turn};
 use esync_machine::requests::Requests;
@@ -64,14 +65,17 @@ fn told<T: Copy>(side: Side, number: usize, value: T) -> Lent<T>
     }
 }
 
-impl<T: Copy, W: Copy + Eq> ChannelState<T, W> {
+impl<S: Row, W: Copy + Eq> RowState<S, W>
+where
+    S::Item: Copy,
+{
     ghost use Rattle.std.specs.Prelude.{◌≡◌, ◌<◌, ◌++◌, [], None, length};
     ghost use Rattle.esync_zerocopy.specs.Slots.{other, before, is_out, out_if, waiting_unless, wakes_unless};
     ghost use Rattle.esync_zerocopy.specs.ZeroRules.{lent_to, Writes, IsDoneBy, EndsLoan, hands_out_at};
     ghost use Rattle.esync_machine.specs.Wakings.{IsHanded, unless_refused};
 
     #[tactic(auto, using(crate::specs::LendingLaws::first_kept))]
-    fn try_at(&mut self, side: Side) -> Option<Lent<T>>
+    fn try_at(&mut self, side: Side) -> Option<Lent<S::Item>>
         ensures lent { result ≡ lent_to side self.old.slots }
         ensures state { self.new ≡ record { slots = record { sides = out_if result side self.old.slots.sides; values = self.old.slots.values }; waiting = self.old.waiting } }
     {
@@ -86,7 +90,7 @@ impl<T: Copy, W: Copy + Eq> ChannelState<T, W> {
         side: Side,
         waker: W,
         wakes: &mut Wakes<W, K>,
-    ) -> Option<Lent<T>>
+    ) -> Option<Lent<S::Item>>
         requires { length wakes.old < K }
         ensures lent { result ≡ lent_to side self.old.slots }
         ensures none { result ≡ None → before side self.old.slots.sides ≡ [] }
@@ -102,7 +106,7 @@ impl<T: Copy, W: Copy + Eq> ChannelState<T, W> {
         Some(told(side, number?, value?))
     }
 
-    fn write_at(&mut self, value: T) -> Answer<ZeroHeard<T>>
+    fn write_at(&mut self, value: S::Item) -> Answer<ZeroHeard<S::Item>>
         ensures allowed { Writes self.old.slots.sides.sending value self.old.slots result self.new.slots }
         ensures waiting { self.new.waiting ≡ self.old.waiting }
     {
@@ -119,7 +123,7 @@ impl<T: Copy, W: Copy + Eq> ChannelState<T, W> {
         &mut self,
         side: Side,
         wakes: &mut Wakes<W, K>,
-    ) -> Answer<ZeroHeard<T>>
+    ) -> Answer<ZeroHeard<S::Item>>
         requires empty { wakes.old ≡ [] }
         requires room { 0 < K }
         ensures allowed { IsDoneBy (before side self.old.slots.sides) side self.old.slots result self.new.slots }
@@ -135,7 +139,7 @@ impl<T: Copy, W: Copy + Eq> ChannelState<T, W> {
         Answer::Done
     }
 
-    fn end_at(&mut self, side: Side) -> Answer<ZeroHeard<T>>
+    fn end_at(&mut self, side: Side) -> Answer<ZeroHeard<S::Item>>
         ensures allowed { EndsLoan (is_out side self.old.slots.sides) side self.old.slots result self.new.slots }
         ensures waiting { self.new.waiting ≡ self.old.waiting }
     {
@@ -147,14 +151,17 @@ impl<T: Copy, W: Copy + Eq> ChannelState<T, W> {
     }
 }
 
-impl<T: Copy, W: Copy + Eq, const K: usize> Primitive<K> for ChannelState<T, W> {
+impl<S: Row, W: Copy + Eq, const K: usize> Primitive<K> for RowState<S, W>
+where
+    S::Item: Copy,
+{
     type Ask = Side;
 
     type Held = Side;
 
-    type Call = ZeroCall<T>;
+    type Call = ZeroCall<S::Item>;
 
-    type Heard = ZeroHeard<T>;
+    type Heard = ZeroHeard<S::Item>;
 
     type Waker = W;
 
@@ -162,7 +169,7 @@ impl<T: Copy, W: Copy + Eq, const K: usize> Primitive<K> for ChannelState<T, W> 
     ghost use Rattle.esync_zerocopy.specs.ZeroLaws.{OwesSlot, zero_idle, zero_pending};
     ghost use Rattle.esync_machine.specs.RulesLaws.{all_requests};
 
-    ghost rules = { zero_rules T };
+    ghost rules = { zero_rules S.Item };
 
     ghost core = { λ m. m.slots };
 
@@ -183,7 +190,12 @@ impl<T: Copy, W: Copy + Eq, const K: usize> Primitive<K> for ChannelState<T, W> 
     }
 
     #[tactic(auto, using(crate::specs::ZeroLaws::waits_registered))]
-    fn poll(&mut self, held: Side, waker: W, wakes: &mut Wakes<W, K>) -> Turn<ZeroHeard<T>, Side> {
+    fn poll(
+        &mut self,
+        held: Side,
+        waker: W,
+        wakes: &mut Wakes<W, K>,
+    ) -> Turn<ZeroHeard<S::Item>, Side> {
         match self.poll_at(held, waker, wakes) {
             Some(lent) => Turn::over(ZeroHeard::Lends(lent)),
             None => Turn::waits(held),
@@ -192,20 +204,20 @@ impl<T: Copy, W: Copy + Eq, const K: usize> Primitive<K> for ChannelState<T, W> 
 
     fn end(&mut self, _held: Side, _wakes: &mut Wakes<W, K>) {}
 
-    fn reach(_call: &ZeroCall<T>) -> Reach {
+    fn reach(_call: &ZeroCall<S::Item>) -> Reach {
         Reach::Nobody
     }
 
-    fn leaves(&self, _call: &ZeroCall<T>, _held: &Side) -> bool {
+    fn leaves(&self, _call: &ZeroCall<S::Item>, _held: &Side) -> bool {
         false
     }
 
     fn call(
         &mut self,
-        call: ZeroCall<T>,
+        call: ZeroCall<S::Item>,
         _place: &mut Option<Side>,
         wakes: &mut Wakes<W, K>,
-    ) -> Answer<ZeroHeard<T>> {
+    ) -> Answer<ZeroHeard<S::Item>> {
         match call {
             ZeroCall::Try(side) => Answer::Gives(ZeroHeard::Tried(self.try_at(side))),
             ZeroCall::Write(value) => self.write_at(value),
@@ -225,10 +237,10 @@ impl<T: Copy, W: Copy + Eq, const K: usize> Primitive<K> for ChannelState<T, W> 
 
     ghost symmetric = { λ side side2 a. tt };
 
-    ghost no_requests = { all_requests (zero_rules T) (λ side. tt) (λ o o2 call p p2 a c. c.1) };
+    ghost no_requests = { all_requests (zero_rules S.Item) (λ side. tt) (λ o o2 call p p2 a c. c.1) };
 }
 
-/// A zero-copy channel as a machine, with requests at the numbers below `REQS`.
+/// A zero-copy channel as a machine, with requests at the numbers below `REQS`. Its slots stand in a vector.
 pub type ZeroRun<T, W, const REQS: usize, const K: usize> = Requests<ChannelState<T, W>, REQS, K>;
 
 /// The commands of a zero-copy channel.
@@ -239,12 +251,14 @@ pub type ZeroReply<T, W, const K: usize> = Reply<Answer<ZeroHeard<T>>, W, K>;
 
 /// Gives the commands to the channel, one after another, as `run` does: the answers are those of the slots, and no wake is lost. After
 /// them each slot stands once in one of the two lists, so that none is lent to both sides.
-pub fn run_zerocopy<T: Copy, W: Copy + Eq, const REQS: usize, const K: usize>(
+pub fn run_zerocopy<S: Row, W: Copy + Eq, const REQS: usize, const K: usize>(
     alloc: Global,
-    machine: &mut ZeroRun<T, W, REQS, K>,
-    commands: Vec<ZeroCommand<T, W>>,
-) -> Result<Vec<ZeroReply<T, W, K>>, AllocError>
-    ensures run { IfOk result (λ replies. GoodRun (requests_meaning (zero_rules T) (zero_wakings W.eq) W.eq K) (record { core = machine.old.state.slots; requests = machine.old.requests }) machine.old.state.waiting commands.items replies.items (record { core = machine.new.state.slots; requests = machine.new.requests }) machine.new.state.waiting) }
+    machine: &mut Requests<RowState<S, W>, REQS, K>,
+    commands: Vec<ZeroCommand<S::Item, W>>,
+) -> Result<Vec<ZeroReply<S::Item, W, K>>, AllocError>
+where
+    S::Item: Copy,
+    ensures run { IfOk result (λ replies. GoodRun (requests_meaning (zero_rules S.Item) (zero_wakings W.eq) W.eq K) (record { core = machine.old.state.slots; requests = machine.old.requests }) machine.old.state.waiting commands.items replies.items (record { core = machine.new.state.slots; requests = machine.new.requests }) machine.new.state.waiting) }
     ensures once { EachOnce machine.new.state.slots.sides }
     ensures refused { OnErr result (machine.new ≡ machine.old) }
 {

@@ -28,4 +28,5 @@ returns-clause-ok g c =
       said = says_words g.O.Opens.opens c.in_ok-line.line.now l.1 l.2 ∙ rw c.of.ensures at said;
       read = good_line g.O.Opens.opens c.read.new.self _ _ c.in_ok-read.ensures.line c.if-not-branch.false c.in_ok-line.line.now l.0 l.2;
       printed = appends_kept_before _ _ _ _ c.read.ensures.output c.in_ok-open.ensures.ok;
+      noted = c.in_ok-open.ensures.noted l.2;
     }

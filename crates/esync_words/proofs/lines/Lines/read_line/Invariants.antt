@@ -1,12 +1,11 @@
 use Rattle.std.proofs.Common.{◌≡◌, ◌-◌, false, length}
-use Rattle.std.specs.Io.Buffered.{reader_remaining}
 use Rattle.std.specs.Io.KnownBytes.{Consumes}
 use Rattle.esync_words.specs.Lines.{first_line}
 use Rattle.esync_words.proofs.lines.Lines.read_line.Given as goal
 
 abbrev pub invariant-loop-self : goal.invariant-loop-self
 invariant-loop-self g l = record {
-  consumed : Consumes l.fn.self.left (reader_remaining g.R.Read.remaining l.self-inside.input) l.self-inside.line.items;
+  consumed : Consumes l.fn.self.left (g.R.ByteSource.remaining l.self-inside.input) l.self-inside.line.items;
   plain : first_line l.self-inside.line.items ≡ l.self-inside.line.items;
   number : l.self-inside.number ≡ l.fn.self.number;
   more : l.self-inside.ended ≡ false;

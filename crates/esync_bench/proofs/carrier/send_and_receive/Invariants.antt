@@ -1,8 +1,0 @@
-use Rattle.std.proofs.Common.{◌≡◌, ◌+◌, length, sum, take}
-use Rattle.esync_bench.proofs.carrier.send_and_receive.Given as goal
-
-abbrev pub invariant-loop-message : goal.invariant-loop-message
-invariant-loop-message g l = record {
-  held : length (g.C.Carrier.held l.carrier) ≡ length (g.C.Carrier.held l.initial.carrier);
-  total : l.total + sum (g.C.Carrier.held l.carrier) ≡ sum (g.C.Carrier.held l.initial.carrier) + sum (take l.message-index l.messages);
-}

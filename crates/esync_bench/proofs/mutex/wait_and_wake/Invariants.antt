@@ -1,5 +1,0 @@
-use Rattle.std.proofs.Common.{◌≡◌, sum, take, false}
-use Rattle.esync_bench.proofs.mutex.wait_and_wake.Given as goal
-
-abbrev pub invariant-loop-message : goal.invariant-loop-message
-invariant-loop-message l = (l.total ≡ sum (take l.message-index l.messages)) × (l.state.held ≡ false)

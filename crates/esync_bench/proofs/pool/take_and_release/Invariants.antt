@@ -1,9 +1,0 @@
-use Rattle.std.proofs.Common.{◌≡◌, ◌-◌, ◌^◌, sum, take, []}
-use Rattle.esync_bench.proofs.pool.take_and_release.Given as goal
-
-abbrev pub invariant-loop-message : goal.invariant-loop-message
-invariant-loop-message g l = record {
-  available : g.P.Pool.available l.pool ≡ 2 ^ 32 - 1;
-  nobody : g.P.Pool.waiting l.pool ≡ [];
-  total : l.total ≡ sum (take l.message-index l.messages);
-}

@@ -1,4 +1,0 @@
-use Rattle.esync_journal_tests.proofs.threads.count_calls.Given as goal
-
-abbrev pub ghosts-call_under : goal.ghosts-call_under
-ghosts-call_under g a = record { name = a.blank.name; parts = a.blank.parts }

@@ -1,0 +1,92 @@
+//! What a page in a browser calls: a script is played, or explained, in memory that the page lends.
+//!
+//! Nothing is allocated, and nothing is imported from the page. The page grows the module's memory, puts a text there, and lends it with
+//! rows for what is written and a place for the number of a line.
+//!
+//! | Status | The script | `line` |
+//! |---|---|---|
+//! | 0 | came to its end | 0 |
+//! | 2 | has a line that is no command | its number |
+//! | 4 | has answers, or notes, that don't fit into their row | 0 |
+#![tactic(auto)]
+
+ghost use Rattle.std.specs.Prelude.{◌≡◌, [], Some, IfErr, take};
+ghost use Rattle.esync_page.specs.Ended.{line_of};
+ghost use Rattle.esync_script.specs.Opening.{PlaysScript, status_of_outcome};
+
+use crate::row::Row;
+use esync_priority::prio::{Kind, Max, Min};
+use esync_script::play_bytes;
+use esync_words::explain::Explained;
+use esync_words::fault::Fault;
+use esync_words::play::{Replies, Telling};
+
+pub mod row;
+
+/// Plays a script, and writes its answers. `play_into` says what is proved of them.
+#[unsafe(no_mangle)]
+pub extern "C" fn play(text: &[u8], answers: &mut Row, line: &mut u64) -> u8 {
+    ended(play_into(text, answers), line)
+}
+
+/// Plays a script, and writes each line with its number and its answer, and to `notes` why each waker was handed out and what the
+/// primitive holds. `explain_into` says what is proved of the answers.
+#[unsafe(no_mangle)]
+pub extern "C" fn explain(text: &[u8], answers: &mut Row, notes: &mut Row, line: &mut u64) -> u8 {
+    ended(explain_into(text, answers, notes), line)
+}
+
+/// Plays a script, and writes its answers into the row, in the place of what it had.
+///
+/// The commands are those that the lines say, the replies are a run of the primitive that line 1 names, and the answers are their text.
+/// An error says which line is no command, or that the row has no room.
+pub fn play_into(text: &[u8], answers: &mut Row) -> Result<(), Fault>
+    ensures plays { PlaysScript ⟦<u64 as PartialEq>⟧.eq ⟦<Max as Kind<u32>>⟧.above ⟦<Min as Kind<u32>>⟧.above ⟦<Replies as Telling>⟧.story (Some text.now) (Some []) (Some (take answers.new.len answers.new.bytes)) result }
+    ensures err { IfErr result (λ fault. fault ≡ Fault.InputOutput → ⊥) }
+{
+    answers.clear();
+    match play_row(&mut Replies {}, text, answers) {
+        Err(Fault::InputOutput) => Err(Fault::OutOfMemory),
+        outcome => outcome,
+    }
+}
+
+/// Plays a script, and writes its lines with their answers into a row, in the place of what it had, and notes into another. No contract
+/// speaks of the notes.
+pub fn explain_into<'n>(text: &[u8], answers: &mut Row, notes: &'n mut Row) -> Result<(), Fault>
+    ensures plays { PlaysScript ⟦<u64 as PartialEq>⟧.eq ⟦<Max as Kind<u32>>⟧.above ⟦<Min as Kind<u32>>⟧.above ⟦<Explained<&'n mut Row> as Telling>⟧.story (Some text.now) (Some []) (Some (take answers.new.len answers.new.bytes)) result }
+    ensures err { IfErr result (λ fault. fault ≡ Fault.InputOutput → ⊥) }
+{
+    answers.clear();
+    notes.clear();
+    match play_row(&mut Explained::new(notes), text, answers) {
+        Err(Fault::InputOutput) => Err(Fault::OutOfMemory),
+        outcome => outcome,
+    }
+}
+
+// Plays a script, and writes what is told of it into an empty row.
+fn play_row<T: Telling>(telling: &mut T, text: &[u8], row: &mut Row) -> Result<(), Fault>
+    requires { take row.old.len row.old.bytes ≡ [] }
+    ensures { PlaysScript ⟦<u64 as PartialEq>⟧.eq ⟦<Max as Kind<u32>>⟧.above ⟦<Min as Kind<u32>>⟧.above T.story (Some text.now) (Some []) (Some (take row.new.len row.new.bytes)) result }
+{
+    play_bytes(telling, text, row)
+}
+
+// The status of a script that ended so, and the number of the line that is no command, or 0.
+fn ended(outcome: Result<(), Fault>, line: &mut u64) -> u8
+    ensures status { result ≡ status_of_outcome outcome }
+    ensures line { line.new ≡ line_of outcome }
+{
+    *line = match outcome {
+        Err(Fault::NotACommand(number)) => number,
+        _ => 0,
+    };
+    match outcome {
+        Ok(()) => 0,
+        Err(fault) => fault.status(),
+    }
+}
+
+#[cfg(test)]
+mod tests;

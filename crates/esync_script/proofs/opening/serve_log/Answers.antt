@@ -1,4 +1,0 @@
-use Rattle.esync_script.proofs.opening.serve_log.Goals as goal
-
-pub returns : goal.returns
-returns g c = rw c.requires.subscribers at (rw c.requires.registrations at (rw c.requires.object at c.serve.ensures))
