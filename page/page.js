@@ -175,16 +175,15 @@ function showMessage(message) {
 function reasonsOf(machine, shown) {
   const reasons = [];
   const result = machine.call("explain", shown.script, 2);
-  let number = 2;
   for (const note of linesOf(result.texts[1])) {
-    if (/^ *[0-9]/.test(note) && number <= (shown.message.line ?? number)) {
-      reasons.push({ number, text: note.trim() });
+    const [, number, text] = /^([0-9]+): (.*)$/.exec(note) ?? [];
+    // (the other notes begin with a word)
+    if (/^[0-9]/.test(text ?? "") && Number(number) <= (shown.message.line ?? Number(number))) {
+      reasons.push({ number, text });
     }
-    // (the last note of a line is what the primitive holds)
-    number += note.startsWith("   Requests {") ? 1 : 0;
   }
   if (result.status === 4) {
-    reasons.push({ number, text: "there is no room for further notes" });
+    reasons.push({ number: reasons.at(-1)?.number ?? 1, text: "there is no room for further notes" });
   }
   return reasons;
 }

@@ -69,7 +69,7 @@ fn draw<'a>(alloc: Global) -> Result<Command<'a>, AllocError> {
 fn explain<'a>(alloc: Global) -> Result<Command<'a>, AllocError> {
     Command::new(alloc, "explain")
         .about(
-            "Answers each line of a script, and says why each waker was handed out and what the primitive holds then",
+            "Answers each line of a script, says why each waker was handed out, and what each request would hear then",
         )
         .arg(one_file(alloc, SCRIPT))
 }

@@ -149,14 +149,14 @@ fn reasons(alloc: Global, text: &str, number: u64) -> Vec<String> {
 // Why each waker is handed out there, as an explanation of the script says.
 fn explained_at(alloc: Global, text: &str, number: u64) -> Result<Vec<String>, Stopped> {
     let recording = Recording::read(alloc, text)?;
-    let script = recording.script.as_str();
-    let before = notes(alloc, script, number.saturating_sub(1))?;
-    let behind = notes(alloc, script, number)?;
-    let own = behind.get(before.len()..).unwrap_or(&[]);
+    let notes = numbered_notes(alloc, recording.script.as_str(), number)?;
+    let margin = format!(in alloc; "{number}: ")?;
     let mut reasons = Vec::new(alloc);
-    for note in str::from_utf8(own).unwrap_or("").split('\n') {
-        // (the other notes, who stands where and what the primitive holds, begin with a word)
-        let note = note.trim_start();
+    for note in str::from_utf8(&notes).unwrap_or("").split('\n') {
+        let Some(note) = note.strip_prefix(margin.as_str()) else {
+            continue;
+        };
+        // (the other notes, who stands where and what would be heard, begin with a word)
         if note.starts_with(|first: char| first.is_ascii_digit()) {
             reasons
                 .push(String::from_str(alloc, note)?)
@@ -166,8 +166,8 @@ fn explained_at(alloc: Global, text: &str, number: u64) -> Result<Vec<String>, S
     Ok(reasons)
 }
 
-// The notes of an explanation of the first so many lines of a script.
-fn notes(alloc: Global, script: &str, count: u64) -> Result<Vec<u8>, Stopped> {
+// The notes of an explanation of the first so many lines of a script, each behind the number of its line.
+fn numbered_notes(alloc: Global, script: &str, count: u64) -> Result<Vec<u8>, Stopped> {
     let mut lines = String::new(alloc);
     for line in script.split('\n').take(count as usize) {
         lines.push_str(line)?;
@@ -175,7 +175,7 @@ fn notes(alloc: Global, script: &str, count: u64) -> Result<Vec<u8>, Stopped> {
     }
     let mut notes = Vec::new(alloc);
     let mut answers = Vec::new(alloc);
-    let mut explained = Explained::new(&mut notes);
+    let mut explained = Explained::numbered(&mut notes);
     play_text(&mut explained, lines.as_str(), &mut answers)?;
     drop(explained);
     Ok(notes)

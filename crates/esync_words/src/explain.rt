@@ -1,5 +1,5 @@
-//! A script with an explanation of each line: why each waker was handed out, who is registered where behind it, which requests wait,
-//! and what the primitive would answer then.
+//! A script with an explanation of each line: why each waker was handed out, who is registered where behind it, what a
+//! poll of each request would hear then, and what the primitive would answer.
 ghost use Rattle.std.specs.Prelude.{◌≡◌, ◌≤◌, ◌⊎◌, ℕ, List, [], ◌∷◌, length, true, false, OnOk, IfErr, Err, ◌++◌, codes};
 ghost use Rattle.std.specs.Io.KnownBytes.{Appends};
 ghost use Rattle.esync_base.specs.Rows.{items_of};
@@ -56,20 +56,52 @@ impl Standings {
     }
 }
 
-/// Each line with its number, and what it is answered; and to `notes`, why each waker was handed out, and what the machine holds
-/// behind the line.
+// Where notes are written, and whether each begins with the number of its line.
+#[derive(Drop)]
+struct Notes<N: Write + Drop> {
+    output: N,
+    is_numbered: bool,
+    number: u64,
+}
+
+impl<N: Write + Drop> Notes<N> {
+    // Writes what stands before a note.
+    fn begin(&mut self) -> io::Result<()> {
+        if self.is_numbered {
+            write!(self.output, "{}: ", self.number)
+        } else {
+            write!(self.output, "   ")
+        }
+    }
+}
+
+/// Each line with its number, and what it is answered; and to its notes, why each waker was handed out, who is registered then, and what
+/// requests and questions would hear.
 #[derive(Drop)]
 pub struct Explained<N: Write + Drop> {
-    notes: N,
+    notes: Notes<N>,
     // Who was registered behind the line before.
     before: Standings,
 }
 
 impl<N: Write + Drop> Explained<N> {
-    /// Writes its notes there. At first nobody is registered.
+    /// Writes its notes there, each behind three spaces, as they stand under their lines. At first nobody is registered.
     pub fn new(notes: N) -> Self {
+        Explained::with(notes, false)
+    }
+
+    /// Writes its notes there, each behind the number of its line and a colon.
+    pub fn numbered(notes: N) -> Self {
+        Explained::with(notes, true)
+    }
+
+    fn with(output: N, is_numbered: bool) -> Self {
         Explained {
-            notes,
+            notes: Notes {
+                output,
+                is_numbered,
+                number: 1,
+            },
             before: Standings::new(),
         }
     }
@@ -96,6 +128,7 @@ impl<N: Write + Drop> Telling for Explained<N> {
         wakers: &[Option<u64>],
         output: &mut W,
     ) -> Result<(), Fault> {
+        self.notes.number = number;
         print_line(number, line, output)?;
         write!(output, "   ")?;
         print_reply::<V, W>(answer, wakers, output)
@@ -118,7 +151,8 @@ impl<N: Write + Drop> Telling for Explained<N> {
         }
         note_standing::<V, N>(&now.row, &mut self.notes)?;
         if now.others {
-            writeln!(self.notes, "   others are registered too")?;
+            self.notes.begin()?;
+            writeln!(self.notes.output, "others are registered too")?;
         }
         note_requests::<V, M, N>(machine, &mut self.notes)?;
         note_questions::<V, M, N>(machine, &mut self.notes)?;
@@ -191,12 +225,12 @@ fn reason_of(
 }
 
 // Notes why the waker was handed out: for each place that it left, or else that the step was its own.
-fn explain<V: Vocabulary, N: Write>(
+fn explain<V: Vocabulary, N: Write + Drop>(
     waker: u64,
     giver: Giver,
     before: &[Standing],
     now: &[Standing],
-    notes: &mut N,
+    notes: &mut Notes<N>,
 ) -> io::Result<()> {
     let mut is_own = true;
     for number in 0..usize::MAX {
@@ -209,13 +243,20 @@ fn explain<V: Vocabulary, N: Write>(
         }
     }
     if is_own {
-        writeln!(notes, "   {waker} is told to poll again by its own poll")?;
+        notes.begin()?;
+        writeln!(
+            notes.output,
+            "{waker} is told to poll again by its own poll"
+        )?;
     }
     Ok(())
 }
 
 // Notes who is registered at each place that has somebody.
-fn note_standing<V: Vocabulary, N: Write>(now: &[Standing], notes: &mut N) -> io::Result<()> {
+fn note_standing<V: Vocabulary, N: Write + Drop>(
+    now: &[Standing],
+    notes: &mut Notes<N>,
+) -> io::Result<()> {
     for number in 0..usize::MAX {
         let Some(place) = V::place(number) else {
             break;
@@ -225,29 +266,36 @@ fn note_standing<V: Vocabulary, N: Write>(now: &[Standing], notes: &mut N) -> io
     Ok(())
 }
 
-fn note_place<N: Write>(
+fn note_place<N: Write + Drop>(
     number: usize,
     name: &str,
     now: &[Standing],
-    notes: &mut N,
+    notes: &mut Notes<N>,
 ) -> io::Result<()> {
     if now.iter().all(|standing| standing.place != number) {
         return Ok(());
     }
-    write!(notes, "   {name}:")?;
+    notes.begin()?;
+    write!(notes.output, "{name}:")?;
     for standing in now {
         if standing.place == number {
-            write!(notes, " {}", standing.waker)?;
+            write!(notes.output, " {}", standing.waker)?;
         }
     }
-    writeln!(notes)
+    writeln!(notes.output)
 }
 
-fn note<N: Write>(waker: u64, place: Place, reason: Reason, notes: &mut N) -> io::Result<()> {
-    write!(notes, "   {waker} stood at {}: ", place.name)?;
+fn note<N: Write + Drop>(
+    waker: u64,
+    place: Place,
+    reason: Reason,
+    notes: &mut Notes<N>,
+) -> io::Result<()> {
+    notes.begin()?;
+    write!(notes.output, "{waker} stood at {}: ", place.name)?;
     match reason {
-        Reason::Told => writeln!(notes, "{}", place.event),
-        Reason::Displaced(own) => writeln!(notes, "{own} took its place"),
+        Reason::Told => writeln!(notes.output, "{}", place.event),
+        Reason::Displaced(own) => writeln!(notes.output, "{own} took its place"),
     }
 }
 
@@ -265,13 +313,13 @@ where
     Ok(copy.step(command))
 }
 
-// Notes of each request whether it waits, or what a poll of it would be answered now.
-fn note_requests<V, M, N>(machine: &M, notes: &mut N) -> Result<(), Fault>
+// Notes of each request what a poll of it would hear now.
+fn note_requests<V, M, N>(machine: &M, notes: &mut Notes<N>) -> Result<(), Fault>
 where
     V: Vocabulary,
     M: Machine<Command = Command<V::Ask, u64, V::Call>> + Copied + Drop,
     M::Reply: Parts<V::Heard> + Drop,
-    N: Write,
+    N: Write + Drop,
     ensures { IfErr result (λ fault. IsJudged (Err fault) → ⊥) }
 {
     for r in 0..REQS {
@@ -281,32 +329,30 @@ where
     Ok(())
 }
 
-fn note_request<V: Vocabulary, N: Write>(
+fn note_request<V: Vocabulary, N: Write + Drop>(
     r: usize,
     answer: &Answer<V::Heard>,
-    notes: &mut N,
+    notes: &mut Notes<N>,
 ) -> Result<(), Fault>
     ensures { IfErr result (λ fault. IsJudged (Err fault) → ⊥) }
 {
-    match answer {
-        Answer::NoSuch => {}
-        Answer::Pending => writeln!(notes, "   request {r} waits")?,
-        _ => {
-            write!(notes, "   request {r} is due: ")?;
-            print_answer::<V, N>(answer, notes)?;
-            writeln!(notes)?;
-        }
+    if let Answer::NoSuch = answer {
+        return Ok(());
     }
+    notes.begin()?;
+    write!(notes.output, "request {r} would hear ")?;
+    print_answer::<V, N>(answer, &mut notes.output)?;
+    writeln!(notes.output)?;
     Ok(())
 }
 
 // Notes in a line what the questions of these words would be answered now.
-fn note_questions<V, M, N>(machine: &M, notes: &mut N) -> Result<(), Fault>
+fn note_questions<V, M, N>(machine: &M, notes: &mut Notes<N>) -> Result<(), Fault>
 where
     V: Vocabulary,
     M: Machine<Command = Command<V::Ask, u64, V::Call>> + Copied + Drop,
     M::Reply: Parts<V::Heard> + Drop,
-    N: Write,
+    N: Write + Drop,
     ensures { IfErr result (λ fault. IsJudged (Err fault) → ⊥) }
 {
     let mut is_first = true;
@@ -319,25 +365,29 @@ where
         }
     }
     if !is_first {
-        writeln!(notes)?;
+        writeln!(notes.output)?;
     }
     Ok(())
 }
 
 // Notes what a question would be answered, behind the one before it. `false` where it asks for what isn't there.
-fn note_question<V: Vocabulary, N: Write>(
+fn note_question<V: Vocabulary, N: Write + Drop>(
     is_first: bool,
     question: &str,
     answer: &Answer<V::Heard>,
-    notes: &mut N,
+    notes: &mut Notes<N>,
 ) -> Result<bool, Fault>
     ensures { IfErr result (λ fault. IsJudged (Err fault) → ⊥) }
 {
     if let Answer::NoSuch = answer {
         return Ok(false);
     }
-    let before = if is_first { "   " } else { ", " };
-    write!(notes, "{before}{question}: ")?;
-    print_answer::<V, N>(answer, notes)?;
+    if is_first {
+        notes.begin()?;
+    } else {
+        write!(notes.output, ", ")?;
+    }
+    write!(notes.output, "{question}: ")?;
+    print_answer::<V, N>(answer, &mut notes.output)?;
     Ok(true)
 }

@@ -22,7 +22,7 @@ enum Mode {
     Syncrun,
     /// The tool by these words, with the script as its standard input.
     Tool(&'static str),
-    /// `esync explain`, of which the reasons alone are printed: no answer, and of the notes not what the primitive holds.
+    /// `esync explain`, of which the notes alone are printed: no line and no answer.
     Reasons,
     /// The tool by the words of the first line, with what follows as its standard input.
     Words,
@@ -112,18 +112,7 @@ fn written_by_words<R: Files + Wait + Clock>(
     )
 }
 
-// The notes, each up to its first brace.
-fn without_values(alloc: Global, notes: &str) -> Result<String, AllocError> {
-    let mut short = String::new(alloc);
-    for note in notes.lines() {
-        let (before, _) = note.split_once(" {").unwrap_or((note, ""));
-        short.push_str(before)?;
-        short.push('\n')?;
-    }
-    Ok(short)
-}
-
-// What `esync explain` writes, but for the answers and what the primitive holds.
+// What `esync explain` writes, but for the answers.
 fn reasons_of<R: Files + Wait + Clock>(
     rt: &R,
     alloc: Global,
@@ -135,10 +124,9 @@ fn reasons_of<R: Files + Wait + Clock>(
         status,
         ..
     } = written_by_tool(rt, alloc, "esync explain", script)?;
-    let reasons = without_values(alloc, str::from_utf8(&notes)?)?;
     Ok(Written {
         output: Vec::new(alloc),
-        notes: reasons.into_bytes(),
+        notes,
         errors,
         status,
     })
