@@ -7,7 +7,5 @@ pub mod Turning
 pub mod Flags
 pub mod Waiting
 pub mod Opening
-pub mod Functional
 pub mod EachLike
-pub mod SeveralDetermined
-pub mod Together
+pub mod Holding

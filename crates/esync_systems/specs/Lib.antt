@@ -3,7 +3,6 @@ pub mod PairLaws
 pub mod Parts
 pub mod Either
 pub mod EitherLaws
-pub mod One
 pub mod Asking
 pub mod Schedules
 pub mod Positions
@@ -13,3 +12,6 @@ pub mod Functional
 pub mod Several
 pub mod SeveralLaws
 pub mod EachPart
+pub mod FunctionalLaws
+pub mod TogetherLaws
+pub mod SeveralTogetherLaws

@@ -7,8 +7,8 @@ ghost use Rattle.esync_systems.specs.Schedules.{opened, EveryScheduleCanEnd, Eve
 use esync_base::waitqueue::TaskId;
 use esync_channel::channel::ChannelState;
 use esync_channel::channel::machine::{ChannelAsk, ChannelCommand, ChannelRun};
-use esync_compared::channel::{ChannelStates, channel_is_functional};
-use esync_compared::mutex::{MutexStates, PairGuarded, mutex_is_functional};
+use esync_compared::channel::ChannelStates;
+use esync_compared::mutex::MutexStates;
 use esync_guards::mutex::Second;
 use esync_guards::mutex::machine::{Guarded, Lock, MutexCommand, MutexRun};
 use esync_history::executor::{Act, NewError};
@@ -16,8 +16,9 @@ use esync_machine::primitive::Command;
 use esync_machine::requests::Requests;
 use esync_machine::run::{Awaits, Machine};
 use esync_systems::compare::{ComparesBoth, ComparesEach, ComparesRequests};
-use esync_systems::determined::{determined, several_determined};
-use esync_systems::explore::{Verdict, explore, explore_pair, explore_several};
+use esync_systems::explore::{
+    Verdict, explore_determined, explore_pair, explore_several_determined,
+};
 use esync_systems::pair::{Pair, PairAsk, PairCommand};
 use esync_systems::several::{PartCommand, Several};
 use std::alloc::{AllocError, Global};
@@ -133,15 +134,12 @@ fn philosophers(alloc: Global, one_turns_round: bool) -> Result<Vec<Vec<ForkAct>
 fn explore_forks(alloc: Global, forks: Forks, tasks: &[Vec<ForkAct>]) -> Result<Verdict, NewError>
     ensures { (turns : ℕ) → result ≡ Ok (Verdict.AllEnd turns) → EveryScheduleEnds ⟦<Forks as Machine>⟧.semantics.meaning ⟦<Forks as Awaits>⟧.starting turns (opened ⟦<Forks as Machine>⟧.semantics forks (map (λ acts. acts.items) tasks.now)) }
 {
-    mutex_is_functional::<(u32, u32), u32>();
-    determined::<PairGuarded<Second>, 1>();
-    several_determined::<Mutex, 3>();
     let compares = ComparesEach {
         parts: ComparesRequests {
             states: MutexStates {},
         },
     };
-    explore_several(alloc, &compares, forks, tasks, 1000)
+    explore_several_determined(alloc, &compares, forks, tasks, 1000)
 }
 
 fn forks(alloc: Global) -> Result<Forks, AllocError> {
@@ -175,12 +173,10 @@ fn explore_channel(
 ) -> Result<Verdict, NewError>
     ensures { result ≡ Ok Verdict.AllCanEnd → EveryScheduleCanEnd ⟦<Channel as Machine>⟧.semantics.meaning ⟦<Channel as Awaits>⟧.starting (opened ⟦<Channel as Machine>⟧.semantics channel (map (λ acts. acts.items) tasks.now)) }
 {
-    channel_is_functional::<u32, 1>();
-    determined::<ChannelState<u32, TaskId, 1>, 1>();
     let compares = ComparesRequests {
         states: ChannelStates {},
     };
-    explore(alloc, &compares, channel, tasks, 1000)
+    explore_determined(alloc, &compares, channel, tasks, 1000)
 }
 
 fn tell(rt: &impl Print, title: &str, found: Result<Verdict, NewError>) -> io::Result<()> {

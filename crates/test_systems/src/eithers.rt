@@ -1,55 +1,66 @@
-//! A mutex or a channel, in one list.
+//! A mutex or a channel, in one list; and one of three types.
 
 use crate::schedule;
 use esync_base::waitqueue::TaskId;
 use esync_channel::channel::ChannelState;
-use esync_channel::channel::machine::{ChannelAsk, ChannelCommand, ChannelRun};
+use esync_channel::channel::machine::{ChannelAsk, ChannelCall};
 use esync_compared::channel::ChannelStates;
 use esync_compared::mutex::MutexStates;
 use esync_guards::mutex::Second;
-use esync_guards::mutex::machine::{Guarded, Lock, MutexCommand, MutexRun};
+use esync_guards::mutex::machine::{Guarded, Lock, MutexCall};
 use esync_history::executor::{Act, NewError};
 use esync_machine::primitive::{Answer, Command};
 use esync_machine::requests::Requests;
+use esync_machine::run::run;
 use esync_systems::compare::{ComparesEither, ComparesRequests};
-use esync_systems::either::{Either, run_either};
-use esync_systems::explore::{Verdict, explore_either};
-use esync_systems::pair::{PairAsk, PairCommand, PairReply};
+use esync_systems::either::Either;
+use esync_systems::explore::{Verdict, explore};
 use std::alloc::{AllocError, Global};
 
-type Mutex = MutexRun<(u32, u32), u32, Second, TaskId, 4, 1>;
+type Mutex = Guarded<(u32, u32), u32, Second, TaskId>;
 
-type Channel = ChannelRun<u32, TaskId, 1, 4, 1>;
+type Channel = ChannelState<u32, TaskId, 1>;
 
-type Object = Either<Mutex, Channel>;
+type Object = Requests<Either<Mutex, Channel>, 4, 1>;
 
-type ObjectCommand = PairCommand<
-    MutexCommand<(u32, u32), u32, TaskId>,
-    ChannelCommand<u32, TaskId>,
+type ObjectAsk = Either<Lock, ChannelAsk<u32>>;
+
+type ObjectCommand = Command<
+    ObjectAsk,
+    TaskId,
+    Either<MutexCall<(u32, u32), u32>, ChannelCall<u32>>,
 >;
 
-type ObjectAct = Act<PairAsk<Lock, ChannelAsk<u32>>, ObjectCommand>;
+type ObjectAct = Act<ObjectAsk, ObjectCommand>;
+
+// One of three types.
+type Nested = Requests<Either<Mutex, Either<Channel, ChannelState<u32, TaskId, 2>>>, 4, 1>;
+
+type NestedAsk = Either<Lock, Either<ChannelAsk<u32>, ChannelAsk<u32>>>;
+
+type NestedCall = Either<MutexCall<(u32, u32), u32>, Either<ChannelCall<u32>, ChannelCall<u32>>>;
+
+type NestedAct = Act<NestedAsk, Command<NestedAsk, TaskId, NestedCall>>;
 
 fn mutex() -> Object {
-    Either::Left(Requests::new(Guarded::new((0, 0), Second {})))
+    Requests::new(Either::Left(Guarded::new((0, 0), Second {})))
 }
 
 fn channel() -> Object {
-    Either::Right(Requests::new(ChannelState::new()))
+    Requests::new(Either::Right(ChannelState::new()))
 }
 
-// A task that locks the mutex and unlocks it, under its number r.
-fn locker(alloc: Global, r: u8) -> Result<Vec<ObjectAct>, AllocError> {
-    let r = r as usize;
+// A task that locks the mutex and unlocks it, at this number.
+fn locker(alloc: Global, r: usize) -> Result<Vec<ObjectAct>, AllocError> {
     Ok(vec![in alloc;
-        Act::Await(2 * r, PairAsk::AskLeft(Lock {})),
-        Act::Call(PairCommand::ToLeft(Command::End(r))),
+        Act::Await(r, Either::Left(Lock {})),
+        Act::Call(Command::End(r)),
     ]?)
 }
 
-// A task that asks the channel, under its number r.
-fn asker(alloc: Global, r: u8, ask: ChannelAsk<u32>) -> Result<Vec<ObjectAct>, AllocError> {
-    Ok(vec![in alloc; Act::Await(2 * r as usize + 1, PairAsk::AskRight(ask))]?)
+// A task that asks the channel, at this number.
+fn asker(alloc: Global, r: usize, ask: ChannelAsk<u32>) -> Result<Vec<ObjectAct>, AllocError> {
+    Ok(vec![in alloc; Act::Await(r, Either::Right(ask))]?)
 }
 
 fn explore_one(
@@ -57,15 +68,13 @@ fn explore_one(
     object: Object,
     tasks: &[Vec<ObjectAct>],
 ) -> Result<Verdict, NewError> {
-    let compares = ComparesEither {
-        left: ComparesRequests {
-            states: MutexStates {},
-        },
-        right: ComparesRequests {
-            states: ChannelStates {},
+    let compares = ComparesRequests {
+        states: ComparesEither {
+            left: MutexStates {},
+            right: ChannelStates {},
         },
     };
-    explore_either(alloc, &compares, object, tasks, 1000)
+    explore(alloc, &compares, object, tasks, 1000)
 }
 
 fn lockers(alloc: Global) -> Result<Vec<Vec<ObjectAct>>, AllocError> {
@@ -81,7 +90,7 @@ fn askers(alloc: Global) -> Result<Vec<Vec<ObjectAct>>, AllocError> {
 
 // One task locks a mutex, and the other one receives from a channel: one of the two finds nothing there.
 fn both(alloc: Global) -> Result<Vec<Vec<ObjectAct>>, AllocError> {
-    Ok(vec![in alloc; locker(alloc, 0)?, asker(alloc, 0, ChannelAsk::Receive)?]?)
+    Ok(vec![in alloc; locker(alloc, 0)?, asker(alloc, 1, ChannelAsk::Receive)?]?)
 }
 
 fn objects(alloc: Global) -> Result<Vec<Object>, AllocError> {
@@ -90,7 +99,7 @@ fn objects(alloc: Global) -> Result<Vec<Object>, AllocError> {
 
 // What is found of an object, with tasks that are for it.
 fn explore_object(alloc: Global, object: Object) -> Result<Verdict, NewError> {
-    let tasks = match object {
+    let tasks = match object.state() {
         Either::Left(_) => lockers(alloc)?,
         Either::Right(_) => askers(alloc)?,
     };
@@ -123,19 +132,61 @@ fn the_object_that_is_there_answers(rt: HostRuntime) -> Result<(), NewError> {
     Ok(())
 }
 
+// The mutex is locked at number 0. A try to receive reaches no number, and leaves the guard as it is.
 #[test]
 fn a_command_for_the_other_type_names_nothing(rt: HostRuntime) -> Result<(), AllocError> {
     let alloc = rt.alloc();
     let mut object = mutex();
     let commands = vec![in alloc;
-        PairCommand::ToLeft(Command::Start(0, Lock {})),
-        PairCommand::ToRight(Command::Start(0, ChannelAsk::Receive)),
+        Command::Call(Either::Left(MutexCall::TryLock(0))),
+        Command::Start(1, Either::Right(ChannelAsk::Receive)),
+        Command::Call(Either::Right(ChannelCall::TryReceive)),
+        Command::Call(Either::Left(MutexCall::Read(0))),
     ]?;
-    let replies = run_either(alloc, &mut object, commands)?;
+    let replies = run(alloc, &mut object, commands)?;
     let mut heard = replies.iter();
-    let started =
-        matches!(heard.next(), Some(PairReply::FromLeft(reply)) if matches!(reply.answer, Answer::Done));
-    assert!(&rt; started);
-    assert!(&rt; matches!(heard.next(), Some(PairReply::Nowhere)));
+    let _locked = heard.next();
+    for _stray in 0..2 {
+        assert!(&rt; matches!(heard.next(), Some(reply) if matches!(reply.answer, Answer::NoSuch)));
+    }
+    assert!(&rt;
+        matches!(heard.next(), Some(reply) if matches!(reply.answer, Answer::Gives(Either::Left(_))))
+    );
+    Ok(())
+}
+
+fn ask_third(r: usize, ask: ChannelAsk<u32>) -> NestedAct {
+    Act::Await(r, Either::Right(Either::Right(ask)))
+}
+
+// Two sends of one task, then a receive of another one. A third task asks the second type.
+fn third(alloc: Global) -> Result<Vec<Vec<NestedAct>>, AllocError> {
+    Ok(vec![in alloc;
+        vec![in alloc;
+            ask_third(0, ChannelAsk::Send(7)),
+            ask_third(1, ChannelAsk::Send(8)),
+        ]?,
+        vec![in alloc; ask_third(2, ChannelAsk::Receive)]?,
+        vec![in alloc; Act::Await(3, Either::Right(Either::Left(ChannelAsk::Receive)))]?,
+    ]?)
+}
+
+// Each Await takes one turn, and the receiver a further one where it waits first.
+#[test]
+fn one_of_three_types_is_explored(rt: HostRuntime) -> Result<(), NewError> {
+    let channel: Nested = Requests::new(Either::Right(Either::Right(ChannelState::new())));
+    let channels = ComparesEither {
+        left: ChannelStates {},
+        right: ChannelStates {},
+    };
+    let compares = ComparesRequests {
+        states: ComparesEither {
+            left: MutexStates {},
+            right: channels,
+        },
+    };
+    let tasks = third(rt.alloc())?;
+    let verdict = explore(rt.alloc(), &compares, channel, &tasks, 1000)?;
+    assert!(&rt; verdict == Verdict::AllEnd(5));
     Ok(())
 }

@@ -5,6 +5,8 @@ mod channels;
 mod eithers;
 mod mutexes;
 mod philosophers;
+mod semaphores;
+mod signals;
 
 use std::alloc::{AllocError, Global};
 

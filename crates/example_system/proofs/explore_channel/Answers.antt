@@ -3,4 +3,4 @@ use Rattle.example_system.proofs.Told.{told}
 use Rattle.example_system.proofs.explore_channel.Goals as goal
 
 pub returns : goal.returns
-returns c e = told _ c.explore.result AllCanEnd e c.explore.ensures.claims (c.determined.ensures.steps c.channel_is_functional.ensures _ _)
+returns c e = told _ c.explore_determined.result AllCanEnd e c.explore_determined.ensures.holds
