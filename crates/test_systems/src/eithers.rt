@@ -1,20 +1,14 @@
 //! A mutex or a channel, in one list; and one of three types.
 
-use crate::schedule;
 use esync_base::waitqueue::TaskId;
 use esync_channel::channel::ChannelState;
-use esync_channel::channel::machine::{ChannelAsk, ChannelCall};
-use esync_compared::channel::ChannelStates;
-use esync_compared::mutex::MutexStates;
+use esync_channel::channel::machine::{ChannelAsk, ChannelCall, ChannelHeard};
 use esync_guards::mutex::Second;
-use esync_guards::mutex::machine::{Guarded, Lock, MutexCall};
-use esync_history::executor::{Act, NewError};
+use esync_guards::mutex::machine::{Guarded, Lock, MutexCall, MutexHeard};
 use esync_machine::primitive::{Answer, Command};
 use esync_machine::requests::Requests;
 use esync_machine::run::run;
-use esync_systems::compare::{ComparesEither, ComparesRequests};
 use esync_systems::either::Either;
-use esync_systems::explore::{Verdict, explore};
 use std::alloc::{AllocError, Global};
 
 type Mutex = Guarded<(u32, u32), u32, Second, TaskId>;
@@ -25,22 +19,12 @@ type Object = Requests<Either<Mutex, Channel>, 4, 1>;
 
 type ObjectAsk = Either<Lock, ChannelAsk<u32>>;
 
-type ObjectCommand = Command<
-    ObjectAsk,
-    TaskId,
-    Either<MutexCall<(u32, u32), u32>, ChannelCall<u32>>,
->;
+type ObjectCall = Either<MutexCall<(u32, u32), u32>, ChannelCall<u32>>;
 
-type ObjectAct = Act<ObjectAsk, ObjectCommand>;
+type ObjectAnswer = Answer<Either<MutexHeard<(u32, u32), u32>, ChannelHeard<u32>>>;
 
 // One of three types.
 type Nested = Requests<Either<Mutex, Either<Channel, ChannelState<u32, TaskId, 2>>>, 4, 1>;
-
-type NestedAsk = Either<Lock, Either<ChannelAsk<u32>, ChannelAsk<u32>>>;
-
-type NestedCall = Either<MutexCall<(u32, u32), u32>, Either<ChannelCall<u32>, ChannelCall<u32>>>;
-
-type NestedAct = Act<NestedAsk, Command<NestedAsk, TaskId, NestedCall>>;
 
 fn mutex() -> Object {
     Requests::new(Either::Left(Guarded::new((0, 0), Second {})))
@@ -50,85 +34,65 @@ fn channel() -> Object {
     Requests::new(Either::Right(ChannelState::new()))
 }
 
-// A task that locks the mutex and unlocks it, at this number.
-fn locker(alloc: Global, r: usize) -> Result<Vec<ObjectAct>, AllocError> {
-    Ok(vec![in alloc;
-        Act::Await(r, Either::Left(Lock {})),
-        Act::Call(Command::End(r)),
-    ]?)
-}
-
-// A task that asks the channel, at this number.
-fn asker(alloc: Global, r: usize, ask: ChannelAsk<u32>) -> Result<Vec<ObjectAct>, AllocError> {
-    Ok(vec![in alloc; Act::Await(r, Either::Right(ask))]?)
-}
-
-fn explore_one(
+// What the object answers, one command after another.
+fn answers(
     alloc: Global,
-    object: Object,
-    tasks: &[Vec<ObjectAct>],
-) -> Result<Verdict, NewError> {
-    let compares = ComparesRequests {
-        states: ComparesEither {
-            left: MutexStates {},
-            right: ChannelStates {},
-        },
-    };
-    explore(alloc, &compares, object, tasks, 1000)
+    object: &mut Object,
+    commands: Vec<Command<ObjectAsk, TaskId, ObjectCall>>,
+) -> Result<Vec<ObjectAnswer>, AllocError> {
+    let replies = run(alloc, object, commands)?;
+    let mut heard = Vec::with_capacity(alloc, replies.len())?;
+    for reply in replies {
+        heard.push(reply.answer)?;
+    }
+    Ok(heard)
 }
 
-fn lockers(alloc: Global) -> Result<Vec<Vec<ObjectAct>>, AllocError> {
-    Ok(vec![in alloc; locker(alloc, 0)?, locker(alloc, 1)?]?)
-}
-
-fn askers(alloc: Global) -> Result<Vec<Vec<ObjectAct>>, AllocError> {
+// A request for each of the two types, each of which is polled.
+fn asks_of_both(alloc: Global) -> Result<Vec<Command<ObjectAsk, TaskId, ObjectCall>>, AllocError> {
     Ok(vec![in alloc;
-        asker(alloc, 0, ChannelAsk::Receive)?,
-        asker(alloc, 1, ChannelAsk::Send(7))?,
+        Command::Start(0, Either::Left(Lock {})),
+        Command::Poll(0, TaskId(3)),
+        Command::Start(1, Either::Right(ChannelAsk::Receive)),
+        Command::Poll(1, TaskId(4)),
     ]?)
 }
 
-// One task locks a mutex, and the other one receives from a channel: one of the two finds nothing there.
-fn both(alloc: Global) -> Result<Vec<Vec<ObjectAct>>, AllocError> {
-    Ok(vec![in alloc; locker(alloc, 0)?, asker(alloc, 1, ChannelAsk::Receive)?]?)
-}
-
-fn objects(alloc: Global) -> Result<Vec<Object>, AllocError> {
-    Ok(vec![in alloc; mutex(), channel()]?)
-}
-
-// What is found of an object, with tasks that are for it.
-fn explore_object(alloc: Global, object: Object) -> Result<Verdict, NewError> {
-    let tasks = match object.state() {
-        Either::Left(_) => lockers(alloc)?,
-        Either::Right(_) => askers(alloc)?,
-    };
-    explore_one(alloc, object, &tasks)
+fn is_no_such(answer: Option<&ObjectAnswer>) -> bool {
+    matches!(answer, Some(Answer::NoSuch))
 }
 
 #[test]
-fn one_list_holds_objects_of_two_types(rt: HostRuntime) -> Result<(), NewError> {
-    let objects = objects(rt.alloc())?;
-    for (object, turns) in objects.into_iter().zip([5, 3]) {
-        assert!(&rt; explore_object(rt.alloc(), object)? == Verdict::AllEnd(turns));
+fn one_list_holds_objects_of_two_types(rt: HostRuntime) -> Result<(), AllocError> {
+    let alloc = rt.alloc();
+    let mut objects = vec![in alloc; mutex(), channel()]?;
+    let mut locks = 0;
+    for object in objects.iter_mut() {
+        let heard = answers(alloc, object, asks_of_both(alloc)?)?;
+        if let Some(Answer::Gives(Either::Left(MutexHeard::Locked))) = heard.get(1) {
+            locks += 1;
+        }
     }
+    assert!(&rt; locks == 1);
     Ok(())
 }
 
-// The mutex is locked and unlocked in two turns, and the receiver's Await is over at once.
 #[test]
-fn what_the_other_type_is_asked_is_over_at_once(rt: HostRuntime) -> Result<(), NewError> {
-    let tasks = both(rt.alloc())?;
-    assert!(&rt; explore_one(rt.alloc(), mutex(), &tasks)? == Verdict::AllEnd(3));
+fn what_the_other_type_is_asked_is_not_there(rt: HostRuntime) -> Result<(), AllocError> {
+    let heard = answers(rt.alloc(), &mut mutex(), asks_of_both(rt.alloc())?)?;
+    assert!(&rt; matches!(heard.first(), Some(Answer::Done)));
+    assert!(&rt; is_no_such(heard.get(2)));
+    assert!(&rt; is_no_such(heard.get(3)));
     Ok(())
 }
 
-// Nobody sends to the channel, and the locker is over after two turns.
 #[test]
-fn the_object_that_is_there_answers(rt: HostRuntime) -> Result<(), NewError> {
-    let tasks = both(rt.alloc())?;
-    let schedule = schedule(rt.alloc(), &[0, 0, 1])?;
-    assert!(&rt; explore_one(rt.alloc(), channel(), &tasks)? == Verdict::Stalls(schedule));
+fn the_object_that_is_there_answers(rt: HostRuntime) -> Result<(), AllocError> {
+    let heard = answers(rt.alloc(), &mut channel(), asks_of_both(rt.alloc())?)?;
+    assert!(&rt; is_no_such(heard.first()));
+    assert!(&rt; is_no_such(heard.get(1)));
+    assert!(&rt; matches!(heard.get(2), Some(Answer::Done)));
+    assert!(&rt; matches!(heard.get(3), Some(Answer::Pending)));
     Ok(())
 }
 
@@ -136,57 +100,38 @@ fn the_object_that_is_there_answers(rt: HostRuntime) -> Result<(), NewError> {
 #[test]
 fn a_command_for_the_other_type_names_nothing(rt: HostRuntime) -> Result<(), AllocError> {
     let alloc = rt.alloc();
-    let mut object = mutex();
     let commands = vec![in alloc;
         Command::Call(Either::Left(MutexCall::TryLock(0))),
-        Command::Start(1, Either::Right(ChannelAsk::Receive)),
         Command::Call(Either::Right(ChannelCall::TryReceive)),
         Command::Call(Either::Left(MutexCall::Read(0))),
     ]?;
-    let replies = run(alloc, &mut object, commands)?;
-    let mut heard = replies.iter();
-    let _locked = heard.next();
-    for _stray in 0..2 {
-        assert!(&rt; matches!(heard.next(), Some(reply) if matches!(reply.answer, Answer::NoSuch)));
-    }
+    let heard = answers(alloc, &mut mutex(), commands)?;
+    assert!(&rt; is_no_such(heard.get(1)));
     assert!(&rt;
-        matches!(heard.next(), Some(reply) if matches!(reply.answer, Answer::Gives(Either::Left(_))))
+        matches!(
+            heard.get(2),
+            Some(Answer::Gives(Either::Left(MutexHeard::Value((0, 0)))))
+        )
     );
     Ok(())
 }
 
-fn ask_third(r: usize, ask: ChannelAsk<u32>) -> NestedAct {
-    Act::Await(r, Either::Right(Either::Right(ask)))
-}
-
-// Two sends of one task, then a receive of another one. A third task asks the second type.
-fn third(alloc: Global) -> Result<Vec<Vec<NestedAct>>, AllocError> {
-    Ok(vec![in alloc;
-        vec![in alloc;
-            ask_third(0, ChannelAsk::Send(7)),
-            ask_third(1, ChannelAsk::Send(8)),
-        ]?,
-        vec![in alloc; ask_third(2, ChannelAsk::Receive)]?,
-        vec![in alloc; Act::Await(3, Either::Right(Either::Left(ChannelAsk::Receive)))]?,
-    ]?)
-}
-
-// Each Await takes one turn, and the receiver a further one where it waits first.
 #[test]
-fn one_of_three_types_is_explored(rt: HostRuntime) -> Result<(), NewError> {
-    let channel: Nested = Requests::new(Either::Right(Either::Right(ChannelState::new())));
-    let channels = ComparesEither {
-        left: ChannelStates {},
-        right: ChannelStates {},
-    };
-    let compares = ComparesRequests {
-        states: ComparesEither {
-            left: MutexStates {},
-            right: channels,
-        },
-    };
-    let tasks = third(rt.alloc())?;
-    let verdict = explore(rt.alloc(), &compares, channel, &tasks, 1000)?;
-    assert!(&rt; verdict == Verdict::AllEnd(5));
+fn one_of_three_types_answers(rt: HostRuntime) -> Result<(), AllocError> {
+    let alloc = rt.alloc();
+    let mut object: Nested = Requests::new(Either::Right(Either::Right(ChannelState::new())));
+    let commands = vec![in alloc;
+        Command::Start(0, Either::Right(Either::Right(ChannelAsk::Send(7)))),
+        Command::Poll(0, TaskId(3)),
+        Command::Start(1, Either::Right(Either::Left(ChannelAsk::Receive))),
+        Command::Call(Either::Right(Either::Right(ChannelCall::TryReceive))),
+    ]?;
+    let replies = run(alloc, &mut object, commands)?;
+    let third = replies.get(2);
+    assert!(&rt; matches!(third, Some(reply) if matches!(reply.answer, Answer::NoSuch)));
+    let last = replies.get(3);
+    assert!(&rt;
+        matches!(last, Some(reply) if matches!(reply.answer, Answer::Gives(Either::Right(Either::Right(ChannelHeard::TryReceived(Ok(7)))))))
+    );
     Ok(())
 }
