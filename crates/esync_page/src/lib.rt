@@ -87,6 +87,3 @@ fn ended(outcome: Result<(), Fault>, line: &mut u64) -> u8
         Err(fault) => fault.status(),
     }
 }
-
-#[cfg(test)]
-mod tests;
