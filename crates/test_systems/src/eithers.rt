@@ -66,11 +66,11 @@ fn is_no_such(answer: Option<&ObjectAnswer>) -> bool {
 fn one_list_holds_objects_of_two_types(rt: HostRuntime) -> Result<(), AllocError> {
     let alloc = rt.alloc();
     let mut objects = vec![in alloc; mutex(), channel()]?;
-    let mut locks = 0;
+    let mut locks: usize = 0;
     for object in objects.iter_mut() {
         let heard = answers(alloc, object, asks_of_both(alloc)?)?;
         if let Some(Answer::Gives(Either::Left(MutexHeard::Locked))) = heard.get(1) {
-            locks += 1;
+            locks = locks.saturating_add(1);
         }
     }
     assert!(&rt; locks == 1);
