@@ -29,8 +29,9 @@ pub extern "C" fn play(text: &[u8], answers: &mut Row, line: &mut u64) -> u8 {
     ended(play_into(text, answers), line)
 }
 
-/// Plays a script, and writes each line with its number and its answer, and to `notes` why each waker was handed out, and what would be
-/// heard then, each note behind the number of its line. `explain_into` says what is proved of the answers.
+/// Plays a script, and writes each line with its number and its answer. To `notes` it writes why each waker was handed out, who is
+/// registered then, and what requests and questions would hear, each note behind the number of its line. `explain_into` says what is
+/// proved of the answers.
 #[unsafe(no_mangle)]
 pub extern "C" fn explain(text: &[u8], answers: &mut Row, notes: &mut Row, line: &mut u64) -> u8 {
     ended(explain_into(text, answers, notes), line)
@@ -51,8 +52,8 @@ pub fn play_into(text: &[u8], answers: &mut Row) -> Result<(), Fault>
     }
 }
 
-/// Plays a script, and writes its lines with their answers into a row, in the place of what it had, and notes into another, each behind the number of
-/// its line. No contract speaks of the notes.
+/// Plays a script, and writes its lines with their answers into a row, in the place of what it had, and notes into another, each behind
+/// the number of its line. No contract speaks of the notes.
 pub fn explain_into<'n>(text: &[u8], answers: &mut Row, notes: &'n mut Row) -> Result<(), Fault>
     ensures plays { PlaysScript ⟦<u64 as PartialEq>⟧.eq ⟦<Max as Kind<u32>>⟧.above ⟦<Min as Kind<u32>>⟧.above ⟦<Explained<&'n mut Row> as Telling>⟧.story (Some text.now) (Some []) (Some (take answers.new.len answers.new.bytes)) result }
     ensures err { IfErr result (λ fault. fault ≡ Fault.InputOutput → ⊥) }
