@@ -25,7 +25,8 @@ pub fn command<'a>(alloc: Global) -> Result<Command<'a>, AllocError> {
         .subcommand(explain(alloc)?)?
         .subcommand(check(alloc)?)?
         .subcommand(ends(alloc)?)?
-        .subcommand(shared(alloc)?)
+        .subcommand(shared(alloc)?)?
+        .subcommand(explore(alloc)?)
 }
 
 fn one_file<'a>(alloc: Global, help: &'a str) -> Arg<'a> {
@@ -120,4 +121,33 @@ fn shared<'a>(alloc: Global) -> Result<Command<'a>, AllocError> {
         )
         .arg(compare)?
         .arg(files(alloc, SCRIPTS))
+}
+
+fn explore<'a>(alloc: Global) -> Result<Command<'a>, AllocError> {
+    let limit = Arg::new(alloc, "limit")
+        .long("limit")
+        .value_name("N")
+        .value_parser(value_parser!(u64))
+        .default_value("10000")
+        .help("Gather at most so many states");
+    let json = Arg::new(alloc, "json")
+        .long("json")
+        .action(ArgAction::SetTrue)
+        .help("A line of JSON for each system, also for one that can't be read");
+    let draw = Arg::new(alloc, "draw")
+        .long("draw")
+        .action(ArgAction::SetTrue)
+        .conflicts_with("json")?
+        .help("Draw the turns as a diagram in the language of Mermaid");
+    Command::new(alloc, "explore")
+        .about(
+            "Says of every schedule of a system's tasks whether it ends, can end, or comes to stand still, and then by which turns",
+        )
+        .arg(limit)?
+        .arg(json)?
+        .arg(draw)?
+        .arg(files(
+            alloc,
+            "The systems; standard input where it is - or left out",
+        ))
 }

@@ -36,6 +36,20 @@ pub fn reason_of(
     }
 }
 
+/// Why these words of a system are no primitive, or nothing that this one is asked or called.
+pub fn reason_in_system(
+    alloc: Global,
+    primitive: Option<&str>,
+    words: &str,
+) -> Result<Option<Reason>, AllocError> {
+    let Some(primitive) = primitive else {
+        return commanded(alloc, words, 1, "primitive", OPENINGS);
+    };
+    let kind = format!(in alloc; "request or call of {primitive}")?;
+    let commands = format!(in alloc; "{} end:k {}", asks_of(primitive), calls_of(primitive))?;
+    commanded(alloc, words, 1, &kind, &commands)
+}
+
 // The column of the first byte that no command has at its place, and why.
 fn odd_byte(line: &[u8]) -> Option<(usize, &'static str)> {
     if line.is_empty() {

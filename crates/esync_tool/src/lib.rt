@@ -1,4 +1,4 @@
-//! The tool `esync`: scripts and recorded runs of the primitives, for people.
+//! The tool `esync`: scripts, recorded runs and systems of the primitives, for people.
 #![tactic(auto)]
 
 use crate::stopped::Stopped;
@@ -12,6 +12,7 @@ use std::time::Clock;
 mod arguments;
 mod bad_line;
 mod by_line;
+mod explored;
 mod inputs;
 mod judged;
 mod language;

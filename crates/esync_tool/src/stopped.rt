@@ -17,6 +17,8 @@ pub enum Stopped {
     BadLine(u64, Reason),
     /// The line of this number has no reply.
     NoReply(u64),
+    /// The line of this number is none of a system's, for this reason.
+    BadSystem(u64, Reason),
 }
 
 impl Stopped {
@@ -41,7 +43,7 @@ impl Stopped {
         match self {
             Stopped::Unopened(_) => 3,
             Stopped::Fault(fault) => fault.status(),
-            Stopped::BadLine(_, _) | Stopped::NoReply(_) => 2,
+            Stopped::BadLine(_, _) | Stopped::NoReply(_) | Stopped::BadSystem(_, _) => 2,
         }
     }
 }
@@ -59,6 +61,9 @@ impl Display for Stopped {
                 )
             }
             Stopped::NoReply(line) => write!(f, "line {line}: no reply"),
+            Stopped::BadSystem(line, reason) => {
+                write!(f, "line {line}, column {}: {}", reason.column, reason.text)
+            }
         }
     }
 }

@@ -1,6 +1,7 @@
 //! What each command of the tool does.
 use crate::Streams;
 use crate::by_line::ByLine;
+use crate::explored::{Form, explore};
 use crate::inputs::{hint, read_all, reasoned, status, text_of, with_reason};
 use crate::judged::{check, check_as_json, unjudged_as_json};
 use crate::source::Keeping;
@@ -64,6 +65,17 @@ where
         "ends" => {
             let limit = matches.get_one::<u64>("limit").unwrap_or(u64::MAX);
             with_files(rt, alloc, Work::Ends(limit), matches, streams)
+        }
+        "explore" => {
+            let limit = matches.get_one::<u64>("limit").unwrap_or(0) as usize;
+            let form = if matches.get_flag("json") {
+                Form::Json
+            } else if matches.get_flag("draw") {
+                Form::Picture
+            } else {
+                Form::Text
+            };
+            with_files(rt, alloc, Work::Explore(form, limit), matches, streams)
         }
         _ if matches.get_flag("compare") => with_files(rt, alloc, Work::Compare, matches, streams),
         _ => with_files(rt, alloc, Work::Shared, matches, streams),
@@ -190,6 +202,15 @@ enum Work {
     Ends(u64),
     Shared,
     Compare,
+    /// At most so many states are gathered.
+    Explore(Form, usize),
+}
+
+impl Work {
+    // Each file has a line of JSON.
+    fn is_json(self) -> bool {
+        matches!(self, Work::CheckAsJson | Work::Explore(Form::Json, _))
+    }
 }
 
 // Does it with each file that is named, and counts them where there are several. A write that fails ends it.
@@ -208,7 +229,7 @@ where
     E: Write + Drop,
 {
     let names = matches.get_strs("FILE").unwrap_or(&["-"]);
-    let are_counted = names.len() > 1 && !matches!(what, Work::CheckAsJson);
+    let are_counted = names.len() > 1 && !what.is_json();
     let mut greatest = 0;
     let mut counts = Counts::default();
     for name in names {
@@ -292,7 +313,9 @@ where
         let cut = told.iter().rev().take_while(|byte| **byte != b'\n').count();
         told.truncate(told.len().saturating_sub(cut));
     }
-    if let (Work::CheckAsJson, Err(stopped)) = (what, &outcome) {
+    if what.is_json()
+        && let Err(stopped) = &outcome
+    {
         // (where there is no memory for the line, the text on standard error stands alone)
         told.clear();
         if unjudged_as_json(alloc, name, stopped, told).is_err() {
@@ -328,6 +351,7 @@ where
         }
         Work::Shared => played(rt, alloc, text, told),
         Work::Compare => compared(rt, alloc, text, told),
+        Work::Explore(form, limit) => explore(alloc, name, text, form, limit, told),
     };
     // (what is told is kept in memory, so that a write that fails has none)
     holds.map_err(|stopped| reasoned(alloc, stopped.of_memory(), text))
@@ -345,7 +369,7 @@ fn write_told<O: Write>(
     }
     if let Some(heading) = heading {
         let behind = match what {
-            Work::Shared => "\n",
+            Work::Shared | Work::Explore(_, _) => "\n",
             _ => " ",
         };
         write!(output, "{heading}:{behind}")?;

@@ -1,6 +1,6 @@
 //! Plays each script of the cases that are named, by the tool `esync` or by `syncrun`, and prints what is written of it.
 //!
-//!     test_tool [--syncrun | --draw | --pages | --explain | --reasons | --ends | --check | --words] NAME.. [--draw NAME.. ..]
+//!     test_tool [--syncrun | --draw | --pages | --explain | --reasons | --ends | --check | --explore | --words] NAME.. [--draw NAME.. ..]
 //!
 //! A case is a file of scripts, with a line `=` between two. Of each script it prints the case's name, with the script's number
 //! where there are several; what is written to the output, to the notes and to the errors; and the status. A word before the
@@ -38,6 +38,7 @@ impl Mode {
             "--reasons" => Some(Mode::Reasons),
             "--ends" => Some(Mode::Tool("esync ends")),
             "--check" => Some(Mode::Tool("esync check")),
+            "--explore" => Some(Mode::Tool("esync explore")),
             "--words" => Some(Mode::Words),
             _ => None,
         }
