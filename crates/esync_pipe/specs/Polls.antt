@@ -1,5 +1,5 @@
 -- What the polls of a pipe answer, and what they leave of their requests.
-use Rattle.std.specs.Prelude.{◌≡◌, ℕ, List, Option, None, IsSome}
+use Rattle.std.specs.Prelude.{◌≡◌, ℕ, ◌<◌, List, length, drop, Option, Some, None, IfSome}
 use Rattle.esync_base.specs.declared.waitqueue.Poll.{Poll}
 use Rattle.esync_base.specs.declared.waitqueue.Poll.TheVariants.{Pending, Ready}
 
@@ -8,10 +8,11 @@ abbrev pub IfReady : {T : Type 0} → Poll T → (T → Type 0) → Type 0
 IfReady (Ready x) P = P x
 IfReady Pending P = Unit {0}
 
--- what a poll leaves of the bytes that its request is to write: none once it is ready, and some of them where it waits
-abbrev pub LeavesBytes : Poll (Unit {0}) → Option (List ℕ) → Type 0
-LeavesBytes (Ready done) rest = rest ≡ None
-LeavesBytes Pending rest = IsSome rest
+-- what a poll leaves of the bytes that its request is to write: none once it is ready; where it waits, the last ones, at least one of
+-- them, in their order
+abbrev pub LeavesBytes : Poll (Unit {0}) → Option (List ℕ) → Option (List ℕ) → Type 0
+LeavesBytes (Ready done) old rest = rest ≡ None
+LeavesBytes Pending old rest = IfSome old (λ bytes. (k : ℕ) × (k < length bytes) × (rest ≡ Some (drop k bytes)))
 
 -- what a poll to fill leaves of a copy: the same, where it waits
 abbrev pub KeepsCopy : Poll (Unit {0}) → List ℕ → List ℕ → Type 0

@@ -231,7 +231,7 @@ impl<R: ByteStore, W: Copy + Eq, H: Hand<W>> SharedPipe<R, W, H> {
 
     fn step_write_all(&self, request: &mut WriteAllRequest<'_>, cx: &Context<W>) -> Poll<()>
         requires { IsSome request.old }
-        ensures { LeavesBytes result request.new }
+        ensures { LeavesBytes result request.old request.new }
     {
         step!(
             self,
@@ -498,7 +498,7 @@ impl<'p, R: ByteStore, W: Copy + Eq, H: Hand<W>> WriteAllFuture<'p, R, W, H> {
     /// finished isn't polled.
     pub fn poll(&mut self, cx: &Context<W>) -> Poll<()>
         requires { IsSome self.old }
-        ensures { LeavesBytes result self.new }
+        ensures { LeavesBytes result self.old self.new }
     {
         self.pipe.step_write_all(&mut self.request, cx)
     }
