@@ -12,12 +12,10 @@ use esync_base::deque::Deque;
 use esync_base::kept::Kept;
 use esync_base::store::Store;
 use esync_base::waitqueue::{Context, Poll, Registered, WakerRegistration, Wakes};
-pub use handles::{
-    DynamicReceiveFuture, DynamicReceiver, DynamicSendFuture, DynamicSender, MailboxReceiver,
-    MailboxSender, Receiver, Sender,
-};
+pub use handles::{DynamicReceiver, DynamicSender, Rcv, Receiver, Sender, Snd};
 pub use shared::{
-    Channel, DynamicChannel, ReceiveFuture, ReceiveReadyFuture, SendFuture, SharedMailbox,
+    Channel, DynamicChannel, DynamicReceiveFuture, DynamicSendFuture, ReceiveFuture,
+    ReceiveReadyFuture, SendFuture, SharedMailbox,
 };
 use std::alloc::AllocError;
 use std::fmt::Debug;

@@ -1,22 +1,19 @@
-//! The channel and the priority channel, by their own calls, by their handles, and by handles whose type doesn't say how messages are kept.
+//! The channel and the priority channel, by their own calls and by their handles.
 use crate::form::{Door, Doors, Form, Sizes, over, sizes};
 use esync_base::store::Store;
 use esync_base::waitqueue::{Context, Hand, Poll};
 use esync_channel::channel::machine::{ChannelAsk, ChannelCall, ChannelHeard};
 use esync_channel::channel::{
-    DynamicReceiveFuture, DynamicReceiver, DynamicSendFuture, DynamicSender, MailboxReceiver,
-    MailboxSender, ReceiveFuture, SendFuture, SharedMailbox, TryReceiveError, TrySendError,
+    Rcv, ReceiveFuture, SendFuture, SharedMailbox, Snd, TryReceiveError, TrySendError,
 };
 use esync_machine::primitive::{Answer, Turn};
 
-/// A channel, whose calls are made by each of its ways in turn: its own, its handles, and those whose type doesn't say how it keeps its messages.
+/// A channel, whose calls are made by each of its ways in turn: its own and its handles.
 #[derive(Drop)]
 pub struct Channel<'c, S, H> {
     channel: &'c SharedMailbox<S, u64, H>,
-    sender: MailboxSender<'c, S, u64, H>,
-    receiver: MailboxReceiver<'c, S, u64, H>,
-    dyn_sender: DynamicSender<'c, SharedMailbox<S, u64, H>>,
-    dyn_receiver: DynamicReceiver<'c, SharedMailbox<S, u64, H>>,
+    sender: Snd<'c, SharedMailbox<S, u64, H>>,
+    receiver: Rcv<'c, SharedMailbox<S, u64, H>>,
     doors: Doors,
 }
 
@@ -25,9 +22,7 @@ pub struct Channel<'c, S, H> {
 pub enum Held<'c, S: Store, H: Hand<u64>> {
     Send(SendFuture<'c, SharedMailbox<S, u64, H>>),
     TrySend(u32),
-    DynSend(DynamicSendFuture<'c, SharedMailbox<S, u64, H>>),
     Receive(ReceiveFuture<'c, SharedMailbox<S, u64, H>>),
-    DynReceive(DynamicReceiveFuture<'c, SharedMailbox<S, u64, H>>),
     TryReceive,
     SendReady,
     ReceiveReady,
@@ -54,10 +49,8 @@ impl<'c, S: Store<Message = u32>, H: Hand<u64>> Form for Channel<'c, S, H> {
     fn poll(&mut self, held: Self::Held, cx: &Context<u64>) -> Turn<ChannelHeard<u32>, Self::Held> {
         match held {
             Held::Send(future) => send(future, cx),
-            Held::DynSend(future) => dyn_send(future, cx),
             Held::TrySend(message) => self.try_send_by(message, cx),
             Held::Receive(future) => receive(future, cx),
-            Held::DynReceive(future) => dyn_receive(future, cx),
             Held::TryReceive => is_received(self.poll_receive(cx), Held::TryReceive),
             Held::SendReady => is_ready(self.poll_ready_to_send(cx), Held::SendReady),
             Held::ReceiveReady => is_ready(self.poll_ready_to_receive(cx), Held::ReceiveReady),
@@ -95,13 +88,10 @@ impl<'c, S: Store<Message = u32>, H: Hand<u64>> Form for Channel<'c, S, H> {
 impl<'c, S: Store<Message = u32>, H: Hand<u64>> Channel<'c, S, H> {
     /// This channel, which is called by these ways.
     pub fn new(channel: &'c SharedMailbox<S, u64, H>, doors: Doors) -> Self {
-        let (sender, receiver) = (channel.sender(), channel.receiver());
         Channel {
             channel,
-            sender,
-            receiver,
-            dyn_sender: sender.into(),
-            dyn_receiver: receiver.into(),
+            sender: channel.sender(),
+            receiver: channel.receiver(),
             doors,
         }
     }
@@ -112,8 +102,7 @@ impl<'c, S: Store<Message = u32>, H: Hand<u64>> Channel<'c, S, H> {
         }
         match self.doors.next() {
             Door::Own => Held::Send(self.channel.send(message)),
-            Door::Handle => Held::Send(self.sender.send(message)),
-            Door::Dynamic => Held::DynSend(self.dyn_sender.send(message)),
+            Door::Handle | Door::Dynamic => Held::Send(self.sender.send(message)),
         }
     }
 
@@ -123,8 +112,7 @@ impl<'c, S: Store<Message = u32>, H: Hand<u64>> Channel<'c, S, H> {
         }
         match self.doors.next() {
             Door::Own => Held::Receive(self.channel.receive()),
-            Door::Handle => Held::Receive(self.receiver.receive()),
-            Door::Dynamic => Held::DynReceive(self.dyn_receiver.receive()),
+            Door::Handle | Door::Dynamic => Held::Receive(self.receiver.receive()),
         }
     }
 
@@ -134,32 +122,28 @@ impl<'c, S: Store<Message = u32>, H: Hand<u64>> Channel<'c, S, H> {
                 Ok(message) => Poll::Ready(message),
                 Err(TryReceiveError::Empty) => Poll::Pending,
             },
-            Door::Handle => self.receiver.poll_receive(cx),
-            Door::Dynamic => self.dyn_receiver.poll_receive(cx),
+            Door::Handle | Door::Dynamic => self.receiver.poll_receive(cx),
         }
     }
 
     fn poll_ready_to_send(&mut self, cx: &Context<u64>) -> Poll<()> {
         match self.doors.next() {
             Door::Own => self.channel.poll_ready_to_send(cx),
-            Door::Handle => self.sender.poll_ready_to_send(cx),
-            Door::Dynamic => self.dyn_sender.poll_ready_to_send(cx),
+            Door::Handle | Door::Dynamic => self.sender.poll_ready_to_send(cx),
         }
     }
 
     fn poll_ready_to_receive(&mut self, cx: &Context<u64>) -> Poll<()> {
         match self.doors.next() {
             Door::Own => self.channel.poll_ready_to_receive(cx),
-            Door::Handle => self.receiver.poll_ready_to_receive(cx),
-            Door::Dynamic => self.dyn_receiver.poll_ready_to_receive(cx),
+            Door::Handle | Door::Dynamic => self.receiver.poll_ready_to_receive(cx),
         }
     }
 
     fn try_send(&mut self, message: u32) -> Result<(), TrySendError<u32>> {
         match self.doors.next() {
             Door::Own => self.channel.try_send(message),
-            Door::Handle => self.sender.try_send(message),
-            Door::Dynamic => self.dyn_sender.try_send(message),
+            Door::Handle | Door::Dynamic => self.sender.try_send(message),
         }
     }
 
@@ -177,8 +161,7 @@ impl<'c, S: Store<Message = u32>, H: Hand<u64>> Channel<'c, S, H> {
     fn try_receive(&mut self) -> Result<u32, TryReceiveError> {
         match self.doors.next() {
             Door::Own => self.channel.try_receive(),
-            Door::Handle => self.receiver.try_receive(),
-            Door::Dynamic => self.dyn_receiver.try_receive(),
+            Door::Handle | Door::Dynamic => self.receiver.try_receive(),
         }
     }
 
@@ -210,31 +193,12 @@ fn send<'c, S: Store<Message = u32>, H: Hand<u64>>(
     is_ready(polled, Held::Send(future))
 }
 
-fn dyn_send<'c, S: Store<Message = u32>, H: Hand<u64>>(
-    mut future: DynamicSendFuture<'c, SharedMailbox<S, u64, H>>,
-    cx: &Context<u64>,
-) -> Turn<ChannelHeard<u32>, Held<'c, S, H>> {
-    if future.is_finished() {
-        return over();
-    }
-    let polled = future.poll(cx);
-    is_ready(polled, Held::DynSend(future))
-}
-
 fn receive<'c, S: Store<Message = u32>, H: Hand<u64>>(
     mut future: ReceiveFuture<'c, SharedMailbox<S, u64, H>>,
     cx: &Context<u64>,
 ) -> Turn<ChannelHeard<u32>, Held<'c, S, H>> {
     let polled = future.poll(cx);
     is_received(polled, Held::Receive(future))
-}
-
-fn dyn_receive<'c, S: Store<Message = u32>, H: Hand<u64>>(
-    mut future: DynamicReceiveFuture<'c, SharedMailbox<S, u64, H>>,
-    cx: &Context<u64>,
-) -> Turn<ChannelHeard<u32>, Held<'c, S, H>> {
-    let polled = future.poll(cx);
-    is_received(polled, Held::DynReceive(future))
 }
 
 // What a poll leaves of a request for a message.

@@ -1,17 +1,17 @@
-//! The watch, by its senders and receivers, and by those whose type doesn't say how many receivers it has room for.
+//! The watch, by its own calls and by its senders and receivers, which are had in several ways.
 use crate::form::{Door, Doors, Form, nobody, over};
 use esync_base::waitqueue::{Context, Hand, Poll, WakerList};
 use esync_cells::watch::machine::{Await, Reading, WatchCall, WatchHeard};
-use esync_cells::watch::{
-    AnonRcv, Change, DynAnonReceiver, DynReceiver, DynSender, Judge, Rcv, SharedWatch, Snd,
-    WatchBehavior,
-};
+use esync_cells::watch::{AnonRcv, Change, Judge, Rcv, SharedWatch, Snd, WatchBehavior};
 use esync_machine::primitive::{Answer, Turn};
 use std::alloc::{AllocError, Global};
 use std::marker::PhantomData;
 
 /// A watch of values, however many receivers it has room for: what it has that its senders and receivers don't have.
 pub trait Watches: WatchBehavior<Value = u32, Waker = u64> {
+    /// A sender.
+    fn sending(&self, door: Door) -> Snd<'_, Self>;
+
     /// A receiver, if there is a place for it.
     fn counted(&self, door: Door) -> Option<Rcv<'_, Self>>;
 
@@ -29,16 +29,26 @@ pub trait Watches: WatchBehavior<Value = u32, Waker = u64> {
 
 impl<L: WakerList<Waker = u64>, H: Hand<u64>, const K: usize> Watches
     for SharedWatch<u32, L, H, K> {
+    fn sending(&self, door: Door) -> Snd<'_, Self> {
+        match door {
+            Door::Own => self.sender(),
+            Door::Handle => self.sender().as_dyn(),
+            Door::Dynamic => self.dyn_sender(),
+        }
+    }
+
     fn counted(&self, door: Door) -> Option<Rcv<'_, Self>> {
         match door {
-            Door::Own | Door::Handle => self.receiver(),
+            Door::Own => self.receiver(),
+            Door::Handle => Some(self.receiver()?.as_dyn()),
             Door::Dynamic => self.dyn_receiver(),
         }
     }
 
     fn anon(&self, door: Door) -> AnonRcv<'_, Self> {
         match door {
-            Door::Own | Door::Handle => self.anon_receiver(),
+            Door::Own => self.anon_receiver(),
+            Door::Handle => self.anon_receiver().as_dyn(),
             Door::Dynamic => self.dyn_anon_receiver(),
         }
     }
@@ -60,9 +70,6 @@ impl<L: WakerList<Waker = u64>, H: Hand<u64>, const K: usize> Watches
 #[derive(Drop)]
 pub struct Watching<'w, B: Watches, C, J> {
     watch: &'w B,
-    sender: Snd<'w, B>,
-    cloned: Snd<'w, B>,
-    dyn_sender: DynSender<'w, B>,
     receivers: Vec<Option<Receiver<'w, B>>>,
     doors: Doors,
     calls: PhantomData<(C, J)>,
@@ -76,14 +83,6 @@ enum Receiver<'w, B: WatchBehavior> {
 }
 
 impl<'w, B: WatchBehavior<Value = u32, Waker = u64>> Receiver<'w, B> {
-    // The same receiver, which has seen what it had seen. Its type no longer says how many receivers there is room for.
-    fn by(self, door: Door) -> Self {
-        match self {
-            Receiver::Counted(receiver) => Receiver::Counted(counted_by(receiver, door)),
-            Receiver::Anon(receiver) => Receiver::Anon(anon_by(receiver, door)),
-        }
-    }
-
     fn read<J: Judge<u32> + Copy>(&mut self, read: Reading<J>) -> Result<Option<u32>, AllocError> {
         match self {
             Receiver::Counted(receiver) => counted_reads(receiver, read),
@@ -107,22 +106,6 @@ impl<'w, B: WatchBehavior<Value = u32, Waker = u64>> Receiver<'w, B> {
             Receiver::Counted(receiver) => receiver.contains_value(),
             Receiver::Anon(receiver) => receiver.contains_value(),
         }
-    }
-}
-
-fn counted_by<'w, B: WatchBehavior>(receiver: Rcv<'w, B>, door: Door) -> DynReceiver<'w, B> {
-    match door {
-        Door::Own => receiver,
-        Door::Handle => receiver.as_dyn(),
-        Door::Dynamic => receiver.into(),
-    }
-}
-
-fn anon_by<'w, B: WatchBehavior>(receiver: AnonRcv<'w, B>, door: Door) -> DynAnonReceiver<'w, B> {
-    match door {
-        Door::Own => receiver,
-        Door::Handle => receiver.as_dyn(),
-        Door::Dynamic => receiver.into(),
     }
 }
 
@@ -209,10 +192,9 @@ where
     }
 
     fn poll(&mut self, held: Await<J>, cx: &Context<u64>) -> Turn<WatchHeard<u32>, Await<J>> {
-        let door = self.doors.next();
-        match receiver_by(self.receivers.get_mut(held.receiver), door) {
-            Some(receiver) => receiver.poll(held, cx),
-            None => over(),
+        match self.receivers.get_mut(held.receiver) {
+            Some(Some(receiver)) => receiver.poll(held, cx),
+            _ => over(),
         }
     }
 
@@ -251,17 +233,6 @@ where
     }
 }
 
-// The receiver that stands at a place, if one does, by this way.
-fn receiver_by<'p, 'w, B: WatchBehavior<Value = u32, Waker = u64>>(
-    place: Option<&'p mut Option<Receiver<'w, B>>>,
-    door: Door,
-) -> Option<&'p mut Receiver<'w, B>> {
-    let place = place?;
-    let receiver = place.take()?;
-    *place = Some(receiver.by(door));
-    place.as_mut()
-}
-
 impl<'w, B, C, J> Watching<'w, B, C, J>
 where
     B: Watches,
@@ -269,11 +240,8 @@ where
     J: Judge<u32> + Copy,
 {
     fn sender(&mut self) -> Snd<'w, B> {
-        match self.doors.next() {
-            Door::Own => self.sender,
-            Door::Handle => self.cloned,
-            Door::Dynamic => self.dyn_sender,
-        }
+        let watch = self.watch;
+        watch.sending(self.doors.next())
     }
 
     fn is_free(&self, h: usize) -> bool {
@@ -329,15 +297,13 @@ where
     fn try_get(&mut self) -> Result<Option<u32>, AllocError> {
         match self.doors.next() {
             Door::Own => self.watch.found(),
-            Door::Handle => self.sender.try_get(),
-            Door::Dynamic => self.dyn_sender.try_get(),
+            Door::Handle | Door::Dynamic => self.sender().try_get(),
         }
     }
 
     // A read for the receiver at the number.
     fn read(&mut self, h: usize, read: Reading<J>) -> Answer<WatchHeard<u32>> {
-        let door = self.doors.next();
-        let Some(receiver) = receiver_by(self.receivers.get_mut(h), door) else {
+        let Some(Some(receiver)) = self.receivers.get_mut(h) else {
             return Answer::NoSuch;
         };
         let found = receiver.read(read);
@@ -355,8 +321,9 @@ where
     ) -> Answer<WatchHeard<u32>> {
         let without = match self.doors.next() {
             Door::Own => self.watch.found_of(judge),
-            Door::Handle => self.sender.try_get_and(|value| judge.holds(value)),
-            Door::Dynamic => self.dyn_sender.try_get_and(|value| judge.holds(value)),
+            Door::Handle | Door::Dynamic => {
+                self.sender().try_get_and(|value| judge.holds(value))
+            }
         };
         if without == found {
             has_found(found)
@@ -367,8 +334,8 @@ where
 
     fn contains_value(&mut self) -> bool {
         match self.doors.next() {
-            Door::Own => self.sender.contains_value(),
-            Door::Handle => self.dyn_sender.contains_value(),
+            Door::Own => self.watch.contains_value(),
+            Door::Handle => self.sender().contains_value(),
             Door::Dynamic => self.first_contains_value(),
         }
     }
@@ -399,14 +366,9 @@ where
         watch: &'w SharedWatch<u32, L, H, K>,
         doors: Doors,
     ) -> Result<Self, AllocError> {
-        let receivers = nobody(alloc)?;
-        let sender = watch.sender();
         Ok(Watching {
             watch,
-            sender,
-            cloned: sender.as_dyn().clone()?,
-            dyn_sender: watch.dyn_sender().into(),
-            receivers,
+            receivers: nobody(alloc)?,
             doors,
             calls: PhantomData,
         })

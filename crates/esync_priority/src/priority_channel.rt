@@ -3,7 +3,7 @@
 //! All but the order in which messages leave is as in a channel.
 use crate::prio::PrioQueue;
 pub use crate::prio::{Kind, Max, Min};
-use esync_channel::channel::{Mailbox, MailboxReceiver, MailboxSender, SharedMailbox};
+use esync_channel::channel::{Mailbox, Rcv, SharedMailbox, Snd};
 pub use esync_channel::channel::{
     ReceiveFuture, SendFuture, SendRequest, TryReceiveError, TrySendError,
 };
@@ -17,7 +17,7 @@ pub type ChannelState<T, W, O, const N: usize> = Mailbox<PrioQueue<T, O, N>, W>;
 pub type PriorityChannel<T, W, O, H, const N: usize> = SharedMailbox<PrioQueue<T, O, N>, W, H>;
 
 /// A handle of a priority channel that can only send.
-pub type Sender<'ch, T, W, O, H, const N: usize> = MailboxSender<'ch, PrioQueue<T, O, N>, W, H>;
+pub type Sender<'ch, T, W, O, H, const N: usize> = Snd<'ch, PriorityChannel<T, W, O, H, N>>;
 
 /// A handle of a priority channel that can only receive.
-pub type Receiver<'ch, T, W, O, H, const N: usize> = MailboxReceiver<'ch, PrioQueue<T, O, N>, W, H>;
+pub type Receiver<'ch, T, W, O, H, const N: usize> = Rcv<'ch, PriorityChannel<T, W, O, H, N>>;

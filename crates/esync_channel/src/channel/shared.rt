@@ -3,8 +3,7 @@ ghost use Rattle.std.specs.Prelude.{◌≡◌, ◌≤◌, Some, IsSome, IfErr, i
 ghost use Rattle.esync_channel.specs.Polls.{LeavesRequest};
 
 use super::{
-    DynamicReceiver, DynamicSender, Mailbox, MailboxReceiver, MailboxSender, SendRequest,
-    TryReceiveError, TrySendError,
+    DynamicReceiver, DynamicSender, Mailbox, Rcv, SendRequest, Snd, TryReceiveError, TrySendError,
 };
 use esync_base::deque::Deque;
 use esync_base::shared::Shared;
@@ -84,14 +83,14 @@ impl<S: Store, W: Copy + Eq, H: Hand<W>> SharedMailbox<S, W, H> {
         }
     }
 
-    /// A handle that can only send.
-    pub fn sender(&self) -> MailboxSender<'_, S, W, H> {
-        MailboxSender::new(self)
+    /// Returns a handle that can only send.
+    pub fn sender(&self) -> Snd<'_, Self> {
+        Snd::new(self)
     }
 
-    /// A handle that can only receive.
-    pub fn receiver(&self) -> MailboxReceiver<'_, S, W, H> {
-        MailboxReceiver::new(self)
+    /// Returns a handle that can only receive.
+    pub fn receiver(&self) -> Rcv<'_, Self> {
+        Rcv::new(self)
     }
 
     /// Sends a message, when there is room.
@@ -262,14 +261,14 @@ impl<S: Store, W: Copy + Eq, H: Hand<W>> DynamicChannel for SharedMailbox<S, W, 
 }
 
 impl<T: Drop, W: Copy + Eq, H: Hand<W>, const N: usize> Channel<T, W, H, N> {
-    /// A handle that can only send, and whose type doesn't say how the channel keeps its messages.
+    /// Returns a handle that can only send, for functions over any channel.
     pub fn dyn_sender(&self) -> DynamicSender<'_, Self> {
-        DynamicSender::new(self)
+        self.sender()
     }
 
-    /// A handle that can only receive, and whose type doesn't say how the channel keeps its messages.
+    /// Returns a handle that can only receive, for functions over any channel.
     pub fn dyn_receiver(&self) -> DynamicReceiver<'_, Self> {
-        DynamicReceiver::new(self)
+        self.receiver()
     }
 
     /// Ready when there is a message, which stays.
@@ -285,6 +284,9 @@ pub struct SendFuture<'ch, C: DynamicChannel> {
     channel: &'ch C,
     request: SendRequest<C::Message>,
 }
+
+/// A message on its way into any channel.
+pub type DynamicSendFuture<'ch, C> = SendFuture<'ch, C>;
 
 impl<'ch, C: DynamicChannel> Model for SendFuture<'ch, C> {
     ghost use Rattle.std.specs.Prelude.{Option};
@@ -330,6 +332,9 @@ impl<'ch, C: DynamicChannel> SendFuture<'ch, C> {
 pub struct ReceiveFuture<'ch, C> {
     channel: &'ch C,
 }
+
+/// A message on its way out of any channel.
+pub type DynamicReceiveFuture<'ch, C> = ReceiveFuture<'ch, C>;
 
 impl<'ch, C: DynamicChannel> ReceiveFuture<'ch, C> {
     /// Nothing is received yet.

@@ -4,10 +4,7 @@ ghost use Rattle.esync_tasks.specs.Polled.{IfReady, OnPending};
 
 use crate::future::Future;
 use esync_base::waitqueue::{Context, Poll};
-use esync_channel::channel::{
-    DynamicChannel, DynamicReceiveFuture, DynamicSendFuture, ReceiveFuture, ReceiveReadyFuture,
-    SendFuture,
-};
+use esync_channel::channel::{DynamicChannel, ReceiveFuture, ReceiveReadyFuture, SendFuture};
 
 /// It may be polled until the message is sent.
 impl<C: DynamicChannel> Future<C::Waker> for SendFuture<'_, C> {
@@ -35,25 +32,5 @@ impl<C: DynamicChannel> Future<C::Waker> for ReceiveReadyFuture<'_, C> {
 
     fn poll(&mut self, cx: &Context<C::Waker>) -> Poll<()> {
         ReceiveReadyFuture::poll(self, cx)
-    }
-}
-
-/// It may be polled until the message is sent.
-impl<C: DynamicChannel> Future<C::Waker> for DynamicSendFuture<'_, C> {
-    type Output = ();
-
-    ghost can_poll = { λ message. IsSome message };
-
-    fn poll(&mut self, cx: &Context<C::Waker>) -> Poll<()> {
-        DynamicSendFuture::poll(self, cx)
-    }
-}
-
-/// Gives the message.
-impl<C: DynamicChannel> Future<C::Waker> for DynamicReceiveFuture<'_, C> {
-    type Output = C::Message;
-
-    fn poll(&mut self, cx: &Context<C::Waker>) -> Poll<C::Message> {
-        DynamicReceiveFuture::poll(self, cx)
     }
 }

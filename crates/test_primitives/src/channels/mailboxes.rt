@@ -2,8 +2,7 @@
 //! are polled after they were ready, and calls without a context.
 use embassy_sync::channel::{
     Channel, DynamicChannel, DynamicReceiveFuture, DynamicReceiver, DynamicSendFuture,
-    DynamicSender, MailboxReceiver, MailboxSender, ReceiveReadyFuture, SharedMailbox,
-    TryReceiveError, TrySendError,
+    DynamicSender, Rcv, ReceiveReadyFuture, SharedMailbox, Snd, TryReceiveError, TrySendError,
 };
 use embassy_sync::priority_channel::{Max, PriorityChannel};
 use embassy_sync::store::Store;
@@ -19,8 +18,8 @@ fn cx(waker: u64) -> Context<u64> {
 
 fn clones_handles<S: Store<Message = u32>, H: Hand<u64>>(
     rt: &impl Abort,
-    sender: &MailboxSender<'_, S, u64, H>,
-    receiver: &MailboxReceiver<'_, S, u64, H>,
+    sender: &Snd<'_, SharedMailbox<S, u64, H>>,
+    receiver: &Rcv<'_, SharedMailbox<S, u64, H>>,
 ) -> Result<(), AllocError> {
     let (other_sender, other_receiver) = (sender.clone()?, receiver.clone()?);
     holds!(rt; other_sender.try_send(1) == Ok(()));
