@@ -17,7 +17,7 @@ module _ {S C A W : Type 0} (X : Semantics S C A W) where
     -- what is owed stays owed, or is handed out
     pub kept : (r : ℕ) (w : W) → X.Owes old r w → (Polls X.meaning c r → ⊥) → (X.meaning.Ends (X.object old) c r → ⊥) → HandsOut X.meaning a w ⊎ X.Owes new r w
 
-  -- the same object, with the same wakers registered
+  -- two states have the same object and the same registered wakers
   abbrev pub IsLike : S → S → Type 0
   IsLike s t = (X.object s ≡ X.object t) × (X.registrations s ≡ X.registrations t)
 

@@ -1,4 +1,4 @@
--- What polls are answered: to whom a waker is owed, Pending with nothing changed, and what isn't there, NoSuch.
+-- What polls are answered: Pending with nothing changed if the request is owed a waker, NoSuch if no request is there.
 use Rattle.std.specs.Prelude.{◌≡◌, ℕ, Bool, List, [], Option, Some, None, slice_get, slice_set, refl}
 use Rattle.std.proofs.Common.{sym, ap, ◌∙◌, subst}
 use Rattle.esync_machine.specs.Runs.{IsIdle as IsIdleNumber, IdleIsPending as IdleIsPendingThere, OnlyLiveArePolled}
