@@ -1,4 +1,5 @@
-//! Handles of a channel that can only send or only receive, and those whose type doesn't say how the channel keeps its messages.
+//! Handles of a channel that can only send or only receive. The type of a dynamic handle doesn't say how the channel
+//! keeps its messages.
 ghost use Rattle.std.specs.Prelude.{◌≡◌, ◌≤◌, Some, IsSome, IfErr, is_none};
 ghost use Rattle.esync_channel.specs.Polls.{LeavesRequest};
 
@@ -14,69 +15,70 @@ use std::marker::Model;
 /// A handle of a channel of at most `N` messages that can only send.
 pub type Sender<'ch, T, W, H, const N: usize> = MailboxSender<'ch, Deque<T, N>, W, H>;
 
-/// A handle of a channel that can only send. Each method takes the call of its name on the channel.
+/// A handle of a channel that can only send. Each method makes the call of its name on the channel.
 #[derive_where(Clone, Copy)]
 pub struct MailboxSender<'ch, S, W, H> {
     channel: &'ch SharedMailbox<S, W, H>,
 }
 
 impl<'ch, S: Store, W: Copy + Eq, H: Hand<W>> MailboxSender<'ch, S, W, H> {
-    /// A handle of this channel.
+    /// Returns a handle of the channel.
     pub(crate) fn new(channel: &'ch SharedMailbox<S, W, H>) -> Self {
         MailboxSender { channel }
     }
 
-    /// Sends a message, when there is room.
+    /// Returns a future that sends the message when there is room.
     pub fn send(&self, message: S::Message) -> SendFuture<'ch, SharedMailbox<S, W, H>>
         ensures { result ≡ Some message }
     {
         self.channel.send(message)
     }
 
-    /// Sends a message where there is room. Where there is none it comes back.
+    /// Sends a message, and wakes the task that is registered for a message. If the channel is full, returns the
+    /// message in the error.
     pub fn try_send(&self, message: S::Message) -> Result<(), TrySendError<S::Message>>
         ensures { IfErr result (λ error. error ≡ TrySendError.Full message) }
     {
         self.channel.try_send(message)
     }
 
-    /// Whether there is room. Registers the context's waker, whatever the answer.
+    /// Polls for room: Ready if the channel isn't full. Registers the context's waker for room, whatever the answer.
     pub fn poll_ready_to_send(&self, cx: &Context<W>) -> Poll<()> {
         self.channel.poll_ready_to_send(cx)
     }
 
-    /// How many messages can be held. It takes no lock.
+    /// Returns how many messages the channel has room for in all. Takes no lock.
     pub fn capacity(&self) -> usize
         ensures { result ≡ S.keeping.capacity }
     {
         self.channel.capacity()
     }
 
-    /// How many messages there is room for now.
+    /// Returns how many more messages the channel has room for now.
     pub fn free_capacity(&self) -> usize
         ensures { result ≤ S.keeping.capacity }
     {
         self.channel.free_capacity()
     }
 
-    /// Drops all messages, and wakes who waits for room.
+    /// Drops all messages, and wakes the task that is registered for room.
     pub fn clear(&self) {
         self.channel.clear()
     }
 
-    /// How many messages are held now.
+    /// Returns how many messages are in the channel now.
     pub fn len(&self) -> usize
         ensures { result ≤ S.keeping.capacity }
     {
         self.channel.len()
     }
 
-    /// No message is held now.
+    /// Returns whether the channel is empty now.
     pub fn is_empty(&self) -> bool {
         self.channel.is_empty()
     }
 
-    /// As many messages are held now as there is room for.
+    /// Returns whether the channel is full now.
     pub fn is_full(&self) -> bool {
         self.channel.is_full()
     }
@@ -85,83 +87,86 @@ impl<'ch, S: Store, W: Copy + Eq, H: Hand<W>> MailboxSender<'ch, S, W, H> {
 /// A handle of a channel of at most `N` messages that can only receive.
 pub type Receiver<'ch, T, W, H, const N: usize> = MailboxReceiver<'ch, Deque<T, N>, W, H>;
 
-/// A handle of a channel that can only receive. Each method takes the call of its name on the channel.
+/// A handle of a channel that can only receive. Each method makes the call of its name on the channel.
 #[derive_where(Clone, Copy)]
 pub struct MailboxReceiver<'ch, S, W, H> {
     channel: &'ch SharedMailbox<S, W, H>,
 }
 
 impl<'ch, T: Drop, W: Copy + Eq, H: Hand<W>, const N: usize> Receiver<'ch, T, W, H, N> {
-    /// Ready when there is a message, which stays.
+    /// Returns a future that is ready when there is a message. The message stays in the channel.
     pub fn ready_to_receive(&self) -> ReceiveReadyFuture<'ch, Channel<T, W, H, N>> {
         self.channel.ready_to_receive()
     }
 }
 
 impl<'ch, S: Store, W: Copy + Eq, H: Hand<W>> MailboxReceiver<'ch, S, W, H> {
-    /// A handle of this channel.
+    /// Returns a handle of the channel.
     pub(crate) fn new(channel: &'ch SharedMailbox<S, W, H>) -> Self {
         MailboxReceiver { channel }
     }
 
-    /// Takes the message that is first, when there is one.
+    /// Returns a future that takes the first message when there is one.
     pub fn receive(&self) -> ReceiveFuture<'ch, SharedMailbox<S, W, H>> {
         self.channel.receive()
     }
 
-    /// Takes the message that is first.
+    /// Takes the first message and returns it. If the channel was full, wakes the task that is registered for room. An
+    /// error means that the channel is empty.
     pub fn try_receive(&self) -> Result<S::Message, TryReceiveError> {
         self.channel.try_receive()
     }
 
-    /// Whether there is a message. Registers the context's waker, whatever the answer.
+    /// Polls for a message: Ready if the channel isn't empty. Registers the context's waker for a message, whatever the
+    /// answer.
     pub fn poll_ready_to_receive(&self, cx: &Context<W>) -> Poll<()> {
         self.channel.poll_ready_to_receive(cx)
     }
 
-    /// Takes the message that is first. Where there is none, the context's waker waits for one.
+    /// Takes the first message and returns it. If the channel was full, wakes the task that is registered for room. If
+    /// it is empty, registers the context's waker for a message and returns Pending.
     pub fn poll_receive(&self, cx: &Context<W>) -> Poll<S::Message> {
         self.channel.poll_receive(cx)
     }
 
-    /// How many messages can be held. It takes no lock.
+    /// Returns how many messages the channel has room for in all. Takes no lock.
     pub fn capacity(&self) -> usize
         ensures { result ≡ S.keeping.capacity }
     {
         self.channel.capacity()
     }
 
-    /// How many messages there is room for now.
+    /// Returns how many more messages the channel has room for now.
     pub fn free_capacity(&self) -> usize
         ensures { result ≤ S.keeping.capacity }
     {
         self.channel.free_capacity()
     }
 
-    /// Drops all messages, and wakes who waits for room.
+    /// Drops all messages, and wakes the task that is registered for room.
     pub fn clear(&self) {
         self.channel.clear()
     }
 
-    /// How many messages are held now.
+    /// Returns how many messages are in the channel now.
     pub fn len(&self) -> usize
         ensures { result ≤ S.keeping.capacity }
     {
         self.channel.len()
     }
 
-    /// No message is held now.
+    /// Returns whether the channel is empty now.
     pub fn is_empty(&self) -> bool {
         self.channel.is_empty()
     }
 
-    /// As many messages are held now as there is room for.
+    /// Returns whether the channel is full now.
     pub fn is_full(&self) -> bool {
         self.channel.is_full()
     }
 }
 
-/// A handle that can only send, of any channel.
+/// A handle of any channel that can only send.
 #[derive_where(Clone, Copy)]
 pub struct DynamicSender<'ch, C> {
     channel: &'ch C,
@@ -177,12 +182,12 @@ impl<'ch, S, W, H> From<MailboxSender<'ch, S, W, H>>
 }
 
 impl<'ch, C: DynamicChannel> DynamicSender<'ch, C> {
-    /// A handle of this channel.
+    /// Returns a handle of the channel.
     pub(crate) fn new(channel: &'ch C) -> Self {
         DynamicSender { channel }
     }
 
-    /// Sends a message, when there is room.
+    /// Returns a future that sends the message when there is room.
     pub fn send(&self, message: C::Message) -> DynamicSendFuture<'ch, C>
         ensures { result ≡ Some message }
     {
@@ -191,20 +196,20 @@ impl<'ch, C: DynamicChannel> DynamicSender<'ch, C> {
         }
     }
 
-    /// Sends a message where there is room. Where there is none it comes back.
+    /// Sends a message. If the channel is full, returns the message in the error.
     pub fn try_send(&self, message: C::Message) -> Result<(), TrySendError<C::Message>>
         ensures { IfErr result (λ error. error ≡ TrySendError.Full message) }
     {
         self.channel.try_send(message)
     }
 
-    /// Whether there is room. Registers the context's waker, whatever the answer.
+    /// Polls for room: Ready if the channel isn't full. Registers the context's waker for room, whatever the answer.
     pub fn poll_ready_to_send(&self, cx: &Context<C::Waker>) -> Poll<()> {
         self.channel.poll_ready_to_send(cx)
     }
 }
 
-/// A handle that can only receive, of any channel.
+/// A handle of any channel that can only receive.
 #[derive_where(Clone, Copy)]
 pub struct DynamicReceiver<'ch, C> {
     channel: &'ch C,
@@ -220,35 +225,37 @@ impl<'ch, S, W, H> From<MailboxReceiver<'ch, S, W, H>>
 }
 
 impl<'ch, C: DynamicChannel> DynamicReceiver<'ch, C> {
-    /// A handle of this channel.
+    /// Returns a handle of the channel.
     pub(crate) fn new(channel: &'ch C) -> Self {
         DynamicReceiver { channel }
     }
 
-    /// Takes the message that is first, when there is one.
+    /// Returns a future that takes the first message when there is one.
     pub fn receive(&self) -> DynamicReceiveFuture<'ch, C> {
         DynamicReceiveFuture {
             receiving: ReceiveFuture::new(self.channel),
         }
     }
 
-    /// Takes the message that is first.
+    /// Takes the first message and returns it. An error means that the channel is empty.
     pub fn try_receive(&self) -> Result<C::Message, TryReceiveError> {
         self.channel.try_receive()
     }
 
-    /// Whether there is a message. Registers the context's waker, whatever the answer.
+    /// Polls for a message: Ready if the channel isn't empty. Registers the context's waker for a message, whatever the
+    /// answer.
     pub fn poll_ready_to_receive(&self, cx: &Context<C::Waker>) -> Poll<()> {
         self.channel.poll_ready_to_receive(cx)
     }
 
-    /// Takes the message that is first. Where there is none, the context's waker waits for one.
+    /// Takes the first message and returns it. If the channel is empty, registers the context's waker for a message and
+    /// returns Pending.
     pub fn poll_receive(&self, cx: &Context<C::Waker>) -> Poll<C::Message> {
         self.channel.poll_receive(cx)
     }
 }
 
-/// A message on its way into any channel.
+/// A future that sends a message into any channel. [`DynamicSender::send`] returns it.
 #[must_use]
 #[derive(Drop)]
 pub struct DynamicSendFuture<'ch, C: DynamicChannel> {
@@ -277,14 +284,15 @@ impl<'ch, C: DynamicChannel> From<SendFuture<'ch, C>> for DynamicSendFuture<'ch,
 }
 
 impl<'ch, C: DynamicChannel> DynamicSendFuture<'ch, C> {
-    /// The message was sent.
+    /// Returns whether the message was sent.
     pub fn is_finished(&self) -> bool
         ensures { result ≡ is_none self.now }
     {
         self.sending.is_finished()
     }
 
-    /// Sends the message where there is room. A future that is finished isn't polled.
+    /// Sends the message. If the channel is full, registers the context's waker for room and returns Pending. A
+    /// finished future may not be polled.
     pub fn poll(&mut self, cx: &Context<C::Waker>) -> Poll<()>
         requires { IsSome self.old }
         ensures { LeavesRequest result self.old self.new }
@@ -293,7 +301,8 @@ impl<'ch, C: DynamicChannel> DynamicSendFuture<'ch, C> {
     }
 }
 
-/// A message on its way out of any channel. It acts anew after it was ready.
+/// A future that takes a message from any channel. [`DynamicReceiver::receive`] returns it. After it was ready, a poll
+/// takes the next message.
 #[must_use]
 #[derive(Drop)]
 pub struct DynamicReceiveFuture<'ch, C> {
@@ -307,7 +316,8 @@ impl<'ch, C> From<ReceiveFuture<'ch, C>> for DynamicReceiveFuture<'ch, C> {
 }
 
 impl<'ch, C: DynamicChannel> DynamicReceiveFuture<'ch, C> {
-    /// Takes the message that is first. Where there is none, the context's waker waits for one.
+    /// Takes the first message and returns it. If the channel is empty, registers the context's waker for a message and
+    /// returns Pending.
     pub fn poll(&mut self, cx: &Context<C::Waker>) -> Poll<C::Message> {
         self.receiving.poll(cx)
     }
