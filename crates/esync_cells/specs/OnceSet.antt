@@ -46,12 +46,12 @@ module _ {T : Type 0} where
   ShowsTo v Take a = a ≡ Gives (Found (Some v))
   ShowsTo v IsSet a = a ≡ Gives (WasSet true)
 
-  -- what the poll of a request is answered then, and a poll at a number at which there is none
+  -- the answer to the poll of a request while this value is there, and to a poll at a number without a request
   abbrev pub ShowsToPoll : T → Option Get → Answer (OnceHeard T) → Type 0
   ShowsToPoll v (Some ask) a = a ≡ Gives (Got v)
   ShowsToPoll v None a = a ≡ NoSuch
 
-  -- what any command is answered, where this value was set or none was
+  -- the answer to any command, if this value was set or none was
   abbrev pub Shows : {W : Type 0} → Option T → List (Option Get) → Command Get W (OnceCall T) → Answer (OnceHeard T) → Type 0
   Shows None requests c a = Unit {0}
   Shows (Some v) requests (Poll r w) a = ShowsToPoll v (at_number requests r) a

@@ -1,4 +1,4 @@
--- A change is told once: told of the requests at first, and of the commands and their answers.
+-- A change is told once. This is told of the requests at first, and of the commands and their answers.
 use Rattle.std.specs.Prelude.{◌≡◌, ℕ, ◌==◌, ◌&&◌, Bool, true, false, List, Option, Some, None, Ok, is_some, nat_eq, if◌then◌else◌}
 use Rattle.esync_machine.specs.Account.{AtEach}
 use Rattle.esync_machine.specs.Numbers.{at_number, swept}
@@ -16,7 +16,7 @@ use Rattle.esync_cells.specs.declared.watch.machine.WatchCall.TheVariants.{Leave
 use Rattle.esync_cells.specs.declared.watch.machine.WatchHeard.{WatchHeard}
 use Rattle.esync_cells.specs.declared.watch.machine.WatchHeard.TheVariants.{Sent, Modified, Found}
 
--- whether a read that found this told its receiver of the latest change: one by a test doesn't where it finds nothing
+-- whether a read that found this told its receiver of the latest change: one by a test doesn't if it finds nothing
 abbrev pub is_told : {T J : Type 0} → Reading J → Option T → Bool
 is_told Get p = true
 is_told Changed p = true
@@ -41,7 +41,7 @@ WaitsOn h r Changed a = r ≡ h → a ≡ Pending
 WaitsOn h r (ChangedAnd judge) a = r ≡ h → a ≡ Pending
 WaitsOn h r read a = Unit {0}
 
--- and what a poll is answered then, by the request that is there at its number, or by none
+-- what a poll is answered while the receiver at h is told, by the request that is there at its number, or by none
 abbrev pub WaitsOnFor : {T J : Type 0} → ℕ → Option (Await J) → Answer (WatchHeard T) → Type 0
 WaitsOnFor h None a = a ≡ NoSuch
 WaitsOnFor h (Some ask) a = WaitsOn h ask.receiver ask.read a
@@ -52,7 +52,7 @@ told_by_poll h k (Some ask) (Gives heard) = if ask.receiver == h then true else 
 told_by_poll h k _ _ = k
 
 module _ {T C J : Type 0} where
-  -- and after a call and its answer
+  -- whether the receiver at h was told of the latest change, after a call and its answer
   abbrev pub told_by : ℕ → Bool → WatchCall T C J → Answer (WatchHeard T) → Bool
   told_by h k (Read r read) (Gives (Found p)) = if r == h && is_told read p then true else k
   told_by h k (Leave r) Done = if r == h then false else k
@@ -85,7 +85,7 @@ module _ {T C J : Type 0} where
   HasNoNews h (Read r (ChangedAnd judge)) a = r ≡ h → a ≡ Gives (Found None)
   HasNoNews h call a = Unit {0}
 
-  -- and what any command is answered then
+  -- what any command is answered while the receiver at h is told
   abbrev pub TellsNoMore : {W : Type 0} → ℕ → Bool → List (Option (Await J)) → Command (Await J) W (WatchCall T C J) → Answer (WatchHeard T) → Type 0
   TellsNoMore h false requests c a = Unit {0}
   TellsNoMore h true requests (Start r ask) a = Unit {0}
