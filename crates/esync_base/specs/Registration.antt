@@ -15,7 +15,7 @@ among eq w vs = list_any (λ v. eq v w) vs
 abbrev pub IsAmong : {W : Type 0} → (W → W → Bool) → W → List W → Type 0
 IsAmong eq w vs = among eq w vs ≡ true
 
--- what is registered after w was, where there is room for n: a full registration is emptied first
+-- what is registered after w was, if there is room for n: a full registration is emptied first
 abbrev pub registered : {W : Type 0} → (W → W → Bool) → ℕ → List W → W → List W
 registered eq n vs w = if among eq w vs then vs else (if nat_lt (length vs) n then vs ++ w ∷ [] else w ∷ [])
 

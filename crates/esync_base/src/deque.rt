@@ -106,7 +106,7 @@ impl<T, const N: usize> Deque<T, N> {
         }
     }
 
-    // Puts an item behind the others, where there is room.
+    // Appends an item. There has to be room for it.
     fn append(&mut self, item: T)
         requires { length self.old.items < N }
         ensures items { self.new.items ≡ self.old.items ++ item ∷ [] }

@@ -401,8 +401,8 @@ impl<W: Copy + Eq> WakerRegistration<W> {
         WakerRegistration { waker: None }
     }
 
-    /// Registers a waker. If an equal waker is registered, nothing changes. If another one is, it is handed out and
-    /// replaced: its task is woken, and can register again if it still waits.
+    /// Registers a waker. If an equal waker is registered, nothing changes. If a different waker is registered, it is
+    /// handed out and replaced: its task is woken, and can register again if it still waits.
     pub fn register<const K: usize>(&mut self, waker: W, wakes: &mut Wakes<W, K>)
         requires { length wakes.old < K }
         ensures registered { self.new ≡ registered W.eq 1 self.old waker }

@@ -6,7 +6,7 @@ use Rattle.esync_base.specs.declared.waitqueue.Poll.TheVariants.{Pending, Ready}
 
 pub record Signaling (T W : Type 0) : Type 0 where
   pub value : Option T
-  -- at most one waker
+  -- the registered waker, at most one
   pub waiter : List W
 
 abbrev pub signaling_code : {T W : Type 0} → Coded T → Coded W → Coded (Signaling T W)

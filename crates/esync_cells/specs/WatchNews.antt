@@ -34,8 +34,8 @@ pub record Account (J : Type 0) : Type 0 where
 abbrev pub at_first : {J : Type 0} → List (Option (Await J)) → Account J
 at_first requests = record { told = false; requests = requests }
 
--- what the poll of a request of the receiver at r is answered while the one at h is told of the latest change: a request for a newer
--- version waits on
+-- The answer to the poll of a request of the receiver at r, while the receiver at h is told of the latest change: a
+-- request for a newer version waits on.
 abbrev pub WaitsOn : {T J : Type 0} → ℕ → ℕ → Reading J → Answer (WatchHeard T) → Type 0
 WaitsOn h r Changed a = r ≡ h → a ≡ Pending
 WaitsOn h r (ChangedAnd judge) a = r ≡ h → a ≡ Pending
@@ -46,7 +46,7 @@ abbrev pub WaitsOnFor : {T J : Type 0} → ℕ → Option (Await J) → Answer (
 WaitsOnFor h None a = a ≡ NoSuch
 WaitsOnFor h (Some ask) a = WaitsOn h ask.receiver ask.read a
 
--- whether the receiver at h was told of the latest change, after a poll of this request, if one is there: one that shows a value tells
+-- whether the receiver at h was told of the latest change, after the poll of a request: one that shows a value tells
 abbrev pub told_by_poll : {T J : Type 0} → ℕ → Bool → Option (Await J) → Answer (WatchHeard T) → Bool
 told_by_poll h k (Some ask) (Gives heard) = if ask.receiver == h then true else k
 told_by_poll h k _ _ = k
@@ -93,8 +93,9 @@ module _ {T C J : Type 0} where
   TellsNoMore h true requests (End r) a = Unit {0}
   TellsNoMore h true requests (Call call) a = HasNoNews h call a
 
-  -- of a watch with these requests at first, at each command of a run: from a read of the receiver at h on, or a poll that showed it a value,
-  -- until a send, its reads and its requests find no news, and a poll at a number without a request names what isn't there
+  -- A watch has these requests at first. From a read of the receiver at h on, or a poll that showed it a value, until a
+  -- send, its reads and its requests find no news. A poll at a number without a request names what isn't there. This
+  -- holds at each command.
   abbrev pub TellsOnce : {W : Type 0} {K : ℕ} → ℕ → List (Option (Await J)) → List (Command (Await J) W (WatchCall T C J)) → List (Reply (Answer (WatchHeard T)) W K) → Type 0
   TellsOnce h requests commands replies =
       AtEach (λ k c a. after h k c a.answer) (λ k c a. TellsNoMore h k.told k.requests c a.answer) (at_first requests) commands replies

@@ -477,7 +477,7 @@ impl<T: Clone, L: WakerList> WatchOver<T, L> {
         }
     }
 
-    // A read of the value, if it is to be shown. It may mark the version as seen even where it finds nothing.
+    // A read of the value, if it is to be shown. It may mark the version as seen even if it finds nothing.
     fn read(&self, shows: bool, marks: bool, seen: &mut u64) -> Result<Option<T>, AllocError>
         ensures answer { Answers T.is_clone T.is_infallible (found shows self.now.value) result }
         ensures seen { seen.new ≡ seen_after marks self.now.version seen.old result }

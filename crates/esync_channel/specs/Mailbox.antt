@@ -4,9 +4,9 @@ use Rattle.std.specs.Coded.{Coded, code_by, coded×, coded_list}
 
 -- the registered wakers, at most one in each slot
 pub record Slots (W : Type 0) : Type 0 where
-  -- of a task that waits for a message
+  -- the waker of a task that waits for a message
   pub receivers : List W
-  -- of a task that waits for room
+  -- the waker of a task that waits for room
   pub senders : List W
 
 pub record Mailbox (S W : Type 0) : Type 0 where

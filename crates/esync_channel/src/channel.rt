@@ -1,8 +1,8 @@
 //! A queue for sending values between tasks: several may send, several may receive, and each message goes to one of
 //! them.
 //!
-//! The state form takes `&mut self`, holds no lock and waits for nobody. Each call appends the wakers that it hands out
-//! to the list of wakes that it is given, and the caller wakes their tasks. A registration hands out the waker that it
+//! The state form takes `&mut self`, holds no lock and never waits. Each call appends the wakers that it hands out to
+//! the list of wakes that it is given, and the caller wakes their tasks. A registration hands out the waker that it
 //! displaces.
 ghost use Rattle.std.specs.Prelude.{◌≡◌, ℕ, ◌<◌, ◌≤◌, ◌+◌, ◌++◌, [], Some, None, length, ◌↔◌, IsTrue, IsSome, IfSome, is_ok, is_none};
 ghost use Rattle.std.specs.Option.{option_copied};

@@ -31,7 +31,7 @@ is_above n (Some p) = nat_lt n p
 abbrev pub is_read : ℕ → List (Option ℕ) → Bool
 is_read n positions = list_all (is_above n) positions
 
--- what is held from the number n on, without the messages in front that every live position is above
+-- the held messages from number n on, without those in front that every live position is above
 abbrev pub trimmed : {T : Type 0} → ℕ → List (Option ℕ) → List T → List T
 trimmed n positions [] = []
 trimmed n positions (m ∷ ms) = if is_read n positions then trimmed (suc n) positions ms else m ∷ ms

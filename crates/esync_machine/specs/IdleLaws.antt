@@ -51,7 +51,7 @@ module _ {Ask Held C A W : Type 0} (R : Rules Ask Held C A) where
   no_such_at law o r w (Some (Some x)) a o2 at n k = law o.core x a k.0 k.1 (λ i. n (x, at_of o.requests r (Some x) at, i)) k.2
 
   module _ (T : Wakings R.Core Held C A W) (same : W → W → Bool) (K : ℕ) where
-    -- where Pending without a change is allowed, nothing else is
+    -- if Pending without a change is allowed, nothing else is
     pub requests_pending : IdleIsPending R → IdleIsPendingThere (requests_meaning R T same K)
     requests_pending law o o2 c r w a b polls e h k =
         let p = polls_is c r w polls in

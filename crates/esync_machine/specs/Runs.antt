@@ -68,7 +68,7 @@ module _ {Command Reply Waker : Type 0} (M : Meaning Command Reply Waker) where
   abbrev pub IsIdle : M.Object → ℕ → Type 0
   IsIdle o r = (c : Command) (w : Waker) → M.polls c ≡ Some (r, w) → (a : Reply) × M.IsPending a × M.allows o c a o
 
-  -- where Pending with the object left as it is is allowed for a poll, nothing else is
+  -- if Pending with the object left as it is is allowed for a poll, nothing else is
   abbrev pub IdleIsPending : Type 0
   IdleIsPending =
       (o o2 : M.Object) (c : Command) (r : ℕ) (w : Waker) (a b : Reply) → M.polls c ≡ Some (r, w) → M.IsPending a → M.allows o c a o → M.allows o c b o2 → M.IsPending b × (o2 ≡ o)
@@ -163,6 +163,6 @@ module _ {S Command Reply Waker : Type 0} (X : Semantics S Command Reply Waker) 
   abbrev pub GoodRunOf : S → List Command → List Reply → S → Type 0
   GoodRunOf old commands replies new = GoodRun X.meaning (X.object old) (X.registrations old) commands replies (X.object new) (X.registrations new)
 
-  -- to whom a waker is owed, a poll may now be answered Pending with the object left as it is
+  -- if a request is owed a waker, a poll of it may now be answered Pending with the object left as it is
   abbrev pub OwedAreIdle : Type 0
   OwedAreIdle = (m : S) (r : ℕ) (w : Waker) → X.Owes m r w → IsIdle X.meaning (X.object m) r

@@ -15,7 +15,7 @@ pub record Handed (Registered W : Type 0) : Type 0 where
 abbrev pub IsHanded : {G W : Type 0} → Handed G W → List W → G → Type 0
 IsHanded h wakes after = (wakes ≡ h.wakes) × (after ≡ h.after)
 
--- nothing is handed out, and who is registered stays so
+-- nothing is handed out, and the registered wakers stay
 abbrev pub nothing : {G W : Type 0} → G → Handed G W
 nothing g = record { wakes = []; after = g }
 

@@ -5,9 +5,9 @@ use Rattle.esync_base.specs.Ring.{Ringed, ringed_code}
 
 -- the registered wakers, at most one in each slot
 pub record Slots (W : Type 0) : Type 0 where
-  -- of a task that waits for bytes
+  -- the waker of a task that waits for bytes
   pub readers : List W
-  -- of a task that waits for room
+  -- the waker of a task that waits for room
   pub writers : List W
 
 pub record Piped (W : Type 0) : Type 0 where

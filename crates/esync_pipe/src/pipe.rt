@@ -1,7 +1,7 @@
 //! A pipe: bytes on their way from tasks that write to tasks that read, with backpressure.
 //!
-//! The state form takes `&mut self`, holds no lock and waits for nobody. Each call appends the wakers that it hands out
-//! to the list of wakes that it is given, and the caller wakes their tasks. A registration hands out the waker that it
+//! The state form takes `&mut self`, holds no lock and never waits. Each call appends the wakers that it hands out to
+//! the list of wakes that it is given, and the caller wakes their tasks. A registration hands out the waker that it
 //! displaces.
 ghost use Rattle.std.specs.Prelude.{◌≡◌, ◌<◌, ◌≤◌, ◌+◌, ◌++◌, Some, length, is_none, IsSome, IfSome};
 ghost use Rattle.std.specs.Option.{option_copied};

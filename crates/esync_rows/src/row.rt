@@ -1,5 +1,5 @@
-//! N places, each with an item or without one. Nothing in them says which: the container that owns the row knows it, as a queue
-//! does by its length.
+//! N places, each with an item or without one. Nothing in them says which: the container that owns the row knows it, as
+//! a queue does by its length.
 ghost use Rattle.std.specs.Prelude.{◌≡◌, ◌<◌, length, get_or, slice_set, Some, None, IsSome};
 ghost use Rattle.std.proofs.Math.ListN.{replicate};
 

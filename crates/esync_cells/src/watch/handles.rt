@@ -277,7 +277,8 @@ pub type AnonReceiver<'a, T, W, H, const N: usize, const K: usize> = AnonRcv<
 /// A receiver that never waits, whose type doesn't say how many receivers the watch has room for.
 pub type DynAnonReceiver<'a, B> = AnonRcv<'a, B>;
 
-/// A receiver that never waits, and knows the version that it has seen. It isn't counted, so there may be any number of them.
+/// A receiver that never waits, and knows the version that it has seen. It isn't counted, so there may be any number of
+/// them.
 #[derive(Drop)]
 pub struct AnonRcv<'a, B> {
     watch: &'a B,
