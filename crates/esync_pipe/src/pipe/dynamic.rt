@@ -268,7 +268,8 @@ impl<P: DynamicPipe + Drop> DynamicReader<P> {
         self.row.filled()
     }
 
-    /// Drops the first `amt` bytes of the reader's copy, and as many bytes of the pipe. The copy has to have as many.
+    /// Drops the first `amt` bytes of the reader's copy, which has to have as many. Drops as many of the pipe's oldest
+    /// bytes, if as many stand before the wrap of the ring.
     pub fn consume(&mut self, amt: usize)
         requires { amt ≤ length self.old }
         ensures { self.new ≡ drop amt self.old }
