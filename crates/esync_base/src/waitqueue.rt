@@ -266,7 +266,7 @@ impl<W: Copy, const K: usize> Wakes<W, K> {
         &self.row.places
     }
 
-    /// Returns waker `i`, counted from 0, or `None` if there are fewer.
+    /// Returns waker `i`, counted from 0, or `None` if there is no such waker.
     pub fn get(&self, i: usize) -> Option<W>
         ensures { result ≡ slice_get self.now i }
     {
@@ -310,7 +310,7 @@ pub trait WakerList: Copy {
         ensures value { result ≡ length (wakers self.now) }
         ensures within { result ≤ room };
 
-    /// Returns waker `i`, counted from 0, or `None` if there are fewer.
+    /// Returns waker `i`, counted from 0, or `None` if there is no such waker.
     fn get(&self, i: usize) -> Option<Self::Waker>
         ensures { result ≡ slice_get (wakers self.now) i };
 
@@ -457,7 +457,7 @@ pub trait Registered {
     /// The wakers that are registered at the place with this number.
     ghost at: { Self → ℕ → List Self.Waker };
 
-    /// Returns waker `i`, counted from 0, of those registered at the place, or `None` if there are fewer.
+    /// Returns waker `i`, counted from 0, of those registered at the place, or `None` if there is no such waker.
     fn registered(&self, place: usize, i: usize) -> Option<Self::Waker>
         ensures { result ≡ slice_get (at self.now place) i };
 }

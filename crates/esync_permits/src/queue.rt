@@ -71,7 +71,7 @@ pub trait WaitQueue: Drop {
     fn is_front(&self, number: usize) -> bool
         ensures { result ≡ is_front number (numbers (entries self.now)) };
 
-    /// Returns the waker in entry `i`, counted from the front, or `None` if there are fewer.
+    /// Returns the waker in entry `i`, counted from the front, or `None` if there is no such entry.
     fn waker(&self, i: usize) -> Option<Self::Waker>
         ensures { result ≡ slice_get (map (λ e. e.waker) (entries self.now)) i };
 

@@ -376,7 +376,7 @@ impl<T: Drop, K: Kind<T>, const N: usize> PrioQueue<T, K, N> {
 
     /// Puts an item in. If the queue is full, returns the item as the error, and nothing was compared.
     ///
-    /// If the queue holds n items afterwards, fewer items are compared than n has binary digits. The first item of a
+    /// If the queue holds n items afterwards, fewer comparisons are made than n has binary digits. The first item of a
     /// queue gives each place its bytes, which takes time in proportion to `N`.
     pub fn push(&mut self, item: T, comparisons: &mut Comparisons) -> Result<(), T>
         ensures room { OnOk result (length self.old < N) }

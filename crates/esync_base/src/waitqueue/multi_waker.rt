@@ -91,7 +91,7 @@ impl<L: WakerList> WakerRegistrations<L> {
         self.wakers.len() == 0
     }
 
-    /// Returns registered waker `i`, counted from 0, or `None` if there are fewer.
+    /// Returns registered waker `i`, counted from 0, or `None` if there is no such waker.
     pub fn get(&self, i: usize) -> Option<L::Waker>
         ensures { result ≡ slice_get self.now i }
     {
