@@ -6,9 +6,9 @@ use Rattle.std.proofs.lemmas.List.{length_push}
 pub record Keeping (T : Type 0) : Type 1 where
   -- the most that are held
   pub capacity : ℕ
-  -- putting a message in makes the one list the other
+  -- `Puts old message new`: putting the message in makes the new list of the old one
   pub Puts : List T → T → List T → Type 0
-  -- and so does taking one out
+  -- `Takes old message new`: taking the message out makes the new list of the old one
   pub Takes : List T → T → List T → Type 0
   pub one_more : (old new : List T) (message : T) → Puts old message new → length new ≡ suc (length old)
   pub one_less : (old new : List T) (message : T) → Takes old message new → length old ≡ suc (length new)

@@ -1,13 +1,13 @@
--- What is known by its number, in a list.
+-- Items of a list that are known by their numbers.
 use Rattle.std.specs.Prelude.{◌≡◌, ℕ, ◌==◌, Bool, false, List, [], ◌∷◌}
 use Rattle.std.specs.List.{list_any}
 
 module _ {A : Type 0} (number : A → ℕ) where
-  -- whether one of the list has the number
+  -- whether an item of the list has the number
   abbrev pub has_number : ℕ → List A → Bool
   has_number n xs = list_any (λ x. number x == n) xs
 
-  -- no two of the list have the same number
+  -- no two items of the list have the same number
   abbrev pub AreDistinct : List A → Type 0
   AreDistinct [] = Unit {0}
   AreDistinct (x ∷ xs) = (has_number (number x) xs ≡ false) × AreDistinct xs
@@ -16,6 +16,6 @@ module _ {A : Type 0} (number : A → ℕ) where
 abbrev pub is_in : ℕ → List ℕ → Bool
 is_in n ns = has_number (λ k. k) n ns
 
--- no number stands twice in it
+-- no number stands twice in the list
 abbrev pub NoTwice : List ℕ → Type 0
 NoTwice ns = AreDistinct (λ k. k) ns

@@ -8,7 +8,7 @@ pub true_or_false : (b : Bool) → (b ≡ true) ⊎ (b ≡ false)
 true_or_false true = inl refl
 true_or_false false = inr refl
 
--- if one of two isn't so, and neither the other
+-- if neither of two holds, the first doesn't and the second doesn't
 pub neither : (a b : Bool) → (a || b) ≡ false → (a ≡ false) × (b ≡ false)
 neither true b e = absurd cc
 neither false b e = (refl, e)
@@ -33,21 +33,21 @@ pub same_or_not : (n k : ℕ) → (n ≡ k) ⊎ (n ≡ k → ⊥)
 same_or_not n k = elim (true_or_false (n == k)) [ inl e ↦ inl (same_number n k e) | inr e ↦ inr (other_number n k e) ]
 
 module _ {A : Type 0} (number : A → ℕ) where
-  -- of two lists, one after the other
+  -- a number is in two lists, one after the other, if it is in either
   pub has_number-append : (n : ℕ) (xs ys : List A) → has_number number n (xs ++ ys) ≡ (has_number number n xs || has_number number n ys)
   has_number-append n xs ys = list_any-append (λ x. number x == n) xs ys
 
   pub has_number-front : (x : A) (xs : List A) → has_number number (number x) (x ∷ xs) ≡ true
   has_number-front x xs = rw (equal_number (number x) (number x) refl) refl
 
-  -- the one in front has another number
+  -- an item in front with another number makes no difference
   pub has_number-behind : (n : ℕ) (x : A) (xs : List A) → (n ≡ number x → ⊥) → has_number number n (x ∷ xs) ≡ has_number number n xs
   has_number-behind n x xs ne = rw (unequal_number (number x) n (λ e. ne (sym e))) refl
 
   pub has_number-back : (xs : List A) (x : A) → has_number number (number x) (xs ++ x ∷ []) ≡ true
   has_number-back xs x = has_number-append (number x) xs (x ∷ []) ∙ or_second (has_number number (number x) xs) (has_number number (number x) (x ∷ [])) (has_number-front x [])
 
-  -- the one at the back has another number
+  -- an item at the back with another number makes no difference
   pub has_number-before : (n : ℕ) (xs : List A) (x : A) → (n ≡ number x → ⊥) → has_number number n (xs ++ x ∷ []) ≡ has_number number n xs
   has_number-before n [] x ne = has_number-behind n x [] ne
   has_number-before n (y ∷ xs) x ne = ap (λ b. number y == n || b) (has_number-before n xs x ne)

@@ -15,7 +15,7 @@ among eq w vs = list_any (λ v. eq v w) vs
 abbrev pub IsAmong : {W : Type 0} → (W → W → Bool) → W → List W → Type 0
 IsAmong eq w vs = among eq w vs ≡ true
 
--- what is registered after w was, where there is room for n: a full registration is emptied first
+-- what is registered after w was, if there is room for n: a full registration is emptied first
 abbrev pub registered : {W : Type 0} → (W → W → Bool) → ℕ → List W → W → List W
 registered eq n vs w = if among eq w vs then vs else (if nat_lt (length vs) n then vs ++ w ∷ [] else w ∷ [])
 
@@ -23,7 +23,7 @@ registered eq n vs w = if among eq w vs then vs else (if nat_lt (length vs) n th
 abbrev pub displaced : {W : Type 0} → (W → W → Bool) → ℕ → List W → W → List W
 displaced eq n vs w = if among eq w vs then [] else (if nat_lt (length vs) n then [] else vs)
 
--- the same of a waker that may be left out
+-- what is registered after a waker was, or after nothing was
 abbrev pub registered_if : {W : Type 0} → (W → W → Bool) → ℕ → List W → Option W → List W
 registered_if eq n vs None = vs
 registered_if eq n vs (Some w) = registered eq n vs w

@@ -1,4 +1,4 @@
--- A waker that was registered is there, and one that was there stays or is displaced.
+-- A waker that is registered is in the registration then; one that was in it stays or is displaced.
 use Rattle.std.proofs.Common.{◌≡◌, ℕ, Bool, true, List, [], ◌∷◌, ◌++◌, length, Option, Some, None, nat_lt, ◌⊎◌, inl, inr, refl}
 use Rattle.esync_base.specs.ListedLaws.{true_or_false}
 use Rattle.esync_base.specs.Registration.{among, IsAmong, registered, displaced, registered_if, displaced_if}
@@ -10,19 +10,19 @@ among-append eq same (v ∷ vs) w = elim (true_or_false (eq v w)) [ inl e ↦ rw
 among-here : {W : Type 0} (eq : W → W → Bool) → ((x : W) → eq x x ≡ true) → (w : W) → IsAmong eq w (w ∷ [])
 among-here eq same w = rw (same w) refl
 
--- one that is in a list is in what begins with it
+-- a waker that is in a list is in each list that begins with it
 pub among-kept : {W : Type 0} (eq : W → W → Bool) (vs us : List W) (w : W) → IsAmong eq w vs → IsAmong eq w (vs ++ us)
 among-kept eq [] us w h = absurd cc
 among-kept eq (v ∷ vs) us w h = elim (true_or_false (eq v w)) [ inl e ↦ rw e refl | inr e ↦ rw e (among-kept eq vs us w (rw e at h)) ]
 
--- a waker that was registered is there
+-- a waker that was just registered is in the registration
 pub has_registered : {W : Type 0} (eq : W → W → Bool) → ((x : W) → eq x x ≡ true) → (n : ℕ) (vs : List W) (w : W) → IsAmong eq w (registered eq n vs w)
 has_registered eq same n vs w = elim (true_or_false (among eq w vs)) [
   | inl e ↦ rw e e
   | inr e ↦ rw e (elim (true_or_false (nat_lt (length vs) n)) [ inl l ↦ rw l (among-append eq same vs w) | inr l ↦ rw l (among-here eq same w) ])
 ]
 
--- one that was there stays, or is displaced
+-- a waker that was registered stays so, or is displaced
 pub kept_or_displaced : {W : Type 0} (eq : W → W → Bool) (n : ℕ) (vs : List W) (w w2 : W) → IsAmong eq w vs → IsAmong eq w (displaced eq n vs w2) ⊎ IsAmong eq w (registered eq n vs w2)
 kept_or_displaced eq n vs w w2 h = elim (true_or_false (among eq w2 vs)) [
   | inl e ↦ rw e (inr h)

@@ -3,7 +3,7 @@ use Rattle.std.specs.Prelude.{◌≡◌, ℕ, zero, suc, ◌+◌, ◌-◌, ◌�
 use Rattle.std.specs.Coded.{Coded, code_by, coded×, coded_ℕ}
 use Rattle.esync_base.specs.Places.{read_from}
 
--- which places of a ring are filled: so many, from this one on, round
+-- which places of a ring are filled: a count of places from the front on, round
 pub record Stretch : Type 0 where
   -- the place of the oldest byte, or where the next one goes if there is none
   pub front : ℕ
@@ -20,7 +20,7 @@ filled_run n s = min s.count (n - s.front)
 abbrev pub free_run : ℕ → Stretch → ℕ
 free_run n s = if nat_lt (s.front + s.count) n then n - (s.front + s.count) else n - s.count
 
--- where a range of so many places begins: an empty one is 0..0
+-- where a range of some places begins: an empty range is 0..0
 abbrev pub begins : ℕ → ℕ → ℕ
 begins start zero = 0
 begins start (suc k) = start

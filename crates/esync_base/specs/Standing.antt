@@ -1,4 +1,4 @@
--- Which wakers are registered at which place, where there are one or two of them.
+-- Which wakers are registered at which place, if there are one or two places.
 use Rattle.std.specs.Prelude.{ℕ, List, [], ◌==◌, if◌then◌else◌}
 
 abbrev pub at_one : {W : Type 0} → List W → ℕ → List W

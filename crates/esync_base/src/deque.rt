@@ -21,7 +21,7 @@ fn behind<const N: usize>(i: usize) -> usize
     if i + 1 < N { i + 1 } else { 0 }
 }
 
-// Moves the items behind an empty place one place towards it, and says which place is empty then.
+// Moves each of `count` items behind an empty place one place towards it, and returns the place that is empty then.
 fn close<T, const N: usize>(row: &mut Row<T, N>, gap: usize, count: usize) -> usize
     requires below { gap < N }
     requires fewer { count < N }
@@ -66,7 +66,7 @@ impl<T, const N: usize> Model for Deque<T, N> {
     ghost invariant = { λ a. IsRing N a.row a.start a.end a.full };
 }
 
-/// The items, oldest first, as a list.
+/// Shows the items as a list, oldest first.
 impl<T: Drop + fmt::Debug, const N: usize> fmt::Debug for Deque<T, N> {
     fn fmt<F: fmt::Write>(&self, f: &mut fmt::Formatter<F>) -> fmt::Result {
         let mut list = f.debug_list();
@@ -106,7 +106,7 @@ impl<T, const N: usize> Deque<T, N> {
         }
     }
 
-    // Puts an item behind the others, where there is room.
+    // Appends an item. There has to be room for it.
     fn append(&mut self, item: T)
         requires { length self.old.items < N }
         ensures items { self.new.items ≡ self.old.items ++ item ∷ [] }
@@ -130,7 +130,7 @@ impl<T: Drop, const N: usize> Drop for Deque<T, N> {
 }
 
 impl<T: Drop, const N: usize> Deque<T, N> {
-    /// An empty ring. It takes no time for its places, which get their bytes with the first item.
+    /// Returns an empty ring. Its places take no time: they get their bytes with the first item.
     pub fn new() -> Self
         ensures items { result.items ≡ [] }
         ensures front { result.front ≡ 0 }
@@ -138,7 +138,7 @@ impl<T: Drop, const N: usize> Deque<T, N> {
         Deque::new_at(0)
     }
 
-    /// How many items are held.
+    /// Returns how many items are in the ring.
     pub fn len(&self) -> usize
         ensures value { result ≡ length self.now.items }
         ensures within { result ≤ N }
@@ -152,14 +152,14 @@ impl<T: Drop, const N: usize> Deque<T, N> {
         }
     }
 
-    /// No item is held.
+    /// Returns whether the ring is empty.
     pub fn is_empty(&self) -> bool
         ensures { IsTrue result ↔ (self.now.items ≡ []) }
     {
         self.start == self.end && !self.full
     }
 
-    /// As many items are held as there is room for.
+    /// Returns whether the ring is full.
     pub fn is_full(&self) -> bool
         ensures answer { IsTrue result ↔ (length self.now.items ≡ N) }
         ensures within { length self.now.items ≤ N }
@@ -167,7 +167,7 @@ impl<T: Drop, const N: usize> Deque<T, N> {
         self.full || N == 0
     }
 
-    /// Puts an item behind the others. At a full ring it comes back.
+    /// Appends an item. If the ring is full, returns the item as the error, and the items stay as they are.
     pub fn push_back(&mut self, item: T) -> Result<(), T>
         ensures room { OnOk result (length self.old.items < N) }
         ensures ok { OnOk result (self.new.items ≡ self.old.items ++ item ∷ []) }
@@ -183,7 +183,7 @@ impl<T: Drop, const N: usize> Deque<T, N> {
         Ok(())
     }
 
-    /// Takes the oldest item.
+    /// Takes the oldest item. Returns `None` if the ring is empty.
     pub fn pop_front(&mut self) -> Option<T>
         ensures item { IfSome result (λ item. self.old.items ≡ item ∷ self.new.items) }
         ensures front { OnSome result (self.new.front ≡ next N self.old.front) }
@@ -201,7 +201,7 @@ impl<T: Drop, const N: usize> Deque<T, N> {
         Some(item)
     }
 
-    /// The oldest item.
+    /// Returns the oldest item, or `None` if the ring is empty.
     pub fn front(&self) -> Option<&T>
         ensures { option_copied result ≡ slice_get self.now.items 0 }
     {
@@ -212,7 +212,7 @@ impl<T: Drop, const N: usize> Deque<T, N> {
         }
     }
 
-    /// Item `i`, counted from the front.
+    /// Returns item `i`, counted from the front.
     pub fn get(&self, i: usize) -> &T
         requires { i < length self.now.items }
         ensures { Some result.now ≡ slice_get self.now.items i }
@@ -220,7 +220,7 @@ impl<T: Drop, const N: usize> Deque<T, N> {
         self.row.get(self.slot_of(i))
     }
 
-    /// Puts an item in the place of item `i`, and gives that one back.
+    /// Puts an item in the place of item `i`, counted from the front, and returns the item that was there.
     pub fn replace(&mut self, i: usize, item: T) -> T
         requires { i < length self.old.items }
         ensures items { self.new.items ≡ slice_set self.old.items i item }
@@ -233,7 +233,8 @@ impl<T: Drop, const N: usize> Deque<T, N> {
         replaced
     }
 
-    /// Takes item `i` out, counted from the front. The items behind it move one place towards the front.
+    /// Takes item `i` out, counted from the front, and returns it. The items behind it move one place towards the
+    /// front.
     pub fn remove(&mut self, i: usize) -> T
         requires { i < length self.old.items }
         ensures items { self.new.items ≡ remove self.old.items i }
@@ -248,7 +249,7 @@ impl<T: Drop, const N: usize> Deque<T, N> {
         removed
     }
 
-    /// The place of item `i`, counted from the front.
+    /// Returns the place of item `i`, counted from the front.
     pub fn slot_of(&self, i: usize) -> usize
         requires { i < length self.now.items }
         ensures place { result ≡ slot N self.now.front i }
@@ -262,7 +263,7 @@ impl<T: Drop, const N: usize> Deque<T, N> {
         }
     }
 
-    /// The place where the next item goes. At a full ring it is that of the oldest one.
+    /// Returns the place where the next item goes. In a full ring it is the place of the oldest item.
     pub fn slot_of_next(&self) -> usize
         ensures place { result ≡ slot N self.now.front (length self.now.items) }
         ensures within { result ≤ N - 1 }

@@ -1,4 +1,4 @@
-//! Wakers, where they are registered and handed out, and the queue that channels stand on.
+//! Wakers, where they are registered and handed out, and the queues and rings on which channels and pipes stand.
 #![tactic(auto)]
 
 pub mod blocking_mutex;

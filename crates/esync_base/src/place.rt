@@ -1,63 +1,65 @@
-//! A value that one at a time takes, who never waits for it.
+//! A value that one thread at a time takes. No thread waits for it.
 ghost use Rattle.std.specs.Prelude.{◌≡◌};
 ghost use Rattle.std.specs.Borrow.{Lends, sem};
 
 use std::ops::{Deref, DerefMut};
 use std::sync::{Mutex, MutexGuard};
 
-/// A value that threads share, each while it has taken it. Nobody waits for it: who finds it taken goes without.
+/// A value that threads share: each has it only while it has taken it. No thread waits for it: a thread that finds the
+/// value taken gets `None`.
 ///
-/// Nothing is known of the value when it is taken. From then on whoever has it knows what they wrote.
+/// Nothing is known of the value when a thread takes it. From then on that thread knows what it wrote.
 #[derive(Drop)]
 pub struct Place<T> {
     value: Mutex<T>,
 }
 
 impl<T> Place<T> {
-    /// A place of this value, which nobody has taken.
+    /// Returns a place with the value, which no thread has taken.
     pub fn new(value: T) -> Self {
         Place {
             value: Mutex::new(value),
         }
     }
 
-    /// Takes the value, unless another has it, until the guard is dropped.
+    /// Takes the value and returns a guard, or `None` if the value is taken. The value is free again when the guard is
+    /// dropped.
     pub fn turn(&self) -> Option<MutexGuard<'_, T>> {
         self.value.try_lock()
     }
 
-    /// The value.
+    /// Returns the value.
     pub fn into_inner(self) -> T {
         let Place { value } = self;
         value.into_inner()
     }
 
-    /// The value, which nobody else has while it is borrowed.
+    /// Returns the value by reference: the place is borrowed mutably, so that no thread can have taken it.
     pub fn get_mut(&mut self) -> &mut T {
         self.value.get_mut()
     }
 }
 
-/// What has a value to itself, and lends it.
+/// A holder that has a value to itself, and lends it.
 pub trait Holds {
     type Value;
 
-    /// The value that it has now.
+    /// The value in the holder now.
     ghost value: { Self → Self.Value };
 
-    /// The same with another value.
+    /// The holder with another value in it.
     ghost with_value: { Self → Self.Value → Self };
 
-    /// Lends the value.
+    /// Returns the value by reference.
     fn read(&self) -> &Self::Value
         ensures { result.now ≡ value self.now };
 
-    /// Lends the value to be written.
+    /// Returns the value by reference, to be written.
     fn write(&mut self) -> &mut Self::Value
         ensures* lends { sem 𝓛 (Lends Self.row Self.Value.row self.entry result (with_value self.old)) }
         ensures value { result.now ≡ value self.old };
 
-    /// The value is what was written.
+    /// A law: the value is the one that was written last.
     ghost written: { (holder : Self) (v : Self.Value) → value (with_value holder v) ≡ v };
 }
 

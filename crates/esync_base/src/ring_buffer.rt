@@ -1,6 +1,6 @@
-//! A ring of bytes that takes no memory.
+//! A ring of bytes of fixed capacity that takes no memory.
 //!
-//! [`RingBuffer`] knows which places of a ring are filled, and no byte. [`ByteRing`] has the bytes beside it.
+//! [`RingBuffer`] knows which places of a ring are filled, but has no bytes. [`ByteRing`] has the bytes beside it.
 ghost use Rattle.std.specs.Prelude.{◌≡◌, ◌↔◌, ◌+◌, ◌-◌, ◌<◌, ◌≤◌, ◌^◌, ◌++◌, [], min, length, take, drop, IsTrue};
 ghost use Rattle.std.proofs.Math.ListN.{replicate};
 ghost use Rattle.esync_base.specs.Ring.{slot};
@@ -12,9 +12,10 @@ use std::alloc::AllocError;
 use std::marker::Model;
 use std::ops::Range;
 
-/// Which of the `N` places of a ring are filled: a number of them from a first one on, and behind the last place the first again.
-// A read changes `start` and `len`, which don't stand side by side: else both may be loaded as one vector, right behind a write's store of
-// one, for which the processor waits.
+/// Which of the `N` places of a ring are filled: a count of places from the first filled one on. Behind the last place
+/// of the ring comes the first again.
+// `start` and `len`, which a read changes, don't stand side by side. Otherwise both may be loaded as one vector right
+// behind a write's store of one of them, and the processor waits for that store.
 #[derive(Debug, Drop)]
 pub struct RingBuffer<const N: usize> {
     start: usize,
@@ -37,7 +38,7 @@ impl<const N: usize> Model for RingBuffer<N> {
 }
 
 impl<const N: usize> RingBuffer<N> {
-    /// No place is filled.
+    /// Returns a ring with no place filled.
     pub fn new() -> Self
         ensures { result ≡ record { front = 0; count = 0 } }
     {
@@ -48,7 +49,7 @@ impl<const N: usize> RingBuffer<N> {
         }
     }
 
-    // The place behind the newest byte, where the next one goes.
+    // The place behind the newest byte, where the next byte goes.
     fn end(&self) -> usize
         ensures value { result ≡ slot N self.now.front self.now.count }
         ensures within { result ≤ N - 1 }
@@ -56,7 +57,7 @@ impl<const N: usize> RingBuffer<N> {
         self.end
     }
 
-    // The place of the oldest byte, or where the next one goes if there is none.
+    // The place of the oldest byte, or of the next byte if there is none.
     fn first(&self) -> usize
         ensures value { result ≡ self.now.front }
         ensures within { result ≤ N - 1 }
@@ -64,7 +65,7 @@ impl<const N: usize> RingBuffer<N> {
         self.start
     }
 
-    // How many places are free one behind the other.
+    // How many free places stand one behind the other, from the next byte's place on.
     fn free_run(&self) -> usize
         ensures { result ≡ free_run N self.now }
     {
@@ -76,7 +77,7 @@ impl<const N: usize> RingBuffer<N> {
         }
     }
 
-    // How many places are filled one behind the other.
+    // How many filled places stand one behind the other, from the oldest byte's place on.
     fn filled_run(&self) -> usize
         ensures { result ≡ filled_run N self.now }
     {
@@ -88,7 +89,7 @@ impl<const N: usize> RingBuffer<N> {
         }
     }
 
-    /// The free places that stand one behind the other, behind the filled ones: where the next bytes go.
+    /// Returns the range of the free places behind the filled ones, up to the wrap: where the next bytes go.
     pub fn push_buf(&self) -> Range<usize>
         ensures start { result.start ≡ begins (slot N self.now.front self.now.count) (free_run N self.now) }
         ensures end { result.end ≡ result.start + free_run N self.now }
@@ -97,7 +98,7 @@ impl<const N: usize> RingBuffer<N> {
         run(self.end, self.free_run())
     }
 
-    /// The free places: those of `push_buf`, and behind the wrap the others.
+    /// Returns the ranges of all free places: the range of `push_buf`, and the free places behind the wrap.
     pub fn push_bufs(&self) -> (Range<usize>, Range<usize>)
         ensures start { result.0.start ≡ begins (slot N self.now.front self.now.count) (free_run N self.now) }
         ensures end { result.0.end ≡ result.0.start + free_run N self.now }
@@ -110,7 +111,7 @@ impl<const N: usize> RingBuffer<N> {
         (run(self.end, first), 0..rest)
     }
 
-    /// Fills so many of the free places, in order. There have to be so many.
+    /// Fills the next `n` free places, in order. At least `n` have to be free.
     pub fn push(&mut self, n: usize)
         requires { self.old.count + n ≤ N }
         ensures { self.new ≡ record self.old { count = self.old.count + n } }
@@ -119,7 +120,7 @@ impl<const N: usize> RingBuffer<N> {
         self.len += n;
     }
 
-    /// The filled places that stand one behind the other from the first on.
+    /// Returns the range of the filled places from the oldest byte on, up to the wrap.
     pub fn pop_buf(&self) -> Range<usize>
         ensures start { result.start ≡ begins self.now.front (filled_run N self.now) }
         ensures end { result.end ≡ result.start + filled_run N self.now }
@@ -128,7 +129,7 @@ impl<const N: usize> RingBuffer<N> {
         run(self.start, self.filled_run())
     }
 
-    /// The filled places: those of `pop_buf`, and behind the wrap the others.
+    /// Returns the ranges of all filled places: the range of `pop_buf`, and the filled places behind the wrap.
     pub fn pop_bufs(&self) -> (Range<usize>, Range<usize>)
         ensures start { result.0.start ≡ begins self.now.front (filled_run N self.now) }
         ensures end { result.0.end ≡ result.0.start + filled_run N self.now }
@@ -140,7 +141,7 @@ impl<const N: usize> RingBuffer<N> {
         (run(self.start, first), 0..self.len - first)
     }
 
-    /// Frees so many of the filled places, the first ones. There have to be so many.
+    /// Frees the first `n` filled places. At least `n` have to be filled.
     pub fn pop(&mut self, n: usize)
         requires { n ≤ self.old.count }
         ensures { self.new ≡ record { front = slot N self.old.front n; count = self.old.count - n } }
@@ -149,21 +150,21 @@ impl<const N: usize> RingBuffer<N> {
         self.len -= n;
     }
 
-    /// All places are filled.
+    /// Returns whether all places are filled.
     pub fn is_full(&self) -> bool
         ensures { IsTrue result ↔ (self.now.count ≡ N) }
     {
         self.len == N
     }
 
-    /// No place is filled.
+    /// Returns whether no place is filled.
     pub fn is_empty(&self) -> bool
         ensures { IsTrue result ↔ (self.now.count ≡ 0) }
     {
         self.len == 0
     }
 
-    /// How many places are filled.
+    /// Returns how many places are filled.
     pub fn len(&self) -> usize
         ensures value { result ≡ self.now.count }
         ensures within { result ≤ N }
@@ -171,7 +172,7 @@ impl<const N: usize> RingBuffer<N> {
         self.len
     }
 
-    /// Frees all places, and begins again at the first.
+    /// Frees all places, and begins again at the first place.
     pub fn clear(&mut self)
         ensures { self.new ≡ record { front = 0; count = 0 } }
     {
@@ -181,7 +182,7 @@ impl<const N: usize> RingBuffer<N> {
     }
 }
 
-// The place so many places behind this one.
+// The place `count` places behind this one.
 fn behind<const N: usize>(place: usize, count: usize) -> usize
     requires place { place ≤ N - 1 }
     requires count { count ≤ N }
@@ -195,7 +196,7 @@ fn behind<const N: usize>(place: usize, count: usize) -> usize
     }
 }
 
-// A range of so many places. An empty one is 0..0.
+// A range of `count` places. An empty one is 0..0.
 fn run(start: usize, count: usize) -> Range<usize>
     requires { start + count < 2 ^ 64 }
     ensures start { result.start ≡ begins start count }
@@ -238,7 +239,7 @@ impl<const N: usize> ByteRow<N> {
         places[at..at + from.len()].copy_from_slice(from);
     }
 
-    // Writes so many of the bytes from place `start` on, and the others from the first place on.
+    // Writes `run` of the bytes from place `start` on, and the rest from the first place on.
     fn copy_in_runs(&mut self, start: usize, run: usize, from: &[u8])
         requires first { start + run ≤ N }
         requires second { length from.now ≤ N }
@@ -251,7 +252,8 @@ impl<const N: usize> ByteRow<N> {
         }
     }
 
-    // The same, of more bytes than the first run has: out of line, so that what doesn't wrap is short.
+    // Like `copy_in_runs`, for more bytes than the first run has. Out of line, so that a write that doesn't wrap is
+    // short.
     #[inline(never)]
     fn copy_in_two_runs(&mut self, start: usize, run: usize, from: &[u8])
         requires first { start + run ≤ N }
@@ -272,7 +274,7 @@ impl<const N: usize> ByteRow<N> {
         to.copy_from_slice(&places[at..at + to.len()]);
     }
 
-    // Reads so many bytes from place `start` on, and the others from the first place on.
+    // Reads `run` bytes from place `start` on, and the rest from the first place on.
     fn copy_out_runs(&self, start: usize, run: usize, to: &mut [u8])
         requires first { start + run ≤ N }
         requires second { length to.old ≤ N }
@@ -285,7 +287,8 @@ impl<const N: usize> ByteRow<N> {
         }
     }
 
-    // The same, of more bytes than the first run has.
+    // Like `copy_out_runs`, for more bytes than the first run has. Out of line, so that a read that doesn't wrap is
+    // short.
     #[inline(never)]
     fn copy_out_two_runs(&self, start: usize, run: usize, to: &mut [u8])
         requires first { start + run ≤ N }
@@ -321,7 +324,7 @@ impl<const N: usize> Model for ByteRing<N> {
 }
 
 impl<const N: usize> ByteRing<N> {
-    /// No byte is held.
+    /// Returns an empty ring.
     pub fn new() -> Self
         ensures items { result.items ≡ [] }
         ensures front { result.front ≡ 0 }
@@ -332,7 +335,7 @@ impl<const N: usize> ByteRing<N> {
         }
     }
 
-    /// How many bytes are held.
+    /// Returns how many bytes are in the ring.
     pub fn len(&self) -> usize
         ensures value { result ≡ length self.now.items }
         ensures within { result ≤ N }
@@ -340,21 +343,22 @@ impl<const N: usize> ByteRing<N> {
         self.ring.len()
     }
 
-    /// No byte is held.
+    /// Returns whether the ring is empty.
     pub fn is_empty(&self) -> bool
         ensures { IsTrue result ↔ (self.now.items ≡ []) }
     {
         self.ring.is_empty()
     }
 
-    /// As many bytes are held as there is room for.
+    /// Returns whether the ring is full.
     pub fn is_full(&self) -> bool
         ensures { IsTrue result ↔ (length self.now.items ≡ N) }
     {
         self.ring.is_full()
     }
 
-    /// Puts as many of the bytes behind the others as there is room for, and tells how many. They are copied in two runs at most.
+    /// Appends as many of the slice's bytes as there is room for, and returns how many. They are copied in at most two
+    /// runs.
     pub fn write(&mut self, from: &[u8]) -> usize
         ensures count { result ≡ min (length from.now) (N - length self.old.items) }
         ensures items { self.new.items ≡ self.old.items ++ take result from.now }
@@ -370,8 +374,8 @@ impl<const N: usize> ByteRing<N> {
         n
     }
 
-    /// Takes the oldest bytes out, as many as there are and as there is room for in the slice, and tells how many. They are copied
-    /// in two runs at most.
+    /// Takes the oldest bytes out into the slice, as many as there are and as the slice has room for. Returns how many.
+    /// They are copied in at most two runs.
     pub fn read(&mut self, to: &mut [u8]) -> usize
         ensures count { result ≡ min (length to.old) (length self.old.items) }
         ensures bytes { to.new ≡ take result self.old.items ++ drop result to.old }
@@ -386,7 +390,8 @@ impl<const N: usize> ByteRing<N> {
         n
     }
 
-    /// The oldest bytes, as many as stand one behind the other. They stay.
+    /// Returns the oldest bytes, up to the wrap of the ring. They stay in the ring. The slice is empty only if the ring
+    /// is.
     pub fn filled(&self) -> &[u8]
         ensures value { result.now ≡ take (N - self.now.front) self.now.items }
         ensures some { 0 < length self.now.items → 0 < length result.now }
@@ -396,7 +401,7 @@ impl<const N: usize> ByteRing<N> {
         &places[run.start..run.end]
     }
 
-    /// Drops so many of the oldest bytes. There have to be so many.
+    /// Drops the `n` oldest bytes. The ring has to hold at least `n`.
     pub fn consume(&mut self, n: usize)
         requires { n ≤ length self.old.items }
         ensures items { self.new.items ≡ drop n self.old.items }

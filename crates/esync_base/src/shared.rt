@@ -1,4 +1,5 @@
-//! A state that tasks on several threads share, and the hand that wakes them: what every shared form stands on.
+//! A state that tasks on several threads share, and the hand that wakes these tasks. Every shared form stands on the
+//! two.
 ghost use Rattle.esync_base.specs.Room.{WakesFitInMemory};
 
 use crate::blocking_mutex::CriticalSectionMutex;
@@ -6,7 +7,7 @@ use crate::waitqueue::{Hand, Wakes};
 use std::marker::PhantomData;
 use std::sync::MutexGuard;
 
-/// A state under a lock, and the hand that gets the wakers that its steps hand out.
+/// A state under a lock, and the hand that gets the wakers which the steps of the state hand out.
 #[derive(Drop)]
 pub struct Shared<V, W, H> {
     state: CriticalSectionMutex<V>,
@@ -15,7 +16,7 @@ pub struct Shared<V, W, H> {
 }
 
 impl<V, W: Copy, H: Hand<W>> Shared<V, W, H> {
-    /// The state under a lock that nobody has, and the hand that gets its wakers.
+    /// Returns the state under a lock that no thread has, with the hand.
     pub fn new(state: V, hand: H) -> Self {
         Shared {
             state: CriticalSectionMutex::new(state),
@@ -24,7 +25,7 @@ impl<V, W: Copy, H: Hand<W>> Shared<V, W, H> {
         }
     }
 
-    /// Takes the lock, until the guard is dropped.
+    /// Takes the lock and returns a guard. The lock is released when the guard is dropped.
     #[inline]
     pub fn guard(&self) -> MutexGuard<'_, V>
         ensures { WakesFitInMemory W.row }
@@ -39,15 +40,17 @@ impl<V, W: Copy, H: Hand<W>> Shared<V, W, H> {
         }
     }
 
-    /// The state, which nobody else has while it is borrowed.
+    /// Returns the state by reference, without the lock: it is borrowed mutably, so that no thread can have the lock.
     pub fn get_mut(&mut self) -> &mut V {
         self.state.get_mut()
     }
 }
 
-/// A step of a shared state: takes the lock, makes the call, releases the lock, and then gives the wakers that the call handed
-/// out to the hand. The list of wakes has room for one, or for the number that stands behind the shared state, which is below
-/// 65536.
+/// Takes a step of a shared state, and returns what the call answers.
+///
+/// It takes the lock, makes the call, releases the lock, and then gives the wakers that the call handed out to the
+/// hand. The list of wakes has room for one waker. A number below 65536 behind the shared state gives it room for as
+/// many.
 #[macro_export]
 macro_rules! step {
     ($shared:expr, |$state:ident, $wakes:ident| $call:expr) => {

@@ -15,14 +15,14 @@ use std::sync::Wait;
 mod atomic_waker;
 mod multi_waker;
 
-/// What a poll answers.
+/// The answer of a poll.
 #[derive(Clone, Copy, Debug, PartialEq, Eq)]
 pub enum Poll<T> {
     Ready(T),
     Pending,
 }
 
-/// What a poll is given: the waker of the task that polls.
+/// The context of a poll: the waker of the task that polls.
 #[derive(Clone, Copy, Debug)]
 pub struct Context<W> {
     waker: W,
@@ -37,14 +37,14 @@ impl<W> Model for Context<W> {
 }
 
 impl<W: Copy> Context<W> {
-    /// A context of the task of this waker.
+    /// Returns a context with the waker.
     pub fn from_waker(waker: W) -> Self
         ensures { result ≡ waker }
     {
         Context { waker }
     }
 
-    /// The waker of the task that polls.
+    /// Returns the waker of the task that polls.
     pub fn waker(&self) -> W
         ensures { result ≡ self.now }
     {
@@ -56,7 +56,7 @@ impl<W: Copy> Context<W> {
 #[derive(Clone, Copy, Debug, PartialEq, Eq, PartialOrd, Ord, Hash)]
 pub struct TaskId(pub u64);
 
-// One of K places. Where there is only one, a constant: a list of one waker then needs no memory.
+// The number of one of K places. If K is 1 it is a constant: a list of one waker then needs no memory.
 fn place<const K: usize>(i: usize) -> usize
     requires { i < K }
     ensures { result ≡ i }
@@ -64,7 +64,7 @@ fn place<const K: usize>(i: usize) -> usize
     if K == 1 { 0 } else { i }
 }
 
-// K places.
+// K places for wakers.
 struct Row<W, const K: usize> {
     places: [Option<W>; K],
 }
@@ -99,9 +99,9 @@ impl<W: Copy, const K: usize> Row<W, K> {
     }
 }
 
-/// The wakers that a step hands out, in order: at most `K`, in a row of its own.
+/// The wakers that a step hands out, in order: at most `K`, in a row of their own.
 ///
-/// A step appends to the list that it is handed, so what is made of several steps can hand them the same one.
+/// A step appends to the list that it is given. So a step that is made of several can give the same list to each.
 pub struct Wakes<W, const K: usize> {
     row: Row<W, K>,
     len: usize,
@@ -134,7 +134,7 @@ impl<W, const K: usize> Model for Wakes<W, K> {
     ghost inverse = { λ xs. record { row = record { places = row_of K xs }; len = length xs } };
 }
 
-/// Two lists are equal where they have as many wakers, and each equals the other's at its place.
+/// Two lists are equal if they have the same number of wakers and the wakers at each place are equal.
 impl<W: PartialEq, const K: usize> PartialEq for Wakes<W, K> {
     ghost use Rattle.std.specs.Cmp.Lexicographic.{pointwise, lists_per};
 
@@ -153,7 +153,7 @@ impl<W: Eq, const K: usize> Eq for Wakes<W, K> {
     ghost laws = { lists_equiv W.Eq.laws };
 }
 
-/// The wakers, in order, as a list.
+/// Shows the wakers as a list, in order.
 impl<W: fmt::Debug, const K: usize> fmt::Debug for Wakes<W, K> {
     fn fmt<F: fmt::Write>(&self, f: &mut fmt::Formatter<F>) -> fmt::Result {
         f.debug_list()
@@ -162,7 +162,7 @@ impl<W: fmt::Debug, const K: usize> fmt::Debug for Wakes<W, K> {
     }
 }
 
-/// The wakers of a list, in order.
+/// An iterator over the wakers of a list, in order.
 #[derive(Drop)]
 pub struct Iter<'a, W> {
     rest: &'a [Option<W>],
@@ -216,7 +216,7 @@ impl<W, const K: usize> Wakes<W, K> {
         &row.places[..*len]
     }
 
-    /// An iterator over the wakers, in order.
+    /// Returns an iterator over the wakers, in order.
     pub fn iter(&self) -> Iter<'_, W>
         ensures { result ≡ self.now }
     {
@@ -227,7 +227,7 @@ impl<W, const K: usize> Wakes<W, K> {
 }
 
 impl<W: Copy, const K: usize> Wakes<W, K> {
-    /// An empty list.
+    /// Returns an empty list.
     pub fn new() -> Self
         ensures { result ≡ [] }
     {
@@ -237,14 +237,14 @@ impl<W: Copy, const K: usize> Wakes<W, K> {
         }
     }
 
-    /// Empties the list, which has room for `K` wakers again.
+    /// Empties the list, which then has room for `K` wakers again.
     pub fn clear(&mut self)
         ensures { self.new ≡ [] }
     {
         *self = Wakes::new();
     }
 
-    /// How many wakers are in the list.
+    /// Returns how many wakers are in the list.
     pub fn len(&self) -> usize
         ensures value { result ≡ length self.now }
         ensures within { result ≤ K }
@@ -252,21 +252,21 @@ impl<W: Copy, const K: usize> Wakes<W, K> {
         self.len
     }
 
-    /// No waker is in the list.
+    /// Returns whether the list is empty.
     pub fn is_empty(&self) -> bool
         ensures { IsTrue result ↔ (self.now ≡ []) }
     {
         self.len == 0
     }
 
-    /// All `K` places: the wakers in order, and then `None`.
+    /// Returns all `K` places: the wakers in order, and then `None`.
     pub fn as_slice(&self) -> &[Option<W>]
         ensures { items_of result.now ≡ self.now }
     {
         &self.row.places
     }
 
-    /// The waker behind the first `i` ones, if there is one.
+    /// Returns waker `i`, counted from 0, or `None` if there is no such waker.
     pub fn get(&self, i: usize) -> Option<W>
         ensures { result ≡ slice_get self.now i }
     {
@@ -285,32 +285,32 @@ impl<W: Copy, const K: usize> Wakes<W, K> {
     }
 }
 
-/// A list of wakers with a fixed room, in which several tasks can be registered, whatever their number.
+/// A list of wakers with fixed room, in which several tasks can be registered.
 pub trait WakerList: Copy {
     type Waker: Copy + Eq;
 
     ghost use Rattle.std.specs.Prelude.{ℕ, List};
 
-    /// How many wakers it has room for.
+    /// How many wakers the list has room for.
     ghost room: { ℕ };
 
-    /// The wakers in it, in order.
+    /// The wakers in the list, in order.
     ghost wakers: { Self → List Self.Waker };
 
-    /// An empty list.
+    /// Returns an empty list.
     fn new() -> Self
         ensures { wakers result ≡ [] };
 
-    /// How many wakers it has room for.
+    /// Returns how many wakers the list has room for.
     fn room() -> usize
         ensures { result ≡ room };
 
-    /// How many wakers are in it.
+    /// Returns how many wakers are in the list.
     fn len(&self) -> usize
         ensures value { result ≡ length (wakers self.now) }
         ensures within { result ≤ room };
 
-    /// The waker behind the first `i` ones, if there is one.
+    /// Returns waker `i`, counted from 0, or `None` if there is no such waker.
     fn get(&self, i: usize) -> Option<Self::Waker>
         ensures { result ≡ slice_get (wakers self.now) i };
 
@@ -394,15 +394,15 @@ impl<W: fmt::Debug> fmt::Debug for WakerRegistration<W> {
 }
 
 impl<W: Copy + Eq> WakerRegistration<W> {
-    /// An empty slot.
+    /// Returns an empty slot.
     pub fn new() -> Self
         ensures { result ≡ [] }
     {
         WakerRegistration { waker: None }
     }
 
-    /// Registers a waker. One that equals the registered one changes nothing, and another displaces it: the task
-    /// that waited is woken, so that it can register again if it still waits.
+    /// Registers a waker. If an equal waker is registered, nothing changes. If a different waker is registered, it is
+    /// handed out and replaced: its task is woken, and can register again if it still waits.
     pub fn register<const K: usize>(&mut self, waker: W, wakes: &mut Wakes<W, K>)
         requires { length wakes.old < K }
         ensures registered { self.new ≡ registered W.eq 1 self.old waker }
@@ -430,14 +430,14 @@ impl<W: Copy + Eq> WakerRegistration<W> {
         }
     }
 
-    /// A waker is registered.
+    /// Returns whether a waker is registered.
     pub fn occupied(&self) -> bool
         ensures { IsTrue result ↔ (length self.now ≡ 1) }
     {
         self.waker.is_some()
     }
 
-    /// The registered waker behind the first `i` ones, if there is one.
+    /// Returns the registered waker if `i` is 0, or `None` if the slot is empty. For any greater `i` returns `None`.
     pub fn get(&self, i: usize) -> Option<W>
         ensures { result ≡ slice_get self.now i }
     {
@@ -445,34 +445,36 @@ impl<W: Copy + Eq> WakerRegistration<W> {
     }
 }
 
-/// Who tells which wakers are registered, and at which of its places: 0 is that of receivers, readers, subscribers or of all who
-/// wait, 1 that of senders, writers or publishers. It is for who looks on, as `esync explain` does.
+/// A state that tells which wakers are registered in it, for diagnosis, as by `esync explain`.
+///
+/// Its places have numbers. Place 0 is for receivers, readers or subscribers, or for all tasks if there is one place.
+/// Place 1 is for senders, writers or publishers.
 pub trait Registered {
     type Waker;
 
     ghost use Rattle.std.specs.Prelude.{ℕ, List};
 
-    /// The wakers that are registered at the place of this number.
+    /// The wakers that are registered at the place with this number.
     ghost at: { Self → ℕ → List Self.Waker };
 
-    /// The waker behind the first `i` ones at this place, if there is one.
+    /// Returns waker `i`, counted from 0, of those registered at the place, or `None` if there is no such waker.
     fn registered(&self, place: usize, i: usize) -> Option<Self::Waker>
         ensures { result ≡ slice_get (at self.now place) i };
 }
 
-/// Who acts on the wakers that a shared form hands out, and lends it what may wait for a lock.
+/// The hand that wakes tasks for a shared form, and lends it the handle `Rt` by which a thread may wait for a lock.
 ///
-/// A shared call takes its lock, takes its step, releases the lock, and then gives each waker that the step handed out to
-/// `wake`, in order. So does what is dropped.
+/// A shared call takes its lock, takes its step and releases the lock. Then it gives each waker that the step handed
+/// out to `wake`, in order. A drop of a guard or a future does so too.
 pub trait Hand<W> {
     type Rt: Wait;
 
     ghost use Rattle.esync_base.specs.Room.{WakesFitInMemory};
 
-    /// What may wait for a lock.
+    /// Returns the handle by which a thread may wait for a lock.
     fn rt(&self) -> &Self::Rt
         ensures { WakesFitInMemory W.row };
 
-    /// Wakes the task of a waker.
+    /// Wakes the task of the waker.
     fn wake(&self, waker: W);
 }

@@ -1,5 +1,5 @@
--- The requests at their numbers, as the commands and their answers tell them. `asked_after` of the machine still knows what a request was
--- started for once it is over; here its number is free then, so that a poll there is known to name what isn't there.
+-- The requests at their numbers, as the commands and their answers tell them. A number is free once its request is
+-- over: a poll there names what isn't there. `asked_after` of the machine still knows then what was asked for.
 use Rattle.std.specs.Prelude.{List, Option, Some, None, slice_set}
 use Rattle.esync_machine.specs.declared.primitive.Answer.{Answer}
 use Rattle.esync_machine.specs.declared.primitive.Answer.TheVariants.{Done, Gives}

@@ -1,4 +1,4 @@
--- What a value that is made when it is first asked for allows. It wakes nobody, and nobody waits for it.
+-- What a lazy lock allows. It hands out no waker, and no task waits for it.
 use Rattle.std.specs.Prelude.{◌≡◌, Option, Some, None}
 use Rattle.esync_machine.specs.declared.primitive.Answer.{Answer}
 use Rattle.esync_machine.specs.declared.primitive.Answer.TheVariants.{NoSuch, Gives}
@@ -14,7 +14,7 @@ abbrev pub Polls : {O T : Type 0} → O → NoAsk → Answer T → O → Option 
 Polls o h a o2 p = (a ≡ NoSuch) × (o2 ≡ o) × (p ≡ Some h)
 
 module _ {T M : Type 0} (Makes : M → T → Type 0) where
-  -- a value is told, and this is left of what it was asked of
+  -- a value is told, and this is left of the lock
   abbrev pub Tells : Lazy T M → (T → Option (Lazy T M)) → Answer T → Option (Lazy T M) → Type 0
   Tells o left a o2 = (x : T) × Shows (Makes o.maker) o.value x × (a ≡ Gives x) × (o2 ≡ left x)
 
@@ -23,7 +23,7 @@ module _ {T M : Type 0} (Makes : M → T → Type 0) where
   Calls (Some o) Get a o2 = Tells o (λ x. Some (record o { value = Some x })) a o2
   Calls (Some o) Into a o2 = Tells o (λ x. None) a o2
 
-  -- the object is the value with its maker, and nothing once the value was taken out
+  -- the object is the value with its maker, or nothing once the value was taken out
   abbrev pub lazy_rules : Rules NoAsk NoAsk LazyCall T
   lazy_rules = record (asked_rules Polls Calls) { begins = λ o ask p. p ≡ None; IsRequest = λ h. ⊥ }
 

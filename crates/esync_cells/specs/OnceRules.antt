@@ -1,4 +1,4 @@
--- What a value that is set once allows, and which wakers it hands out: for each request and each call.
+-- What a once lock allows for each request and each call, and which wakers it hands out.
 use Rattle.std.specs.Prelude.{◌≡◌, Option, Some, None, is_some, unwrap_or}
 use Rattle.esync_machine.specs.declared.primitive.Answer.{Answer}
 use Rattle.esync_machine.specs.declared.primitive.Answer.TheVariants.{Pending, Gives}

@@ -1,5 +1,5 @@
--- A value that was set stays until it is taken: told of the value and the requests at first, and of the commands and their
--- answers.
+-- A value that was set stays until it is taken. This is told of the value and the requests at first, and of the
+-- commands and their answers.
 use Rattle.std.specs.Prelude.{◌≡◌, ℕ, true, List, Option, Some, None, Ok, Err}
 use Rattle.esync_machine.specs.Account.{AtEach}
 use Rattle.esync_machine.specs.Numbers.{at_number}
@@ -46,12 +46,12 @@ module _ {T : Type 0} where
   ShowsTo v Take a = a ≡ Gives (Found (Some v))
   ShowsTo v IsSet a = a ≡ Gives (WasSet true)
 
-  -- what the poll of a request is answered then, and a poll at a number at which there is none
+  -- the answer to the poll of a request while this value is there, and to a poll at a number without a request
   abbrev pub ShowsToPoll : T → Option Get → Answer (OnceHeard T) → Type 0
   ShowsToPoll v (Some ask) a = a ≡ Gives (Got v)
   ShowsToPoll v None a = a ≡ NoSuch
 
-  -- what any command is answered, where this value was set or none was
+  -- the answer to any command, if this value was set or none was
   abbrev pub Shows : {W : Type 0} → Option T → List (Option Get) → Command Get W (OnceCall T) → Answer (OnceHeard T) → Type 0
   Shows None requests c a = Unit {0}
   Shows (Some v) requests (Poll r w) a = ShowsToPoll v (at_number requests r) a
@@ -62,9 +62,9 @@ module _ {T : Type 0} where
   abbrev pub at_first : Option T → List (Option Get) → Account T
   at_first value requests = record { value = value; requests = requests }
 
-  -- of a once lock with this value and these requests at first, at each command of a run: from a successful `Init` or a `GetOrInit` on, or
-  -- from the first command on if a value is there, until a `Take`, each call and each poll of a request shows the value, and every other
-  -- poll names what isn't there
+  -- A once lock has this value and these requests at first. If a value is there, or from a successful `Init` or a
+  -- `GetOrInit` on, each call and each poll of a request shows it until a `Take`. Every other poll names what isn't
+  -- there. This holds at each command of a run.
   abbrev pub StaysSet : {W : Type 0} {K : ℕ} → Option T → List (Option Get) → List (Command Get W (OnceCall T)) → List (Reply (Answer (OnceHeard T)) W K) → Type 0
   StaysSet value requests commands replies =
       AtEach (λ k c a. after k c a.answer) (λ k c a. Shows k.value k.requests c a.answer) (at_first value requests) commands replies

@@ -1,4 +1,4 @@
--- The receivers of a watch: a table of numbers, each free, or in use by one that is counted or not and has seen some version.
+-- The receivers of a watch: a table of numbers, each free or in use by a receiver that has seen some version.
 use Rattle.std.specs.Prelude.{◌≡◌, ℕ, ◌&&◌, Bool, false, List, [], ◌∷◌, length, Option, Some, None, is_none, nat_lt, slice_set, refl}
 use Rattle.std.specs.Coded.{Coded, code_by, coded×, coded_list, coded_option, coded_bool, coded_ℕ}
 use Rattle.esync_machine.specs.Numbers.{at_number}
@@ -17,21 +17,21 @@ abbrev pub followed_code : {T W : Type 0} → Coded T → Coded W → Coded (Fol
 followed_code {T} {W} t w =
     code_by (Watching T W × List (Option Seen)) (coded× (watching_code t w) (coded_list (coded_option seen_code))) (λ s. (s.state, s.receivers)) (λ p. record { state = p.0; receivers = p.1 }) (λ _. refl)
 
--- whether the one at a number is counted
+-- whether the receiver at a number is counted
 abbrev pub is_counted : Option Seen → Bool
 is_counted None = false
 is_counted (Some s) = s.is_counted
 
--- how many are counted
+-- how many receivers are counted
 abbrev pub count : List (Option Seen) → ℕ
 count [] = 0
 count (p ∷ q) = counted (is_counted p) (count q)
 
--- so many are counted of a table of n numbers
+-- k receivers are counted of a table of n numbers
 abbrev pub IsCounted : ℕ → ℕ → List (Option Seen) → Type 0
 IsCounted n k q = (length q ≡ n) × (k ≡ count q)
 
--- the version that the one at a number has seen
+-- the version that the receiver at a number has seen
 abbrev pub version_of : Option Seen → ℕ
 version_of None = 0
 version_of (Some s) = s.version
@@ -43,7 +43,7 @@ seen_at q h = version_of (at_number q h)
 abbrev pub is_free : ℕ → List (Option Seen) → Bool
 is_free h q = nat_lt h (length q) && is_none (at_number q h)
 
--- the table once the one at a number, if there is one, has seen this version
+-- the table after the receiver at a number, if there is one, has seen this version
 abbrev pub with_seen_if : ℕ → ℕ → Option Seen → List (Option Seen) → List (Option Seen)
 with_seen_if h version None q = q
 with_seen_if h version (Some s) q = slice_set q h (Some (record s { version = version }))

@@ -1,4 +1,4 @@
--- Receivers of a table, as one comes, leaves, or has seen another version.
+-- Receivers of a table, as one is made, leaves, or has seen another version.
 use Rattle.std.proofs.Common.{◌≡◌, ℕ, zero, suc, ◌<◌, ◌≤◌, Bool, true, false, List, [], ◌∷◌, length, Option, Some, None, ◌⊎◌, inl, inr, refl, sym, ap, ◌∙◌, subst, arith}
 use Rattle.std.specs.Prelude.{slice_set, is_none, nat_lt, ◌&&◌}
 use Rattle.std.proofs.lemmas.Bool.Decides.{nat_tests}
@@ -33,13 +33,13 @@ pub nobody : (p : Option Seen) → is_none p ≡ true → p ≡ None
 nobody None e = refl
 nobody (Some s) e = absurd cc
 
--- somebody is only at a number of the table
+-- a receiver is only at a number of the table
 pub in_table : (h : ℕ) (q : List (Option Seen)) (s : Seen) → at_number q h ≡ Some s → h < length q
 in_table h [] s e = absurd cc
 in_table zero (p ∷ q) s e = omega arith
 in_table (suc h) (p ∷ q) s e = (let i = in_table h q s e in omega arith)
 
--- one that is counted makes one at least
+-- if a receiver is counted, the count is at least one
 pub one_counted : (h : ℕ) (q : List (Option Seen)) → is_counted (at_number q h) ≡ true → 1 ≤ count q
 one_counted h [] e = absurd cc
 one_counted zero (p ∷ q) e = rw (e, counted) (omega arith)
@@ -49,28 +49,28 @@ one_counted (suc h) (p ∷ q) e = at_least (is_counted p) (count q) (one_counted
     at_least true n i = omega arith
     at_least false n i = i
 
--- how many are counted, once one came to a free number
+-- how many receivers are counted after one was made at a free number
 count_joined : (h : ℕ) (q : List (Option Seen)) (s : Seen) → h < length q → at_number q h ≡ None → count (slice_set q h (Some s)) ≡ counted s.is_counted (count q)
 count_joined h [] s i e = absurd (omega arith)
 count_joined zero (None ∷ q) s i e = refl
 count_joined zero (Some x ∷ q) s i e = absurd cc
 count_joined (suc h) (p ∷ q) s i e = ap (counted (is_counted p)) (count_joined h q s (omega arith) e) ∙ swap (is_counted p) s.is_counted (count q)
 
--- the same before one left
+-- how many receivers were counted before one left
 count_left : (h : ℕ) (q : List (Option Seen)) (s : Seen) → at_number q h ≡ Some s → count q ≡ counted s.is_counted (count (slice_set q h None))
 count_left h [] s e = absurd cc
 count_left zero (None ∷ q) s e = absurd cc
 count_left zero (Some x ∷ q) s e = (let f : x ≡ s = cc in ap (λ y. counted (is_counted (Some y)) (count q)) f)
 count_left (suc h) (p ∷ q) s e = ap (counted (is_counted p)) (count_left h q s e) ∙ swap (is_counted p) s.is_counted (count (slice_set q h None))
 
--- the same of one that takes the place of another
+-- how many receivers are counted after one took the place of another
 count_set : (h : ℕ) (q : List (Option Seen)) (s t : Seen) → at_number q h ≡ Some s → t.is_counted ≡ s.is_counted → count (slice_set q h (Some t)) ≡ count q
 count_set h [] s t e f = absurd cc
 count_set zero (None ∷ q) s t e f = absurd cc
 count_set zero (Some x ∷ q) s t e f = (let g : x ≡ s = cc in ap (λ b. counted b (count q)) (f ∙ ap (λ (y : Seen). y.is_counted) (sym g)))
 count_set (suc h) (p ∷ q) s t e f = ap (counted (is_counted p)) (count_set h q s t e f)
 
--- a table in which nobody is
+-- no receiver is counted in a table of free numbers
 none_counted : (n : ℕ) → count (replicate n None) ≡ 0
 none_counted zero = refl
 none_counted (suc n) = none_counted n
@@ -78,14 +78,14 @@ none_counted (suc n) = none_counted n
 pub counts_none : (n k : ℕ) (q : List (Option Seen)) → k ≡ 0 → q ≡ replicate n None → IsCounted n k q
 counts_none n k q e f = (ap length f ∙ length-replicate n None, e ∙ sym (ap count f ∙ none_counted n))
 
--- a number at which one is counted isn't free
+-- a number with a counted receiver isn't free
 pub counted_elsewhere : (h t : ℕ) (q : List (Option Seen)) → is_free h q ≡ true → is_counted (at_number q t) ≡ true → h ≡ t → ⊥
 counted_elsewhere h t q free counted same =
     let e : at_number q t ≡ None = ap (at_number q) (sym same) ∙ nobody (at_number q h) (and_second (nat_lt h (length q)) (is_none (at_number q h)) free) in
     let f = rw e at counted in
     absurd cc
 
--- how many are counted, once one comes to a free number, leaves, or has seen another version
+-- how many receivers are counted after one is made at a free number, leaves, or has seen another version
 module _ (n k h : ℕ) (q q2 : List (Option Seen)) (is : IsCounted n k q) where
   pub free_place : is_free h q ≡ true → (h < length q) × (at_number q h ≡ None)
   free_place free = (let b : nat_lt h (length q) ≡ true = and_first (nat_lt h (length q)) (is_none (at_number q h)) free in grind (arith, nat_tests), nobody (at_number q h) (and_second (nat_lt h (length q)) (is_none (at_number q h)) free))
@@ -110,6 +110,6 @@ marked_there h v q t (Some s) e =
       | inr other ↦ inl (at_set_other q h t after other)
     ]
 
--- who is at a number stays there, but may have seen another version
+-- a receiver stays at its number, but may have seen another version
 pub at_marked : (h v : ℕ) (q : List (Option Seen)) (t : ℕ) → (at_number (with_seen h v q) t ≡ at_number q t) ⊎ ((s : Seen) × (at_number q t ≡ Some s) × (at_number (with_seen h v q) t ≡ Some (record s { version = v })))
 at_marked h v q t = marked_there h v q t (at_number q h) refl

@@ -6,7 +6,7 @@ use Rattle.esync_cells.specs.Signal.{Signaling}
 use Rattle.esync_cells.specs.SignalRules.{signal_rules}
 use Rattle.esync_cells.specs.declared.signal.machine.Wait.{Wait}
 
--- there is no value, and the waker waits for one
+-- there is no value, and the waker is registered for one
 abbrev pub OwesWait : {T W : Type 0} → (W → W → Bool) → Signaling T W → W → Type 0
 OwesWait eq s w = (s.value ≡ None) × IsAmong eq w s.waiter
 

@@ -1,4 +1,4 @@
--- What a signal allows, and which wakers it hands out: for each request and each call.
+-- What a signal allows for each request and each call, and which wakers it hands out.
 use Rattle.std.specs.Prelude.{◌≡◌, Bool, List, Option, Some, None, is_some}
 use Rattle.esync_machine.specs.declared.primitive.Answer.{Answer}
 use Rattle.esync_machine.specs.declared.primitive.Answer.TheVariants.{Done, Pending, Gives}
@@ -24,7 +24,7 @@ Calls o Signaled a o2 = (a ≡ Gives (IsSignaled (is_some o))) × (o2 ≡ o)
 abbrev pub signal_rules : (T : Type 0) → Rules Wait Wait (SignalCall T) (SignalHeard T)
 signal_rules T = asked_rules Polls Calls
 
--- a wait without a value registers, and a new value hands out who waits
+-- a wait without a value registers its waker, and a new value hands out the registered one
 module _ {T W : Type 0} (eq : W → W → Bool) where
   abbrev pub poll_hands : Option T → List W → W → Handed (List W) W
   poll_hands None waiter w = registers eq waiter w
@@ -36,7 +36,7 @@ module _ {T W : Type 0} (eq : W → W → Bool) where
   call_hands waiter TryTake = nothing waiter
   call_hands waiter Signaled = nothing waiter
 
-  -- one waker at most is registered
+  -- at most one waker is registered
   abbrev pub signal_wakings : Wakings (Option T) Wait (SignalCall T) (SignalHeard T) W
   signal_wakings = record {
     Registered = List W;

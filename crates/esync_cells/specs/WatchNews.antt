@@ -1,4 +1,4 @@
--- A change is told once: told of the requests at first, and of the commands and their answers.
+-- A change is told once. This is told of the requests at first, and of the commands and their answers.
 use Rattle.std.specs.Prelude.{◌≡◌, ℕ, ◌==◌, ◌&&◌, Bool, true, false, List, Option, Some, None, Ok, is_some, nat_eq, if◌then◌else◌}
 use Rattle.esync_machine.specs.Account.{AtEach}
 use Rattle.esync_machine.specs.Numbers.{at_number, swept}
@@ -16,7 +16,7 @@ use Rattle.esync_cells.specs.declared.watch.machine.WatchCall.TheVariants.{Leave
 use Rattle.esync_cells.specs.declared.watch.machine.WatchHeard.{WatchHeard}
 use Rattle.esync_cells.specs.declared.watch.machine.WatchHeard.TheVariants.{Sent, Modified, Found}
 
--- whether a read that found this told its receiver of the latest change: one by a test doesn't where it finds nothing
+-- whether a read that found this told its receiver of the latest change: one by a test doesn't if it finds nothing
 abbrev pub is_told : {T J : Type 0} → Reading J → Option T → Bool
 is_told Get p = true
 is_told Changed p = true
@@ -34,25 +34,25 @@ pub record Account (J : Type 0) : Type 0 where
 abbrev pub at_first : {J : Type 0} → List (Option (Await J)) → Account J
 at_first requests = record { told = false; requests = requests }
 
--- what the poll of a request of the receiver at r is answered while the one at h is told of the latest change: a request for a newer
--- version waits on
+-- The answer to the poll of a request of the receiver at r, while the receiver at h is told of the latest change: a
+-- request for a newer version waits on.
 abbrev pub WaitsOn : {T J : Type 0} → ℕ → ℕ → Reading J → Answer (WatchHeard T) → Type 0
 WaitsOn h r Changed a = r ≡ h → a ≡ Pending
 WaitsOn h r (ChangedAnd judge) a = r ≡ h → a ≡ Pending
 WaitsOn h r read a = Unit {0}
 
--- and what a poll is answered then, by the request that is there at its number, or by none
+-- what a poll is answered while the receiver at h is told, by the request that is there at its number, or by none
 abbrev pub WaitsOnFor : {T J : Type 0} → ℕ → Option (Await J) → Answer (WatchHeard T) → Type 0
 WaitsOnFor h None a = a ≡ NoSuch
 WaitsOnFor h (Some ask) a = WaitsOn h ask.receiver ask.read a
 
--- whether the receiver at h was told of the latest change, after a poll of this request, if one is there: one that shows a value tells
+-- whether the receiver at h was told of the latest change, after the poll of a request: one that shows a value tells
 abbrev pub told_by_poll : {T J : Type 0} → ℕ → Bool → Option (Await J) → Answer (WatchHeard T) → Bool
 told_by_poll h k (Some ask) (Gives heard) = if ask.receiver == h then true else k
 told_by_poll h k _ _ = k
 
 module _ {T C J : Type 0} where
-  -- and after a call and its answer
+  -- whether the receiver at h was told of the latest change, after a call and its answer
   abbrev pub told_by : ℕ → Bool → WatchCall T C J → Answer (WatchHeard T) → Bool
   told_by h k (Read r read) (Gives (Found p)) = if r == h && is_told read p then true else k
   told_by h k (Leave r) Done = if r == h then false else k
@@ -85,7 +85,7 @@ module _ {T C J : Type 0} where
   HasNoNews h (Read r (ChangedAnd judge)) a = r ≡ h → a ≡ Gives (Found None)
   HasNoNews h call a = Unit {0}
 
-  -- and what any command is answered then
+  -- what any command is answered while the receiver at h is told
   abbrev pub TellsNoMore : {W : Type 0} → ℕ → Bool → List (Option (Await J)) → Command (Await J) W (WatchCall T C J) → Answer (WatchHeard T) → Type 0
   TellsNoMore h false requests c a = Unit {0}
   TellsNoMore h true requests (Start r ask) a = Unit {0}
@@ -93,8 +93,9 @@ module _ {T C J : Type 0} where
   TellsNoMore h true requests (End r) a = Unit {0}
   TellsNoMore h true requests (Call call) a = HasNoNews h call a
 
-  -- of a watch with these requests at first, at each command of a run: from a read of the receiver at h on, or a poll that showed it a value,
-  -- until a send, its reads and its requests find no news, and a poll at a number without a request names what isn't there
+  -- A watch has these requests at first. From a read of the receiver at h on, or a poll that showed it a value, until a
+  -- send, its reads and its requests find no news. A poll at a number without a request names what isn't there. This
+  -- holds at each command.
   abbrev pub TellsOnce : {W : Type 0} {K : ℕ} → ℕ → List (Option (Await J)) → List (Command (Await J) W (WatchCall T C J)) → List (Reply (Answer (WatchHeard T)) W K) → Type 0
   TellsOnce h requests commands replies =
       AtEach (λ k c a. after h k c a.answer) (λ k c a. TellsNoMore h k.told k.requests c a.answer) (at_first requests) commands replies

@@ -1,4 +1,4 @@
--- What a watch allows, and which wakers it hands out: for each request and each call.
+-- What a watch allows for each request and each call, and which wakers it hands out.
 use Rattle.std.specs.Prelude.{◌≡◌, ℕ, ◌+◌, ◌<◌, ◌&&◌, Bool, true, false, List, Option, Some, None, Result, Ok, Err, IfErr, is_some, nat_lt, nat_eq, slice_set}
 use Rattle.std.specs.declared.alloc.AllocError.{AllocError}
 use Rattle.esync_base.specs.Registration.{IsAmong, registered, displaced}
@@ -30,7 +30,7 @@ pub record Watch (T : Type 0) : Type 0 where
 abbrev pub watch_of : {T W : Type 0} → Followed T W → Watch T
 watch_of m = record { value = m.state.value; version = m.state.version; receivers = m.receivers }
 
--- whether a read shows a value of this version to who has seen that one
+-- whether a read shows a value of one version to a receiver that has seen another
 abbrev pub shows : {T J : Type 0} → (J → T → Bool) → Option T → ℕ → ℕ → Reading J → Bool
 shows passes value version seen Get = true
 shows passes value version seen Changed = nat_lt seen version
@@ -41,18 +41,18 @@ shows passes value version seen (ChangedAnd judge) = nat_lt seen version && judg
 abbrev pub sought : {T J : Type 0} → (J → T → Bool) → Option T → ℕ → ℕ → Reading J → Option T
 sought passes value version seen read = found (shows passes value version seen read) value
 
--- whether a try of it marks the version as seen, also where it finds nothing
+-- whether a read marks the version as seen even if it finds nothing
 abbrev pub marks : {J : Type 0} → ℕ → ℕ → Reading J → Bool
 marks version seen Get = true
 marks version seen Changed = nat_lt seen version
 marks version seen (GetAnd judge) = false
 marks version seen (ChangedAnd judge) = false
 
--- the object once the receiver at a number has seen this version
+-- the object after the receiver at a number has seen this version
 abbrev pub with_read : {T : Type 0} → ℕ → ℕ → Watch T → Watch T
 with_read h version o = record o { receivers = with_seen h version o.receivers }
 
--- the object with this one at a number, or with nobody
+-- the object with this receiver at a number, or with none there
 abbrev pub with_receiver : {T : Type 0} → ℕ → Option Seen → Watch T → Watch T
 with_receiver h p o = record o { receivers = slice_set o.receivers h p }
 
@@ -72,22 +72,22 @@ leaves o (Leave h) held = nat_eq held.receiver h && is_some (at_number o.receive
 leaves o call held = false
 
 module _ {T : Type 0} where
-  -- it names what isn't there, and nothing changes
+  -- a call names what isn't there, and nothing changes
   abbrev pub Nowhere : Watch T → Answer (WatchHeard T) → Watch T → Type 0
   Nowhere o a o2 = (a ≡ NoSuch) × (o2 ≡ o)
 
-  -- a counted receiver comes, if its number is free, and if there is room for one more
+  -- a counted receiver is made, if its number is free and there is room for one more
   abbrev pub Joins : Bool → Bool → ℕ → Watch T → Answer (WatchHeard T) → Watch T → Type 0
   Joins false room h o a o2 = Nowhere o a o2
   Joins true true h o a o2 = (a ≡ Gives (Counted true)) × (o2 ≡ with_receiver h (Some (record { is_counted = true; version = 0 })) o)
   Joins true false h o a o2 = (a ≡ Gives (Counted false)) × (o2 ≡ o)
 
-  -- an anonymous one comes, if its number is free
+  -- an anonymous receiver is made, if its number is free
   abbrev pub JoinsAnon : Bool → ℕ → Watch T → Answer (WatchHeard T) → Watch T → Type 0
   JoinsAnon false h o a o2 = Nowhere o a o2
   JoinsAnon true h o a o2 = (a ≡ Done) × (o2 ≡ with_receiver h (Some (record { is_counted = false; version = 0 })) o)
 
-  -- the one at the number leaves, if there is one
+  -- the receiver at the number leaves, if there is one
   abbrev pub Leaves : Option Seen → ℕ → Watch T → Answer (WatchHeard T) → Watch T → Type 0
   Leaves None h o a o2 = Nowhere o a o2
   Leaves (Some s) h o a o2 = (a ≡ Done) × (o2 ≡ with_receiver h None o)
@@ -104,18 +104,18 @@ module _ {T : Type 0} where
   abbrev pub Modifies : Option T → Bool → Watch T → Answer (WatchHeard T) → Watch T → Type 0
   Modifies value tells o a o2 = (sent : Result (Unit {0}) (Exhausted (Unit {0}))) × (a ≡ Gives (Modified sent)) × Puts value tells sent o o2
 
-  -- a try that found this, or had no memory for a clone: then nothing changes
+  -- a read that found this, or had no memory for a clone, so that nothing changes
   abbrev pub Tried : Result (Option T) AllocError → Watch T → Watch T → Answer (WatchHeard T) → Watch T → Type 0
   Tried (Ok got) o after a o2 = (a ≡ Gives (Found got)) × (o2 ≡ after)
   Tried (Err e) o after a o2 = (a ≡ NoMemory) × (o2 ≡ o)
 
--- a try of the watch itself, which no receiver sees
+-- a read of the watch itself, for no receiver
 abbrev pub TriesGet : {T : Type 0} → (T → T → Type 0) → (T → Type 0) → Watch T → Answer (WatchHeard T) → Watch T → Type 0
 TriesGet {T} IsClone IsInfallible o a o2 = (got : Result (Option T) AllocError) × Answers IsClone IsInfallible o.value got × Tried got o o a o2
 
--- of values that are cloned so, and tests that mean this
+-- What reads and polls do, by what a clone is and what tests mean.
 module _ {T J : Type 0} (IsClone : T → T → Type 0) (IsInfallible : T → Type 0) (passes : J → T → Bool) where
-  -- a poll that found this marks the version, waits where it found nothing, and changes nothing where a clone had no memory
+  -- a poll that found this marks the version, waits if it found nothing, and changes nothing if a clone had no memory
   abbrev pub PollsAs : Result (Option T) AllocError → Watch T → Await J → Answer (WatchHeard T) → Watch T → Option (Await J) → Type 0
   PollsAs (Ok (Some value)) o h a o2 p = (a ≡ Gives (Waited value)) × (o2 ≡ with_read h.receiver o.version o) × (p ≡ None)
   PollsAs (Ok None) o h a o2 p = (a ≡ Pending) × (o2 ≡ o) × (p ≡ Some h)
@@ -124,7 +124,7 @@ module _ {T J : Type 0} (IsClone : T → T → Type 0) (IsInfallible : T → Typ
   abbrev pub Polls : Watch T → Await J → Answer (WatchHeard T) → Watch T → Option (Await J) → Type 0
   Polls o h a o2 p = (got : Result (Option T) AllocError) × Answers IsClone IsInfallible (sought passes o.value o.version (seen_at o.receivers h.receiver) h.read) got × PollsAs got o h a o2 p
 
-  -- a try of the receiver at the number, if there is one
+  -- a read for the receiver at the number, if there is one
   abbrev pub Reads : Option Seen → ℕ → Reading J → Watch T → Answer (WatchHeard T) → Watch T → Type 0
   Reads None h read o a o2 = Nowhere o a o2
   Reads (Some s) h read o a o2 =
@@ -132,7 +132,7 @@ module _ {T J : Type 0} (IsClone : T → T → Type 0) (IsInfallible : T → Typ
       × Answers IsClone IsInfallible (sought passes o.value o.version s.version read) got
       × Tried got o (with_read h (seen_after (marks o.version s.version read) o.version s.version got) o) a o2
 
--- of at most n counted receivers, and changes and tests that mean this
+-- What calls do with at most n counted receivers, by what a clone is and what changes and tests mean.
 module _ {T C J : Type 0} (n : ℕ) (IsClone : T → T → Type 0) (IsInfallible : T → Type 0) (changed : C → Option T → Option T) (tells : C → Option T → Bool) (passes : J → T → Bool) where
   abbrev pub Calls : Watch T → WatchCall T C J → Answer (WatchHeard T) → Watch T → Type 0
   Calls o (Receiver h) a o2 = Joins (is_free h o.receivers) (nat_lt (count o.receivers) n) h o a o2
@@ -160,7 +160,7 @@ module _ {T C J : Type 0} (n : ℕ) (IsClone : T → T → Type 0) (IsInfallible
     WakesItself = ⊥;
   }
 
--- what was sent hands out who waits
+-- a value that was sent hands out the registered wakers
 abbrev pub sent_hands : {A E W : Type 0} → Bool → Result A E → List W → Handed (List W) W
 sent_hands tells (Err e) waiters = nothing waiters
 sent_hands true (Ok done) waiters = hands_out waiters
@@ -171,7 +171,7 @@ answer_hands tells (Gives (Sent sent)) waiters = sent_hands tells sent waiters
 answer_hands tells (Gives (Modified sent)) waiters = sent_hands tells sent waiters
 answer_hands tells a waiters = nothing waiters
 
--- a poll that finds nothing registers in the list of at most n wakers
+-- a poll that finds nothing registers its waker in the list of at most n wakers
 abbrev pub poll_hands : {W : Type 0} → (W → W → Bool) → ℕ → List W → W → Bool → Handed (List W) W
 poll_hands eq n waiters w true = record { wakes = displaced eq n waiters w; after = registered eq n waiters w }
 poll_hands eq n waiters w false = nothing waiters
@@ -190,10 +190,10 @@ watch_wakings {W = W} eq n tells = record {
   calls = λ o waiters call p a. call_hands tells o waiters call a;
 }
 
--- who waits has a counted receiver
+-- a request is that of a counted receiver
 abbrev pub IsReceiving : {T J : Type 0} → Watch T → Await J → Type 0
 IsReceiving o h = is_counted (at_number o.receivers h.receiver) ≡ true
 
--- the read finds nothing now, and the waker waits for news
+-- the read finds nothing now, and the waker is registered for news
 abbrev pub OwesNews : {T J W : Type 0} → (J → T → Bool) → (W → W → Bool) → Watch T → List W → Await J → W → Type 0
 OwesNews passes eq o waiters h w = (sought passes o.value o.version (seen_at o.receivers h.receiver) h.read ≡ None) × IsAmong eq w waiters

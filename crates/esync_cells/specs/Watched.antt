@@ -3,43 +3,43 @@ use Rattle.std.specs.Prelude.{◌≡◌, ℕ, Bool, true, false, Option, Some, N
 use Rattle.std.specs.Coded.{Coded, code_by, coded×, coded_ℕ}
 use Rattle.esync_cells.specs.Watch.{found, Answers, seen_after}
 
--- what may be answered of a test of what is there: false where nothing is
+-- what a test of the value may answer: false if there is no value
 abbrev pub Tells : {T : Type 0} → (T → Bool → Type 0) → Option T → Bool → Type 0
 Tells Says None shows = shows ≡ false
 Tells Says (Some v) shows = Says v shows
 
--- the same where there is news, and false where there is none
+-- what a test of the value may answer if there is news, and false if there is none
 abbrev pub TellsIf : {T : Type 0} → Bool → (T → Bool → Type 0) → Option T → Bool → Type 0
 TellsIf false Says value shows = shows ≡ false
 TellsIf true Says value shows = Tells Says value shows
 
--- whether a read shows a value of this version: at any time
+-- a read shows a value of any version
 abbrev pub Always : {T : Type 0} → Option T → ℕ → Bool → Type 0
 Always value version shows = shows ≡ true
 
--- to who has seen an older one
+-- a read shows a value if its version is newer than the seen one
 abbrev pub WhereNewer : {T : Type 0} → ℕ → Option T → ℕ → Bool → Type 0
 WhereNewer seen value version shows = shows ≡ nat_lt seen version
 
--- where it passes the test
+-- a read shows a value if it passes the test
 abbrev pub WherePassing : {T : Type 0} → (T → Bool → Type 0) → Option T → ℕ → Bool → Type 0
 WherePassing Says value version shows = Tells Says value shows
 
--- where it passes the test, to who has seen an older one
+-- a read shows a value if it passes the test and its version is newer than the seen one
 abbrev pub WhereNewPassing : {T : Type 0} → (T → Bool → Type 0) → ℕ → Option T → ℕ → Bool → Type 0
 WhereNewPassing Says seen value version shows = TellsIf (nat_lt seen version) Says value shows
 
--- a read of some value and version, which may mark the version even where it finds nothing
+-- a read of some value and version, which may mark the version even if the read finds nothing
 abbrev pub ReadsSome : {T E : Type 0} → (T → T → Type 0) → (T → Type 0) → (Option T → ℕ → Bool → Type 0) → (ℕ → Bool) → ℕ → Result (Option T) E → ℕ → Type 0
 ReadsSome {T} IsClone IsInfallible Shows marks seen result after =
     (value : Option T) × (version : ℕ) × (shows : Bool)
     × Shows value version shows × Answers IsClone IsInfallible (found shows value) result × (after ≡ seen_after (marks version) version seen result)
 
--- who reads a watch: the version that it has seen
+-- a reader of a watch: the version that it has seen
 pub record Reader : Type 0 where
   pub seen : ℕ
 
--- who waits for what is sought so
+-- a reader that waits for what it seeks
 pub record Seeking (S : Type 0) : Type 0 where
   pub sought : S
   pub seen : ℕ

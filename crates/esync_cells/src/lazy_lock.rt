@@ -8,17 +8,17 @@ use std::marker::Model;
 pub mod machine;
 mod shared;
 
-/// What makes a value when it is first asked for.
+/// A maker of a value, for when the value is first asked for.
 pub trait Maker<T> {
-    /// It may make this value.
+    /// The maker may make this value.
     ghost Makes: { Self → T → Type 0 };
 
-    /// Makes a value.
+    /// Makes a value and returns it.
     fn make(&self) -> T
         ensures { Makes self.now result };
 }
 
-/// Makes a value that was given beforehand.
+/// A maker that makes a value which was given beforehand.
 #[derive(Clone, Copy, Debug, PartialEq, Eq)]
 pub struct Given<T> {
     pub value: T,
@@ -34,7 +34,7 @@ impl<T: Copy> Maker<T> for Given<T> {
     }
 }
 
-/// The state of a value that is made when it is first asked for: the value, from then on.
+/// The state of a value that is made when it is first asked for: the maker, and the value once it was made.
 #[derive(Debug, Drop)]
 pub struct LazyState<T, M> {
     data: Option<T>,
@@ -67,14 +67,14 @@ impl<T: Drop, M: Maker<T> + Drop> LazyState<T, M> {
     ghost use Rattle.esync_cells.specs.LazyLock.{Shows};
     ghost use Rattle.esync_cells.specs.contracts.lazy_lock.LazyState.{the_row};
 
-    /// No value yet. None is made before it is asked for.
+    /// Returns a lock whose value isn't made yet.
     pub fn new(maker: M) -> Self
         ensures { result ≡ record { value = None; maker = maker } }
     {
         LazyState { data: None, maker }
     }
 
-    /// Lends the value, which is made the first time.
+    /// Returns the value by reference. The first call makes it.
     pub fn get(&mut self) -> &T
         ensures* leaves { sem 𝓛 (follows_so (the_row T.row M.row) (the_row T.row M.row) self.entry.ghost_name none (λ _ _. ⊤) (λ v. v ≡ record self.old { value = Some result.now })) }
         ensures shown { Shows (M.Makes self.old.maker) self.old.value result.now }
@@ -88,7 +88,7 @@ impl<T: Drop, M: Maker<T> + Drop> LazyState<T, M> {
         value
     }
 
-    /// The value, which is made where it was not asked for before.
+    /// Returns the value. Makes it if it was not asked for before.
     pub fn into_inner(self) -> T
         ensures { Shows (M.Makes self.maker) self.value result }
     {

@@ -1,4 +1,4 @@
-//! A value that is set once, and then shown to all who ask for it.
+//! A value that is set once, and then shown to every task that asks for it.
 ghost use Rattle.std.specs.Prelude.{◌≡◌, ◌<◌, ◌++◌, None, Some, length, is_some, IfSome, IfNone, unwrap_or, ⊤};
 ghost use Rattle.std.specs.Borrow.{sem, follows_so};
 ghost use Rattle.std.specs.Option.{option_copied};
@@ -18,17 +18,17 @@ use thiserror::Error;
 pub mod machine;
 mod shared;
 
-/// Why a value was not set. It comes back.
+/// Why a value was not set. The value is in the error.
 #[derive(Clone, Copy, Debug, PartialEq, Eq, Error)]
 #[error_bound(T: Debug)]
 pub enum InitError<T> {
-    /// There is a value.
+    /// There is a value already.
     #[error("there is a value")]
     Set(T),
 }
 
 impl<T> InitError<T> {
-    /// The value that came back.
+    /// Returns the value that was not set.
     pub fn into_value(self) -> T
         ensures { InitError.Set result ≡ self }
     {
@@ -38,8 +38,8 @@ impl<T> InitError<T> {
     }
 }
 
-/// The state of a value that is set once: the value, if it was set. No waker is kept: who polls for a value that isn't there is
-/// woken at once.
+/// The state of a value that is set once: the value, if it was set. No waker is registered: a poll that finds no value
+/// hands out its own waker.
 #[derive(Debug, Drop)]
 pub struct OnceState<T, W> {
     data: Option<T>,
@@ -66,7 +66,7 @@ impl<T: Copy, W> Kept for OnceState<T, W> {
     }
 }
 
-/// Nobody: who waits for the value polls again and again.
+/// No waker is registered: a task that waits for the value polls again and again.
 impl<T, W> Registered for OnceState<T, W> {
     type Waker = W;
 
@@ -80,7 +80,7 @@ impl<T, W> Registered for OnceState<T, W> {
 }
 
 impl<T: Drop, W: Copy + Eq> OnceState<T, W> {
-    /// No value.
+    /// Returns a lock without a value.
     pub fn new() -> Self
         ensures { result ≡ None }
     {
@@ -90,7 +90,8 @@ impl<T: Drop, W: Copy + Eq> OnceState<T, W> {
         }
     }
 
-    /// Lends the value. Where there is none, the context's waker is handed out at once: whoever waits polls again and again.
+    /// Returns the value by reference. If there is none, hands out the context's waker at once and returns Pending, so
+    /// that the task polls again.
     pub fn poll_get<const K: usize>(&self, cx: &Context<W>, wakes: &mut Wakes<W, K>) -> Poll<&T>
         requires { length wakes.old < K }
         ensures answer { poll_copied result ≡ waited self.now }
@@ -105,14 +106,14 @@ impl<T: Drop, W: Copy + Eq> OnceState<T, W> {
         }
     }
 
-    /// Lends the value, if there is one.
+    /// Returns the value by reference, or `None` if there is none.
     pub fn try_get(&self) -> Option<&T>
         ensures { option_copied result ≡ self.now }
     {
         self.data.as_ref()
     }
 
-    /// Sets the value. Where there is one, it stays, and the other comes back.
+    /// Sets the value. If there is one already, it stays, and the new one is in the error.
     pub fn init(&mut self, value: T) -> Result<(), InitError<T>>
         ensures answer { result ≡ set_answer self.old value }
         ensures state { self.new ≡ Some (unwrap_or self.old value) }
@@ -124,7 +125,7 @@ impl<T: Drop, W: Copy + Eq> OnceState<T, W> {
         Ok(())
     }
 
-    /// Lends the value. Where there is none, it is first set to what the closure gives.
+    /// Returns the value by reference. If there is none, first sets it to what the closure returns.
     pub fn get_or_init<F: FnOnce() -> T + Drop>(&mut self, f: F) -> &T
         requires { IfNone self.old (F.pre f) }
         ensures* leaves { sem 𝓛 (follows_so (the_row T.row W.row) (the_row T.row W.row) self.entry.ghost_name none (λ _ _. ⊤) (λ v. v ≡ Some result.now)) }
@@ -140,7 +141,7 @@ impl<T: Drop, W: Copy + Eq> OnceState<T, W> {
         value
     }
 
-    /// The value, if it was set.
+    /// Returns the value, or `None` if it was not set.
     pub fn into_inner(self) -> Option<T>
         ensures { result ≡ self }
     {
@@ -148,7 +149,7 @@ impl<T: Drop, W: Copy + Eq> OnceState<T, W> {
         data
     }
 
-    /// Takes the value, if it was set. It can then be set again.
+    /// Takes the value and returns it, or `None` if it was not set. A value can then be set again.
     pub fn take(&mut self) -> Option<T>
         ensures answer { result ≡ self.old }
         ensures state { self.new ≡ None }
@@ -156,7 +157,7 @@ impl<T: Drop, W: Copy + Eq> OnceState<T, W> {
         self.data.take()
     }
 
-    /// The value was set.
+    /// Returns whether the value was set.
     pub fn is_set(&self) -> bool
         ensures { result ≡ is_some self.now }
     {

@@ -12,7 +12,7 @@ use std::marker::Model;
 pub mod machine;
 mod shared;
 
-/// The state of a signal: the value, if there is one, and the waker of who waits for it.
+/// The state of a signal: the value, if there is one, and a slot for the waker of the task that waits for it.
 #[derive(Debug, Drop)]
 pub struct SignalState<T, W> {
     value: Option<T>,
@@ -47,7 +47,7 @@ impl<T: Drop, W: Copy + Eq> Default for SignalState<T, W> {
     }
 }
 
-/// Who waits for a value.
+/// Place 0 is the slot of the task that waits for a value.
 impl<T, W: Copy + Eq> Registered for SignalState<T, W> {
     type Waker = W;
 
@@ -64,7 +64,7 @@ impl<T, W: Copy + Eq> Registered for SignalState<T, W> {
 }
 
 impl<T: Drop, W: Copy + Eq> SignalState<T, W> {
-    /// No value, and nobody who waits.
+    /// Returns a signal without a value and without a registered waker.
     pub fn new() -> Self
         ensures value { result.value ≡ None }
         ensures waiter { result.waiter ≡ [] }
@@ -75,7 +75,7 @@ impl<T: Drop, W: Copy + Eq> SignalState<T, W> {
         }
     }
 
-    /// Puts a value, whatever is there, and wakes who waits.
+    /// Puts a value, whatever is there, and hands out the registered waker.
     pub fn signal<const K: usize>(&mut self, value: T, wakes: &mut Wakes<W, K>)
         requires { length wakes.old < K }
         ensures state { self.new ≡ record { value = Some value; waiter = [] } }
@@ -85,14 +85,14 @@ impl<T: Drop, W: Copy + Eq> SignalState<T, W> {
         self.waiter.wake(wakes);
     }
 
-    /// Drops the value. Who waits goes on waiting.
+    /// Drops the value. The registered waker stays.
     pub fn reset(&mut self)
         ensures { self.new ≡ record self.old { value = None } }
     {
         self.value = None;
     }
 
-    /// Takes the value. Where there is none, the context's waker waits for one.
+    /// Takes the value and returns it. If there is none, registers the context's waker and returns Pending.
     pub fn poll_wait<const K: usize>(&mut self, cx: &Context<W>, wakes: &mut Wakes<W, K>) -> Poll<T>
         requires { length wakes.old < K }
         ensures answer { result ≡ waited self.old.value }
@@ -108,7 +108,7 @@ impl<T: Drop, W: Copy + Eq> SignalState<T, W> {
         }
     }
 
-    /// Takes the value, if there is one. Who waits goes on waiting.
+    /// Takes the value and returns it, or `None` if there is none. The registered waker stays.
     pub fn try_take(&mut self) -> Option<T>
         ensures answer { result ≡ self.old.value }
         ensures state { self.new ≡ record self.old { value = None } }
@@ -116,7 +116,7 @@ impl<T: Drop, W: Copy + Eq> SignalState<T, W> {
         self.value.take()
     }
 
-    /// There is a value.
+    /// Returns whether there is a value.
     pub fn signaled(&self) -> bool
         ensures { result ≡ is_some self.now.value }
     {

@@ -1,4 +1,8 @@
-//! The latest value, for several receivers: a new value overwrites the one before, and each receiver knows which version it has seen.
+//! The latest value, for several receivers. A new value overwrites the one before, and each receiver knows which
+//! version it has seen.
+//!
+//! Each call appends the wakers that it hands out to the list of wakes that it is given, and the caller wakes their
+//! tasks. A registration in a full list hands out the wakers that it displaces.
 ghost use Rattle.std.specs.Prelude.{◌≡◌, ℕ, Bool, Option, ◌+◌, ◌-◌, ◌<◌, ◌≤◌, ◌++◌, ◌&&◌, [], None, Some, true, false, length, is_some, nat_lt, OnOk, OnErr, IfErr};
 ghost use Rattle.std.specs.Fn.{FnReturnsAt};
 ghost use Rattle.esync_base.specs.Registration.{registered_if, displaced_if};
@@ -21,7 +25,7 @@ mod handles;
 pub mod machine;
 mod shared;
 
-/// Versions have run out: nothing was sent, and what was to be sent comes back. Of a change that is `()`.
+/// Versions have run out: nothing was sent. What was to be sent is in the error; for a change that is `()`.
 #[derive(Clone, Copy, Debug, PartialEq, Eq, Drop, Error)]
 #[error_bound(T: Debug)]
 #[error("the versions have run out")]
@@ -29,27 +33,27 @@ pub struct Exhausted<T>(pub T);
 
 /// A change of a watch's value, with a stated meaning.
 pub trait Change<T> {
-    /// What it makes of a value.
+    /// What the change makes of a value.
     ghost changed: { Self → Option T → Option T };
 
-    /// Whether it answers true of a value.
+    /// Whether the change answers true of a value.
     ghost tells: { Self → Option T → Bool };
 
-    /// Changes the value, and answers true where it is another one then.
+    /// Changes the value, and returns whether it is another value then.
     fn apply(&self, value: &mut Option<T>) -> bool
         ensures value { value.new ≡ changed self.now value.old }
         ensures answer { result ≡ tells self.now value.old };
 
-    /// A change tells: where it answers false, the value is as it was.
+    /// A law: if the change answers false, the value is as it was.
     ghost a_change_tells: { (c : Self) (v : Option T) → tells c v ≡ false → changed c v ≡ v };
 }
 
 /// A test of values, which judges by the value alone.
 pub trait Judge<T> {
-    /// Whether a value passes.
+    /// Whether a value passes the test.
     ghost passes: { Self → T → Bool };
 
-    /// The value passes the test.
+    /// Returns whether the value passes the test.
     fn holds(&self, value: &T) -> bool
         ensures { result ≡ passes self.now value.now };
 }
@@ -57,10 +61,11 @@ pub trait Judge<T> {
 /// The state of a watch with room for `N` counted receivers, and for the wakers of as many tasks.
 pub type WatchState<T, W, const N: usize> = WatchOver<T, Wakes<W, N>>;
 
-/// The state of a watch: the latest value, if there is one, its version, how many receivers are counted, and the wakers of the
-/// tasks that wait for news. As many receivers can be counted as the list of wakers has room for.
+/// The state of a watch: the latest value, if there is one, its version, how many receivers are counted, and the wakers
+/// of the tasks that wait for news. As many receivers can be counted as the list of wakers has room for.
 ///
-/// The version that a receiver has seen stands with the receiver, and is lent to each read.
+/// The version that a receiver has seen stands with the receiver, and is lent to each read. A caller that keeps no
+/// version lends one that it drops.
 #[derive(Debug, Drop)]
 pub struct WatchOver<T, L: WakerList> {
     value: Option<T>,
@@ -93,7 +98,7 @@ impl<T: Copy, L: WakerList> Kept for WatchOver<T, L> {
     }
 }
 
-/// Who waits for a newer value.
+/// Place 0 is the list of the tasks that wait for a newer value.
 impl<T, L: WakerList> Registered for WatchOver<T, L> {
     type Waker = L::Waker;
 
@@ -110,14 +115,14 @@ impl<T, L: WakerList> Registered for WatchOver<T, L> {
 }
 
 impl<T: Drop, L: WakerList> WatchOver<T, L> {
-    /// No value, at version 0.
+    /// Returns a watch without a value, at version 0.
     pub fn new() -> Self
         ensures { result ≡ fresh None 0 }
     {
         WatchOver::new_at(0)
     }
 
-    /// This value, at version 0: nobody has news of it.
+    /// Returns a watch with the value at version 0, which is news to no receiver.
     pub fn new_with(value: T) -> Self
         ensures { result ≡ fresh (Some value) 0 }
     {
@@ -129,7 +134,7 @@ impl<T: Drop, L: WakerList> WatchOver<T, L> {
         }
     }
 
-    /// No value, at this version.
+    /// Returns a watch without a value, at the version.
     pub fn new_at(version: u64) -> Self
         ensures { result ≡ fresh None version }
     {
@@ -141,18 +146,18 @@ impl<T: Drop, L: WakerList> WatchOver<T, L> {
         }
     }
 
-    /// Drops the value. The version stays, and who waits goes on waiting.
+    /// Drops the value. The version and the registered wakers stay.
     pub fn clear(&mut self)
         ensures { self.new ≡ record self.old { value = None } }
     {
         self.value = None;
     }
 
-    /// Puts a value, whatever is there, under the next version, and wakes who waits.
+    /// Puts a value under the next version, whatever is there, and hands out the registered wakers.
     ///
     /// # Errors
     ///
-    /// The value comes back where the version is `u64::MAX`, and nothing is changed.
+    /// If the version is `u64::MAX`, nothing changes, and the value is in the error.
     pub fn send<const K: usize>(
         &mut self,
         value: T,
@@ -174,12 +179,12 @@ impl<T: Drop, L: WakerList> WatchOver<T, L> {
         Ok(())
     }
 
-    /// Changes the value, under the next version, and wakes who waits, whether or not the change answers that there is another
-    /// value.
+    /// Changes the value, puts it under the next version, and hands out the registered wakers, whatever the change
+    /// answers.
     ///
     /// # Errors
     ///
-    /// Where the version is `u64::MAX` the change isn't called, and nothing is changed.
+    /// If the version is `u64::MAX`, the change isn't called, and nothing changes.
     pub fn send_modify<C: Change<T>, const K: usize>(
         &mut self,
         change: &C,
@@ -200,12 +205,12 @@ impl<T: Drop, L: WakerList> WatchOver<T, L> {
         Ok(())
     }
 
-    /// Changes the value. Where the change answers that there is another value, it stands under the next version, and who waits is
-    /// woken.
+    /// Changes the value. If the change answers true, puts it under the next version, and hands out the registered
+    /// wakers.
     ///
     /// # Errors
     ///
-    /// Where the version is `u64::MAX` the change isn't called, and nothing is changed.
+    /// If the version is `u64::MAX`, the change isn't called, and nothing changes.
     pub fn send_if_modified<C: Change<T>, const K: usize>(
         &mut self,
         change: &C,
@@ -227,7 +232,7 @@ impl<T: Drop, L: WakerList> WatchOver<T, L> {
         Ok(())
     }
 
-    // Wakes who waits for news, which stand under the next version.
+    // Hands out the wakers of the tasks that wait for news, which stand under the next version.
     fn tell<const K: usize>(&mut self, wakes: &mut Wakes<L::Waker, K>)
         requires more { self.old.version < last_version }
         requires room { length wakes.old + L.room ≤ K }
@@ -239,21 +244,21 @@ impl<T: Drop, L: WakerList> WatchOver<T, L> {
         self.waiters.wake(wakes);
     }
 
-    /// There is a value.
+    /// Returns whether there is a value.
     pub fn contains_value(&self) -> bool
         ensures { result ≡ is_some self.now.value }
     {
         self.value.is_some()
     }
 
-    /// The version of the latest value: the first version, and one more for each that was sent.
+    /// Returns the version of the latest value: the first version, and one more for each value that was sent.
     pub fn get_msg_id(&self) -> u64
         ensures { result ≡ self.now.version }
     {
         self.version
     }
 
-    /// How many receivers are counted.
+    /// Returns how many receivers are counted.
     pub fn receivers(&self) -> usize
         ensures value { result ≡ self.now.receivers }
         ensures within { result ≤ L.room }
@@ -261,7 +266,8 @@ impl<T: Drop, L: WakerList> WatchOver<T, L> {
         self.receivers
     }
 
-    /// Counts one more receiver, which has seen version 0, and answers true, or answers false where as many are counted as there is room for.
+    /// Counts one more receiver, which has seen version 0, and returns true. Returns false if as many are counted as
+    /// there is room for.
     pub fn add_receiver(&mut self) -> bool
         ensures answer { result ≡ nat_lt self.old.receivers L.room }
         ensures state { self.new ≡ record self.old { receivers = counted result self.old.receivers } }
@@ -273,7 +279,7 @@ impl<T: Drop, L: WakerList> WatchOver<T, L> {
         has_room
     }
 
-    /// Counts one receiver less. There has to be one, as `receivers` tells.
+    /// Counts one receiver less. At least one has to be counted, as `receivers` tells.
     pub fn drop_receiver(&mut self)
         requires { 1 ≤ self.old.receivers }
         ensures { self.new ≡ record self.old { receivers = self.old.receivers - 1 } }
@@ -281,7 +287,7 @@ impl<T: Drop, L: WakerList> WatchOver<T, L> {
         self.receivers -= 1;
     }
 
-    // Counts one receiver less, where there is one.
+    // Counts one receiver less, if one is counted.
     fn drop_receiver_if_any(&mut self)
         ensures { self.new ≡ record self.old { receivers = self.old.receivers - 1 } }
     {
@@ -292,12 +298,11 @@ impl<T: Drop, L: WakerList> WatchOver<T, L> {
 }
 
 impl<T: Clone, L: WakerList> WatchOver<T, L> {
-    /// A clone of the value, if there is one. The version is marked as seen, also where there is none. Who keeps no version lends one
-    /// that it drops.
+    /// Reads the value and returns a clone of it, or `None` if there is none. Marks the version as seen in both cases.
     ///
     /// # Errors
     ///
-    /// Where a clone has no memory the seen version stays.
+    /// If a clone has no memory, the seen version stays.
     pub fn try_get(&self, seen: &mut u64) -> Result<Option<T>, AllocError>
         ensures answer { Answers T.is_clone T.is_infallible self.now.value result }
         ensures seen { seen.new ≡ seen_after true self.now.version seen.old result }
@@ -305,11 +310,12 @@ impl<T: Clone, L: WakerList> WatchOver<T, L> {
         self.read(true, true, seen)
     }
 
-    /// A clone of the value, if there is one that passes the test. Its version is marked as seen.
+    /// Reads the value and returns a clone of it if it passes the test. Marks its version as seen. Returns `None` if
+    /// there is no such value, and the seen version stays.
     ///
     /// # Errors
     ///
-    /// Where a clone has no memory the seen version stays.
+    /// If a clone has no memory, the seen version stays.
     pub fn try_get_and<J: Judge<T>>(
         &self,
         judge: &J,
@@ -321,12 +327,12 @@ impl<T: Clone, L: WakerList> WatchOver<T, L> {
         self.read(self.judged(judge), false, seen)
     }
 
-    /// A clone of the value, if there is one and its version is newer than the one that was seen. A newer version is marked as seen,
-    /// also where there is no value.
+    /// Reads the value if its version is newer than the seen one, and returns a clone of it. Marks a newer version as
+    /// seen, even if there is no value. Returns `None` if there is no newer value.
     ///
     /// # Errors
     ///
-    /// Where a clone has no memory the seen version stays.
+    /// If a clone has no memory, the seen version stays.
     pub fn try_changed(&self, seen: &mut u64) -> Result<Option<T>, AllocError>
         ensures answer { Answers T.is_clone T.is_infallible (found (nat_lt seen.old self.now.version) self.now.value) result }
         ensures seen { seen.new ≡ seen_after (nat_lt seen.old self.now.version) self.now.version seen.old result }
@@ -335,12 +341,12 @@ impl<T: Clone, L: WakerList> WatchOver<T, L> {
         self.read(is_newer, is_newer, seen)
     }
 
-    /// A clone of the value, if there is one that passes the test and its version is newer than the one that was seen. Its version is
-    /// marked as seen.
+    /// Reads the value if its version is newer than the seen one, and returns a clone of it if it passes the test.
+    /// Marks its version as seen. Returns `None` if there is no such value, and the seen version stays.
     ///
     /// # Errors
     ///
-    /// Where a clone has no memory the seen version stays.
+    /// If a clone has no memory, the seen version stays.
     pub fn try_changed_and<J: Judge<T>>(
         &self,
         judge: &J,
@@ -352,11 +358,12 @@ impl<T: Clone, L: WakerList> WatchOver<T, L> {
         self.read(self.judged_newer(judge, *seen), false, seen)
     }
 
-    /// A clone of the value, whose version is marked as seen. Where there is none, the context's waker waits for one.
+    /// Polls for the value: returns a clone of it, and marks its version as seen. If there is none, registers the
+    /// context's waker and returns Pending.
     ///
     /// # Errors
     ///
-    /// Where a clone has no memory the seen version stays, and nobody is registered.
+    /// If a clone has no memory, the seen version stays, and no waker is registered.
     pub fn poll_get<const K: usize>(
         &mut self,
         seen: &mut u64,
@@ -374,12 +381,12 @@ impl<T: Clone, L: WakerList> WatchOver<T, L> {
         self.poll(true, seen, cx, wakes)
     }
 
-    /// A clone of the value that passes the test, whose version is marked as seen. Where there is none, the context's waker waits for
-    /// one.
+    /// Polls for a value that passes the test: returns a clone of it, and marks its version as seen. If there is none,
+    /// registers the context's waker and returns Pending.
     ///
     /// # Errors
     ///
-    /// Where a clone has no memory the seen version stays, and nobody is registered.
+    /// If a clone has no memory, the seen version stays, and no waker is registered.
     pub fn poll_get_and<J: Judge<T>, const K: usize>(
         &mut self,
         judge: &J,
@@ -398,12 +405,12 @@ impl<T: Clone, L: WakerList> WatchOver<T, L> {
         self.poll(self.judged(judge), seen, cx, wakes)
     }
 
-    /// A clone of the value, if its version is newer than the one that was seen, and marks it. Elsewhere the context's waker waits for
-    /// one.
+    /// Polls for a value whose version is newer than the seen one: returns a clone of it, and marks its version as
+    /// seen. If there is none, registers the context's waker and returns Pending.
     ///
     /// # Errors
     ///
-    /// Where a clone has no memory the seen version stays, and nobody is registered.
+    /// If a clone has no memory, the seen version stays, and no waker is registered.
     pub fn poll_changed<const K: usize>(
         &mut self,
         seen: &mut u64,
@@ -421,12 +428,12 @@ impl<T: Clone, L: WakerList> WatchOver<T, L> {
         self.poll(self.is_newer(*seen), seen, cx, wakes)
     }
 
-    /// A clone of the value, if it passes the test and its version is newer than the one that was seen, and marks it. Elsewhere the
-    /// context's waker waits for one.
+    /// Polls for a value that passes the test and whose version is newer than the seen one: returns a clone of it, and
+    /// marks its version as seen. If there is none, registers the context's waker and returns Pending.
     ///
     /// # Errors
     ///
-    /// Where a clone has no memory the seen version stays, and nobody is registered.
+    /// If a clone has no memory, the seen version stays, and no waker is registered.
     pub fn poll_changed_and<J: Judge<T>, const K: usize>(
         &mut self,
         judge: &J,
@@ -470,7 +477,7 @@ impl<T: Clone, L: WakerList> WatchOver<T, L> {
         }
     }
 
-    // A read of the value, if it is to be shown. It may mark the version as seen even where it finds nothing.
+    // A read of the value, if it is to be shown. It may mark the version as seen even if it finds nothing.
     fn read(&self, shows: bool, marks: bool, seen: &mut u64) -> Result<Option<T>, AllocError>
         ensures answer { Answers T.is_clone T.is_infallible (found shows self.now.value) result }
         ensures seen { seen.new ≡ seen_after marks self.now.version seen.old result }
@@ -498,14 +505,14 @@ impl<T: Clone, L: WakerList> WatchOver<T, L> {
         }
     }
 
-    // The version is newer than the one that was seen.
+    // Whether the version is newer than the seen one.
     fn is_newer(&self, seen: u64) -> bool
         ensures { result ≡ nat_lt seen self.now.version }
     {
         seen < self.version
     }
 
-    // There is a value that passes the test.
+    // Whether there is a value that passes the test.
     fn judged<J: Judge<T>>(&self, judge: &J) -> bool
         ensures { result ≡ judged (J.passes judge.now) self.now.value }
     {
@@ -515,14 +522,14 @@ impl<T: Clone, L: WakerList> WatchOver<T, L> {
         }
     }
 
-    // There is a value that passes the test, and its version is newer than the one that was seen.
+    // Whether there is a value that passes the test and whose version is newer than the seen one.
     fn judged_newer<J: Judge<T>>(&self, judge: &J, seen: u64) -> bool
         ensures { result ≡ (nat_lt seen self.now.version && judged (J.passes judge.now) self.now.value) }
     {
         self.is_newer(seen) && self.judged(judge)
     }
 
-    // There is a value that passes the closure.
+    // Whether there is a value that passes the closure.
     fn passes<F: Fn(&T) -> bool>(&self, test: &F) -> bool
         requires { F.IsAlwaysCallable test.now }
         ensures { Tells (FnReturnsAt F.Fn test.now) self.now.value result }
@@ -533,7 +540,7 @@ impl<T: Clone, L: WakerList> WatchOver<T, L> {
         }
     }
 
-    // There is a value that passes the closure, and its version is newer than the one that was seen.
+    // Whether there is a value that passes the closure and whose version is newer than the seen one.
     fn passes_newer<F: Fn(&T) -> bool>(&self, test: &F, seen: u64) -> bool
         requires { F.IsAlwaysCallable test.now }
         ensures { TellsIf (nat_lt seen self.now.version) (FnReturnsAt F.Fn test.now) self.now.value result }

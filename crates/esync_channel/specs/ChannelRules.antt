@@ -64,14 +64,14 @@ module _ {T : Type 0} (k : Keeping T) where
   channel_rules = asked_rules Polls Calls
 
 module _ {T W : Type 0} (eq : W → W → Bool) (k : Keeping T) where
-  -- by a send, with a waker or without
+  -- the wakes of a send, with a waker or without
   abbrev pub send_hands : List T → Option W → Slots W → Handed (Slots W) W
   send_hands held w s = record { wakes = wakes_of_send eq w (has_room k held) s; after = slots_after_send eq w (has_room k held) s }
 
   abbrev pub receive_hands : List T → Option W → Slots W → Handed (Slots W) W
   receive_hands held w s = record { wakes = wakes_of_receive eq k.capacity (length held) w (has_message k held) s; after = slots_after_receive eq k.capacity (length held) w (has_message k held) s }
 
-  -- who asks whether it is ready registers, whatever the answer
+  -- a poll that asks whether the channel is ready registers its waker, whatever the answer
   abbrev pub poll_hands : List T → Slots W → ChannelAsk T → W → Handed (Slots W) W
   poll_hands held s (Send message) w = send_hands held (Some w) s
   poll_hands held s Receive w = receive_hands held (Some w) s
@@ -85,7 +85,7 @@ module _ {T W : Type 0} (eq : W → W → Bool) (k : Keeping T) where
   call_hands held s Len = nothing s
   call_hands held s FreeCapacity = nothing s
 
-  -- one waker at most is registered in each slot
+  -- at most one waker is registered in each slot
   abbrev pub channel_wakings : Wakings (List T) (ChannelAsk T) (ChannelCall T) (ChannelHeard T) W
   channel_wakings = record {
     Registered = Slots W;

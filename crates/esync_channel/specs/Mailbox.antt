@@ -1,12 +1,12 @@
--- The messages of a channel, and who waits.
+-- The messages of a channel, and the registered wakers.
 use Rattle.std.specs.Prelude.{List, refl}
 use Rattle.std.specs.Coded.{Coded, code_by, coded×, coded_list}
 
--- who waits: at most one waker in each
+-- the registered wakers, at most one in each slot
 pub record Slots (W : Type 0) : Type 0 where
-  -- for a message
+  -- the waker of a task that waits for a message
   pub receivers : List W
-  -- for room
+  -- the waker of a task that waits for room
   pub senders : List W
 
 pub record Mailbox (S W : Type 0) : Type 0 where

@@ -1,4 +1,4 @@
--- What was sent comes out, in order: told of the commands and their answers alone.
+-- What was sent comes out in order. This is told of the commands and their answers alone.
 use Rattle.std.specs.Prelude.{◌≡◌, ℕ, List, [], ◌∷◌, ◌++◌, Option, Some, None, Ok}
 use Rattle.esync_machine.specs.Account.{account, ask_of, asked_from, asked_after}
 use Rattle.esync_machine.specs.declared.run.Reply.{Reply}
@@ -37,7 +37,7 @@ module _ {T : Type 0} where
   accepted_after k (Call (TrySend message)) (Gives (TrySent (Ok done))) = k.accepted ++ message ∷ []
   accepted_after k _ _ = k.accepted
 
-  -- and those that were taken: a clear takes all that was sent before it
+  -- the messages that were taken, after a command and its answer: a clear takes all that was sent before it
   abbrev pub taken_after : {W : Type 0} → Account T → Command (ChannelAsk T) W (ChannelCall T) → Answer (ChannelHeard T) → List T
   taken_after k (Poll r w) (Gives (Received message)) = k.taken ++ message ∷ []
   taken_after k (Call TryReceive) (Gives (TryReceived (Ok message))) = k.taken ++ message ∷ []
@@ -51,8 +51,8 @@ module _ {T : Type 0} where
   abbrev pub at_first : List (Option (ChannelAsk T)) → List T → Account T
   at_first requests held = record { asked = asked_from 0 requests; accepted = held; taken = [] }
 
-  -- of a channel with these requests that holds these messages at first, and those at last: the messages that were taken, and
-  -- then those that are held, are those held at first and those that were sent since, in order
+  -- A channel with these requests holds these messages at first, and those at last. The messages that were taken, and
+  -- then those held at last, are those held at first and those that were sent since, in order.
   abbrev pub InOrder : {W : Type 0} {K : ℕ} → List (Option (ChannelAsk T)) → List T → List (Command (ChannelAsk T) W (ChannelCall T)) → List (Reply (Answer (ChannelHeard T)) W K) → List T → Type 0
   InOrder requests held commands replies held2 =
       let k = account (λ k c a. after k c a.answer) (at_first requests held) commands replies in

@@ -1,4 +1,4 @@
--- What each step of a channel keeps of its account, however it keeps its messages.
+-- What each step of a channel keeps of its account, whatever the way that the channel keeps its messages.
 use Rattle.std.proofs.Common.{◌≡◌, ℕ, Bool, true, false, List, [], ◌∷◌, ◌++◌, Option, Some, refl, sym, ◌∙◌, subst}
 use Rattle.std.specs.Prelude.{Result, Ok, Err, IfSome}
 use Rattle.esync_base.specs.Keeping.{Keeping}
@@ -20,7 +20,7 @@ use Rattle.esync_channel.specs.declared.channel.machine.ChannelHeard.TheVariants
 use Rattle.esync_channel.specs.ChannelRules.{channel_rules, Waits, Polls, PollsSend, PollsReceive, PollsReady, Calls, has_room, has_message}
 use Rattle.esync_channel.specs.Order.{Account, sent_by, after}
 
--- the account has what the request is for
+-- the account says what the request is for
 abbrev pub IsKnown : {T : Type 0} → Account T → ℕ → ChannelAsk T → Type 0
 IsKnown k r ask = ask_of k.asked r ≡ Some ask
 
@@ -47,7 +47,7 @@ module _ {T : Type 0} (W : Type 0) (keeping : Keeping T) (Holds : List T → Lis
   same_held : (held held2 : List T) (k : Account T) → held2 ≡ held → HoldsOf held k → HoldsOf held2 k
   same_held held held2 k e holds = subst (λ l. HoldsOf l k) (sym e) holds
 
-  -- what a poll keeps
+  -- what a poll keeps of the account
   abbrev Polled : Account T → ℕ → W → Answer (ChannelHeard T) → List T → Option (ChannelAsk T) → Type 0
   Polled k r w a held2 p =
       let k2 = after {W = W} k (Poll r w) a in

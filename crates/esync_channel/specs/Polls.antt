@@ -1,4 +1,4 @@
--- What a poll of a mailbox answers, and what it leaves there.
+-- What a poll of a mailbox answers, and what it leaves of its request.
 use Rattle.std.specs.Prelude.{◌≡◌, ◌<◌, ◌≤◌, Bool, true, false, List, [], length, Option, Some, None}
 use Rattle.esync_base.specs.Keeping.{Keeping}
 use Rattle.esync_base.specs.declared.waitqueue.Poll.{Poll}
@@ -13,7 +13,7 @@ module _ {T : Type 0} (k : Keeping T) where
   ReceivesPoll held (Ready message) held2 = k.Takes held message held2
   ReceivesPoll held Pending held2 = (held ≡ []) × (held2 ≡ [])
 
-  -- the message of the request, and what is left of it
+  -- a poll to send: the messages before it, the message of the request, the messages after it, and what is left to send
   abbrev pub SendsPoll : List T → T → Poll (Unit {0}) → List T → Option T → Type 0
   SendsPoll held message (Ready done) held2 rest = (length held < k.capacity) × k.Puts held message held2 × (rest ≡ None)
   SendsPoll held message Pending held2 rest = (k.capacity ≤ length held) × (held2 ≡ held) × (rest ≡ Some message)

@@ -1,4 +1,4 @@
--- What a run of a channel tells of its sizes, however it keeps its messages.
+-- What a run of a channel tells of its sizes, whatever the way that the channel keeps its messages.
 use Rattle.std.proofs.Common.{◌≡◌, ℕ, ◌+◌, Bool, List, length, sym, subst, arith}
 use Rattle.std.proofs.lemmas.List.{length_push}
 use Rattle.esync_base.specs.Keeping.{Keeping}

@@ -1,7 +1,9 @@
-//! A queue for sending values between tasks: several may send, several may receive, and each message goes to one of them.
+//! A queue for sending values between tasks: several may send, several may receive, and each message goes to one of
+//! them.
 //!
-//! The state form takes `&mut self`, holds no lock and waits for nobody. What a call hands out, it appends to the list of
-//! wakes that it is given; who gets the list wakes them.
+//! The state form takes `&mut self`, holds no lock and never waits. Each call appends the wakers that it hands out to
+//! the list of wakes that it is given, and the caller wakes their tasks. A registration hands out the waker that it
+//! displaces.
 ghost use Rattle.std.specs.Prelude.{◌≡◌, ℕ, ◌<◌, ◌≤◌, ◌+◌, ◌++◌, [], Some, None, length, ◌↔◌, IsTrue, IsSome, IfSome, is_ok, is_none};
 ghost use Rattle.std.specs.Option.{option_copied};
 ghost use Rattle.esync_base.specs.Registration.{registered, displaced};
@@ -26,15 +28,15 @@ mod handles;
 pub mod machine;
 mod shared;
 
-/// Why a message was not received.
+/// Why no message was received.
 #[derive(Clone, Copy, Debug, PartialEq, Eq, Error)]
 pub enum TryReceiveError {
-    /// No message is held.
+    /// No message is in the channel.
     #[error("the channel is empty")]
     Empty,
 }
 
-/// Why a message was not sent. It comes back.
+/// Why a message was not sent. The message is in the error.
 #[derive(Clone, Copy, Debug, PartialEq, Eq, Error)]
 #[error_bound(T: Debug)]
 pub enum TrySendError<T> {
@@ -44,7 +46,7 @@ pub enum TrySendError<T> {
 }
 
 impl<T> TrySendError<T> {
-    /// The message that came back.
+    /// Returns the message that was not sent.
     pub fn into_message(self) -> T
         ensures { TrySendError.Full result ≡ self }
     {
@@ -57,7 +59,8 @@ impl<T> TrySendError<T> {
 /// The state of a channel of at most `N` messages, oldest first.
 pub type ChannelState<T, W, const N: usize> = Mailbox<Deque<T, N>, W>;
 
-/// The state of a channel: its messages, and a waker each of who waits for a message and of who waits for room.
+/// The state of a channel: its messages, a slot for the waker of a task that waits for a message, and a slot for that
+/// of a task that waits for room.
 #[derive(Debug, Drop)]
 pub struct Mailbox<S, W> {
     receiver_waker: WakerRegistration<W>,
@@ -85,7 +88,7 @@ impl<S, W> Model for Mailbox<S, W> {
     ghost view = { λ a. record { store = a.queue; slots = record { receivers = a.receiver_waker; senders = a.senders_waker } } };
 }
 
-/// Who waits for a message, and who waits for room.
+/// Place 0 is the receivers' slot, for a message. Place 1 is the senders' slot, for room.
 impl<S, W: Copy + Eq> Registered for Mailbox<S, W> {
     type Waker = W;
 
@@ -103,7 +106,7 @@ impl<S, W: Copy + Eq> Registered for Mailbox<S, W> {
 }
 
 impl<S: Store, W: Copy + Eq> Mailbox<S, W> {
-    /// No message, and nobody who waits.
+    /// Returns an empty channel without a registered waker.
     pub fn new() -> Self
         ensures held { S.held result.store ≡ [] }
         ensures receivers { result.slots.receivers ≡ [] }
@@ -143,7 +146,8 @@ impl<S: Store, W: Copy + Eq> Mailbox<S, W> {
         }
     }
 
-    /// Takes the message that is first.
+    /// Takes the first message and returns it. If the channel was full, hands out the senders' waker. An error means
+    /// that the channel is empty.
     pub fn try_receive<const K: usize>(
         &mut self,
         wakes: &mut Wakes<W, K>,
@@ -156,7 +160,8 @@ impl<S: Store, W: Copy + Eq> Mailbox<S, W> {
         self.receive(None, wakes)
     }
 
-    /// Takes the message that is first. Where there is none, the context's waker waits for one.
+    /// Takes the first message and returns it. If the channel was full, hands out the senders' waker. If it is empty,
+    /// returns an error, and registers the waker of the context, if there is one, in the receivers' slot.
     pub fn try_receive_with_context<const K: usize>(
         &mut self,
         cx: Option<&Context<W>>,
@@ -174,7 +179,8 @@ impl<S: Store, W: Copy + Eq> Mailbox<S, W> {
         self.receive(waker, wakes)
     }
 
-    /// Takes the message that is first. Where there is none, the context's waker waits for one.
+    /// Takes the first message and returns it. If the channel was full, hands out the senders' waker. If it is empty,
+    /// registers the context's waker in the receivers' slot and returns Pending.
     pub fn poll_receive<const K: usize>(
         &mut self,
         cx: &Context<W>,
@@ -191,7 +197,8 @@ impl<S: Store, W: Copy + Eq> Mailbox<S, W> {
         }
     }
 
-    /// Whether there is a message. Registers the context's waker, whatever the answer, for the next message.
+    /// Polls for a message: Ready if the channel isn't empty. Registers the context's waker in the receivers' slot,
+    /// whatever the answer.
     pub fn poll_ready_to_receive<const K: usize>(
         &mut self,
         cx: &Context<W>,
@@ -236,7 +243,8 @@ impl<S: Store, W: Copy + Eq> Mailbox<S, W> {
         }
     }
 
-    /// Puts a message in where there is room.
+    /// Sends a message, and hands out the receivers' waker. If the channel is full, returns the message in the error,
+    /// and nothing changes.
     pub fn try_send<const K: usize>(
         &mut self,
         message: S::Message,
@@ -250,7 +258,8 @@ impl<S: Store, W: Copy + Eq> Mailbox<S, W> {
         self.send(message, None, wakes)
     }
 
-    /// Puts a message in where there is room. Where there is none, the context's waker waits for it.
+    /// Sends a message, and hands out the receivers' waker. If the channel is full, returns the message in the error,
+    /// and registers the waker of the context, if there is one, in the senders' slot.
     pub fn try_send_with_context<const K: usize>(
         &mut self,
         message: S::Message,
@@ -269,7 +278,8 @@ impl<S: Store, W: Copy + Eq> Mailbox<S, W> {
         self.send(message, waker, wakes)
     }
 
-    /// Whether there is room. Registers the context's waker, whatever the answer, for the next time that there is.
+    /// Polls for room: Ready if the channel isn't full. Registers the context's waker in the senders' slot, whatever
+    /// the answer.
     pub fn poll_ready_to_send<const K: usize>(
         &mut self,
         cx: &Context<W>,
@@ -289,7 +299,7 @@ impl<S: Store, W: Copy + Eq> Mailbox<S, W> {
         }
     }
 
-    /// Drops all messages, and wakes who waits for room.
+    /// Drops all messages, and hands out the senders' waker.
     pub fn clear<const K: usize>(&mut self, wakes: &mut Wakes<W, K>)
         requires { length wakes.old < K }
         ensures messages { S.held self.new.store ≡ [] }
@@ -300,7 +310,7 @@ impl<S: Store, W: Copy + Eq> Mailbox<S, W> {
         self.senders_waker.wake(wakes);
     }
 
-    /// How many messages are held.
+    /// Returns how many messages are in the channel.
     pub fn len(&self) -> usize
         ensures value { result ≡ length (S.held self.now.store) }
         ensures within { result ≤ S.keeping.capacity }
@@ -308,28 +318,28 @@ impl<S: Store, W: Copy + Eq> Mailbox<S, W> {
         self.queue.len()
     }
 
-    /// No message is held.
+    /// Returns whether the channel is empty.
     pub fn is_empty(&self) -> bool
         ensures { IsTrue result ↔ (length (S.held self.now.store) ≡ 0) }
     {
         self.queue.len() == 0
     }
 
-    /// As many messages are held as there is room for.
+    /// Returns whether the channel is full.
     pub fn is_full(&self) -> bool
         ensures { IsTrue result ↔ (length (S.held self.now.store) ≡ S.keeping.capacity) }
     {
         self.queue.len() == S::capacity()
     }
 
-    /// How many messages can be held.
+    /// Returns how many messages the channel has room for in all.
     pub fn capacity(&self) -> usize
         ensures { result ≡ S.keeping.capacity }
     {
         S::capacity()
     }
 
-    /// How many messages there is room for.
+    /// Returns how many more messages the channel has room for.
     pub fn free_capacity(&self) -> usize
         ensures { result + length (S.held self.now.store) ≡ S.keeping.capacity }
     {
@@ -337,7 +347,7 @@ impl<S: Store, W: Copy + Eq> Mailbox<S, W> {
     }
 }
 
-/// A message that waits to be sent.
+/// A request to send a message, which is there until it is sent.
 #[derive(Debug, Drop)]
 pub struct SendRequest<T> {
     message: Option<T>,
@@ -355,7 +365,7 @@ impl<T> Model for SendRequest<T> {
 }
 
 impl<T: Drop> SendRequest<T> {
-    /// This message, which is still to be sent.
+    /// Returns a request whose message is still to be sent.
     pub fn new(message: T) -> Self
         ensures { result ≡ Some message }
     {
@@ -364,16 +374,15 @@ impl<T: Drop> SendRequest<T> {
         }
     }
 
-    /// The message was sent.
+    /// Returns whether the message was sent.
     pub fn is_finished(&self) -> bool
         ensures { result ≡ is_none self.now }
     {
         self.message.is_none()
     }
 
-    /// Sends the message where there is room. Where there is none, the context's waker waits for it.
-    ///
-    /// A request that is finished is not polled.
+    /// Sends the message, and hands out the receivers' waker. If the channel is full, registers the context's waker in
+    /// the senders' slot and returns Pending. A finished request may not be polled.
     pub fn poll_state<S: Store<Message = T>, W: Copy + Eq, const K: usize>(
         &mut self,
         state: &mut Mailbox<S, W>,

@@ -5,7 +5,7 @@ use Rattle.std.specs.List.{count_by}
 use Rattle.esync_base.specs.Ring.{next}
 use Rattle.esync_log.specs.Log.{is_above}
 
--- messages, oldest first, and the count beside each
+-- messages, oldest first, and the count of each
 pub record Held (T : Type 0) : Type 0 where
   pub messages : List T
   pub counts : List ℕ
@@ -13,7 +13,7 @@ pub record Held (T : Type 0) : Type 0 where
 abbrev pub held_code : {T : Type 0} → Coded T → Coded (Held T)
 held_code {T} t = code_by (List T × List ℕ) (coded× (coded_list t) (coded_list coded_ℕ)) (λ h. (h.messages, h.counts)) (λ p. record { messages = p.0; counts = p.1 }) (λ _. refl)
 
--- so many numbers of a row of n, one behind the other from place f on, and the first one again behind the last
+-- k numbers of a row of n, one behind the other from place f on; behind the last place comes the first
 abbrev pub beside : ℕ → ℕ → List ℕ → ℕ → List ℕ
 beside n f row zero = []
 beside n f row (suc k) = slice_index row f ∷ beside n (next n f) row k
@@ -39,7 +39,7 @@ pub record IsLog {T : Type 0} (cap subs : ℕ) (held : List T) (counts : List �
   -- the oldest message still has a reader
   pub wanted : 0 < length held → 0 < slice_index counts 0
 
--- how many messages in front nobody reads any more
+-- how many messages in front no subscriber has still to read
 abbrev pub unread : List ℕ → ℕ
 unread [] = 0
 unread (zero ∷ counts) = suc (unread counts)

@@ -6,7 +6,7 @@ use Rattle.std.proofs.lemmas.List.{set-set, set-get_or, get_or-set_same}
 use Rattle.esync_log.specs.Log.{Log, number_of, is_read, oldest, position, is_live, is_last, moved, lags, gap, caught_if, caught, Reads, IsRefused}
 use Rattle.esync_log.specs.declared.log.WaitResult.TheVariants.{Lagged}
 
--- where somebody is, there is a place, and a number
+-- a place with a subscriber is in the row, and has a number
 pub place_below : (ps : List (Option ℕ)) (i : ℕ) → is_some (slice_index_or ps i None) ≡ true → i < length ps
 place_below [] i e = absurd cc
 place_below (q ∷ ps) zero e = omega arith
@@ -27,15 +27,15 @@ some_number None e = absurd cc
 some_number (Some p) e = refl
 
 module _ {T : Type 0} (place : ℕ) (log : Log T) where
-  -- moved again, as if it had been moved there at once
+  -- a subscriber moved twice is where it was moved last
   moved_again : (p q : ℕ) → moved place q (moved place p log) ≡ moved place q log
   moved_again p q = (let f : List (Option ℕ) → Log T = λ ps. record { held = log.held; next = log.next; positions = ps } in ap f (set-set log.positions place (Some p) (Some q)))
 
-  -- moved to where it is
+  -- a subscriber moved to where it is changes nothing
   moved_there : (p : ℕ) → slice_index_or log.positions place None ≡ Some p → moved place p log ≡ log
   moved_there p e = (let f : List (Option ℕ) → Log T = λ ps. record { held = log.held; next = log.next; positions = ps } in ap (λ q. f (slice_set log.positions place q)) (sym e) ∙ ap f (set-get_or log.positions place None))
 
-  -- moved, and back
+  -- a subscriber moved away and back changes nothing
   pub moved_back : (p q : ℕ) → slice_index_or log.positions place None ≡ Some p → moved place p (moved place q log) ≡ log
   moved_back p q e = moved_again q p ∙ moved_there p e
 
@@ -49,14 +49,14 @@ module _ {T : Type 0} (place : ℕ) (log : Log T) where
     pub moved_position : (q : ℕ) → position place (moved place q log) ≡ q
     moved_position q = ap number_of (moved_at q)
 
-    -- at the oldest message
+    -- a subscriber moved to the oldest message doesn't lag
     pub moved_up : (q : ℕ) → q ≡ oldest log → oldest (moved place q log) ≤ position place (moved place q log)
     moved_up q e = omega (arith, moved_position q, e)
 
     pub moved_down : (q : ℕ) → q ≡ oldest log → position place (moved place q log) ≤ oldest (moved place q log)
     moved_down q e = omega (arith, moved_position q, e)
 
-  -- others read what they read
+  -- the other subscribers read what they read before one was moved
   pub moved_last : (n q : ℕ) → is_last place n (moved place q log) ≡ is_last place n log
   moved_last n q = ap (is_read n) (set-set log.positions place (Some q) None)
 
@@ -74,7 +74,7 @@ module _ {T : Type 0} (place : ℕ) (log : Log T) where
   pub caught_up : oldest log ≤ position place log → caught place log ≡ log
   caught_up l = (let e : lags place log ≡ false = grind (arith, nat_tests) in rw e refl)
 
-  -- a clone that is refused once the subscriber has caught up
+  -- a clone that is refused after the subscriber has caught up
   pub refused_caught : (I : T → Type 0) (n : ℕ) → IsRefused I place n (caught place log) → IsRefused I place n log
   refused_caught I n r = refused_if (lags place log) I n r
 

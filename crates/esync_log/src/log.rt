@@ -15,7 +15,7 @@ mod held;
 mod kept;
 mod store;
 
-/// Why a message was not published. It comes back.
+/// Why a message was not published. The message is in the error.
 #[derive(Clone, Copy, Debug, PartialEq, Eq, Error)]
 #[error_bound(T: Debug)]
 pub enum TryPublishError<T> {
@@ -27,7 +27,7 @@ pub enum TryPublishError<T> {
     Exhausted(T),
 }
 
-/// The numbers have run out: nothing was published, and the message comes back.
+/// The numbers have run out, and nothing was published. The message is in the error.
 #[derive(Clone, Copy, Debug, PartialEq, Eq, Error)]
 #[error_bound(T: Debug)]
 #[error("the numbers have run out")]
@@ -36,7 +36,7 @@ pub struct Exhausted<T>(pub T);
 /// What a subscriber reads.
 #[derive(Clone, Copy, Debug, PartialEq, Eq)]
 pub enum WaitResult<T> {
-    /// So many messages left before the subscriber read them.
+    /// How many messages left the log before the subscriber read them.
     Lagged(u64),
     /// The next message.
     Message(T),
@@ -69,7 +69,7 @@ impl<const SUBS: usize> Positions<SUBS> {
         self.row[place] = position;
     }
 
-    // The least place where nobody is.
+    // The least place without a subscriber.
     fn free_place(&self) -> Option<usize>
         requires { length self.now.row ≡ SUBS }
         ensures found { IfSome result (λ place. IsLeastFree place self.now.row) }
@@ -108,7 +108,7 @@ impl<T, const CAP: usize, const SUBS: usize> Model for Log<T, CAP, SUBS> {
 }
 
 impl<T: Drop, const CAP: usize, const SUBS: usize> Log<T, CAP, SUBS> {
-    /// No messages and no subscribers; the first message has the number `next`.
+    /// Returns a log without messages and subscribers. Its first message gets the number `next`.
     pub fn new_at(next: u64) -> Self
         requires { 1 ≤ CAP }
         ensures { result ≡ record { held = []; next = next; positions = replicate SUBS None } }
@@ -121,7 +121,7 @@ impl<T: Drop, const CAP: usize, const SUBS: usize> Log<T, CAP, SUBS> {
         }
     }
 
-    /// How many messages are held.
+    /// Returns how many messages are held.
     pub fn len(&self) -> usize
         ensures value { result ≡ length self.now.held }
         ensures within { result ≤ CAP }
@@ -130,14 +130,14 @@ impl<T: Drop, const CAP: usize, const SUBS: usize> Log<T, CAP, SUBS> {
         self.held.len()
     }
 
-    /// No message is held.
+    /// Returns whether no message is held.
     pub fn is_empty(&self) -> bool
         ensures { IsTrue result ↔ (self.now.held ≡ []) }
     {
         self.held.is_empty()
     }
 
-    /// As many messages are held as there is room for.
+    /// Returns whether as many messages are held as there is room for.
     pub fn is_full(&self) -> bool
         ensures answer { result ≡ not (nat_lt (length self.now.held) CAP) }
         ensures within { length self.now.held ≤ CAP }
@@ -145,14 +145,14 @@ impl<T: Drop, const CAP: usize, const SUBS: usize> Log<T, CAP, SUBS> {
         self.held.is_full()
     }
 
-    /// A subscriber is at this place.
+    /// Returns whether a subscriber is at the place.
     pub fn is_live(&self, place: usize) -> bool
         ensures { result ≡ is_live place self.now }
     {
         self.positions.get(place).is_some()
     }
 
-    /// How many messages were published that the subscriber at this place has not read, held or not.
+    /// Returns how many messages were published that the subscriber at the place hasn't read, whether held or not.
     pub fn available(&self, place: usize) -> u64
         requires { IsTrue (is_live place self.now) }
         ensures { result ≡ self.now.next - position place self.now }
@@ -163,8 +163,8 @@ impl<T: Drop, const CAP: usize, const SUBS: usize> Log<T, CAP, SUBS> {
         }
     }
 
-    /// Returns the count beside message `index`, where message 0 is the oldest that is held: how many subscribers have still to read
-    /// it. `None` where no more than `index` messages are held.
+    /// Returns how many subscribers have still to read message `index`, counted from the oldest that is held. Returns
+    /// `None` if no more than `index` messages are held.
     pub fn reader_count(&self, index: usize) -> Option<usize>
         ensures held { index < length self.now.held → result ≡ Some (readers_of (oldest self.now + index) self.now.positions) }
         ensures none { length self.now.held ≤ index → result ≡ None }
@@ -177,7 +177,7 @@ impl<T: Drop, const CAP: usize, const SUBS: usize> Log<T, CAP, SUBS> {
         }
     }
 
-    // The number of the oldest held message, or the next number where none is held.
+    // The number of the oldest held message, or the next number if none is held.
     fn oldest(&self) -> u64
         ensures { result ≡ oldest self.now }
     {
@@ -205,7 +205,7 @@ impl<T: Drop, const CAP: usize, const SUBS: usize> Log<T, CAP, SUBS> {
         position
     }
 
-    // Moves a subscriber that reads all that is held to another position where it does.
+    // Moves the subscriber at the place to another position. At both positions it reads all held messages.
     fn lag_at(&mut self, place: usize, number: u64)
         requires live { IsTrue (is_live place self.old) }
         requires lags { position place self.old ≤ oldest self.old }
@@ -215,7 +215,7 @@ impl<T: Drop, const CAP: usize, const SUBS: usize> Log<T, CAP, SUBS> {
         self.positions.put(place, Some(number));
     }
 
-    // Where the subscriber at this place lags, it goes on from the oldest message.
+    // Moves the subscriber at the place to the oldest message if it lags.
     fn catch_up(&mut self, place: usize)
         requires { IsTrue (is_live place self.old) }
         ensures state { self.new ≡ caught place self.old }
@@ -228,21 +228,22 @@ impl<T: Drop, const CAP: usize, const SUBS: usize> Log<T, CAP, SUBS> {
         }
     }
 
-    /// There are subscribers.
+    /// Returns whether there are subscribers.
     pub fn has_subscribers(&self) -> bool
         ensures { result ≡ has_subscribers self.now }
     {
         self.subscribers > 0
     }
 
-    // The first held message that is not below the number: all are not, where the number lags.
+    // How many held messages are below the number: none if a subscriber at the number lags.
     fn first_unread(&self, number: u64) -> usize
         ensures { result ≡ number - oldest self.now }
     {
         number.saturating_sub(self.oldest()) as usize
     }
 
-    /// A subscriber comes to the least free place, and reads what is published from now on. `None`: all places are taken.
+    /// Adds a subscriber at the least free place, and returns the place. The subscriber reads what is published from
+    /// now on. Returns `None` if all places are taken.
     pub fn join(&mut self) -> Option<usize>
         ensures { Joins self.old result self.new }
     {
@@ -254,7 +255,7 @@ impl<T: Drop, const CAP: usize, const SUBS: usize> Log<T, CAP, SUBS> {
         Some(place)
     }
 
-    /// The subscriber at this place leaves. What nobody reads any more leaves with it.
+    /// Removes the subscriber at the place. The messages in front that no subscriber has still to read leave with it.
     pub fn leave(&mut self, place: usize)
         requires { IsTrue (is_live place self.old) }
         ensures { self.new ≡ left place self.old }
@@ -269,7 +270,7 @@ impl<T: Drop, const CAP: usize, const SUBS: usize> Log<T, CAP, SUBS> {
         self.held.free();
     }
 
-    // Puts a message behind the others, for all who are live.
+    // Appends a message for all subscribers.
     fn hold(&mut self, message: T)
         requires room { length self.old.held < CAP }
         requires number { self.old.next < last_number }
@@ -280,7 +281,8 @@ impl<T: Drop, const CAP: usize, const SUBS: usize> Log<T, CAP, SUBS> {
         self.next += 1;
     }
 
-    /// Publishes a message for all who are live. Refused, it comes back, and nothing has changed. Without subscribers it is let go.
+    /// Publishes a message for all subscribers. Without subscribers the message is dropped. After an error nothing has
+    /// changed, and the message is in the error.
     pub fn publish(&mut self, message: T) -> Result<(), TryPublishError<T>>
         ensures { Publishes CAP message self.old result self.new }
     {
@@ -297,7 +299,7 @@ impl<T: Drop, const CAP: usize, const SUBS: usize> Log<T, CAP, SUBS> {
         Ok(())
     }
 
-    // The oldest message leaves where there is no room.
+    // Drops the oldest message if there is no room for another one.
     fn make_room(&mut self)
         ensures state { self.new ≡ with_room CAP self.old }
         ensures room { length self.new.held < CAP }
@@ -307,7 +309,8 @@ impl<T: Drop, const CAP: usize, const SUBS: usize> Log<T, CAP, SUBS> {
         }
     }
 
-    /// Publishes a message at once: a full log drops its oldest message. Refused, the message comes back, and nothing has changed.
+    /// Publishes a message at once: a full log drops its oldest message. Without subscribers the message is dropped.
+    /// After an error nothing has changed, and the message is in the error.
     pub fn publish_immediate(&mut self, message: T) -> Result<(), Exhausted<T>>
         ensures { PublishesAtOnce CAP message self.old result self.new }
     {
@@ -322,7 +325,7 @@ impl<T: Drop, const CAP: usize, const SUBS: usize> Log<T, CAP, SUBS> {
         Ok(())
     }
 
-    /// Drops all messages. Who had not read them lags.
+    /// Drops all messages. A subscriber that hadn't read them lags.
     pub fn clear(&mut self)
         ensures { self.new ≡ cleared self.old }
     {
@@ -331,7 +334,7 @@ impl<T: Drop, const CAP: usize, const SUBS: usize> Log<T, CAP, SUBS> {
 }
 
 impl<T: Clone, const CAP: usize, const SUBS: usize> Log<T, CAP, SUBS> {
-    // Nobody but the subscriber at this place still reads the message at its position.
+    // Whether only the subscriber at the place has still to read the message at the position.
     fn is_last(&self, place: usize, position: u64) -> bool
         requires live { slice_index_or self.now.positions place None ≡ Some position }
         requires from { oldest self.now ≤ position }
@@ -341,7 +344,7 @@ impl<T: Clone, const CAP: usize, const SUBS: usize> Log<T, CAP, SUBS> {
         self.held.count((position - self.oldest()) as usize) == 1
     }
 
-    // Reads the message itself, which is the oldest, and leaves.
+    // Takes the message at the position, which is the oldest, for its last reader.
     fn take_last(&mut self, place: usize, position: u64) -> T
         requires live { slice_index_or self.old.positions place None ≡ Some position }
         requires from { oldest self.old ≤ position }
@@ -357,7 +360,7 @@ impl<T: Clone, const CAP: usize, const SUBS: usize> Log<T, CAP, SUBS> {
         message
     }
 
-    // Reads a clone of the message, which stays for others.
+    // Clones the message at the position for the subscriber at the place. The message stays for its other readers.
     fn take_clone(&mut self, place: usize, position: u64) -> Result<T, AllocError>
         requires live { slice_index_or self.old.positions place None ≡ Some position }
         requires from { oldest self.old ≤ position }
@@ -391,7 +394,7 @@ impl<T: Clone, const CAP: usize, const SUBS: usize> Log<T, CAP, SUBS> {
         }
     }
 
-    // Reads what the subscriber at this place, which does not lag, reads next.
+    // Reads for the subscriber at the place, which doesn't lag.
     fn take_next(&mut self, place: usize) -> Result<Option<T>, AllocError>
         requires live { IsTrue (is_live place self.old) }
         requires from { oldest self.old ≤ position place self.old }
@@ -407,7 +410,8 @@ impl<T: Clone, const CAP: usize, const SUBS: usize> Log<T, CAP, SUBS> {
         Ok(Some(message))
     }
 
-    /// What the subscriber at this place reads next; `None` where it has read all. A refused clone changes nothing.
+    /// Reads for the subscriber at the place, and returns its next message or how many it missed. Returns `None` if it
+    /// has read all. After a refused clone nothing has changed.
     pub fn read(&mut self, place: usize) -> Result<Option<WaitResult<T>>, AllocError>
         requires { IsTrue (is_live place self.old) }
         ensures ok { IfOk result (λ answer. Reads T.is_clone place self.old answer self.new) }
@@ -427,7 +431,8 @@ impl<T: Clone, const CAP: usize, const SUBS: usize> Log<T, CAP, SUBS> {
         }
     }
 
-    /// The message that the subscriber at this place reads next, from the oldest on where it lags; `None` where it has read all. A refused clone leaves it where it was.
+    /// Reads on for the subscriber at the place, and returns its next message. If it lags, it goes on from the oldest
+    /// message. Returns `None` if it has read all. After a refused clone nothing has changed.
     pub fn read_on(&mut self, place: usize) -> Result<Option<T>, AllocError>
         requires { IsTrue (is_live place self.old) }
         ensures ok { IfOk result (λ answer. ReadsOn T.is_clone place self.old answer self.new) }

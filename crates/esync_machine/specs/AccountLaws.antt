@@ -17,7 +17,7 @@ use Rattle.esync_machine.specs.declared.primitive.Reach.TheVariants.{Number}
 use Rattle.esync_machine.specs.declared.primitive.Command.{Command}
 use Rattle.esync_machine.specs.declared.primitive.Command.TheVariants.{Start, Poll, End, Call}
 
--- where commands of any kind are meant
+-- commands of which nothing is asked are all of that kind
 pub of_any_kind : {C : Type 0} (cs : List C) → Each (λ c. Unit {0}) cs
 of_any_kind [] = tt
 of_any_kind (c ∷ cs) = (tt, of_any_kind cs)
@@ -26,7 +26,7 @@ of_any_kind (c ∷ cs) = (tt, of_any_kind cs)
 pub ask_of-started : {Ask : Type 0} (asked : List (ℕ × Ask)) (r : ℕ) (ask : Ask) → ask_of ((r, ask) ∷ asked) r ≡ Some ask
 ask_of-started asked r ask = rw (equal_number r r refl) refl
 
--- what stands at a number at first was started for what it asks
+-- a request that stands at a number at first was started for what it asks
 asked_there : {Ask : Type 0} (n : ℕ) (requests : List (Option Ask)) (r : ℕ) (ask : Ask) → at_number requests r ≡ Some ask → ask_of (asked_from n requests) (n + r) ≡ Some ask
 asked_there n [] r ask e = cc
 asked_there n (None ∷ requests) zero ask e = cc
@@ -39,7 +39,7 @@ asked_there n (Some x ∷ requests) (suc r) ask e =
 pub asked_at_first : {Ask : Type 0} (requests : List (Option Ask)) (r : ℕ) (ask : Ask) → at_number requests r ≡ Some ask → ask_of (asked_from 0 requests) r ≡ Some ask
 asked_at_first requests r ask e = (let s : 0 + r ≡ r = omega arith in subst (λ i. ask_of (asked_from 0 requests) i ≡ Some ask) s (asked_there 0 requests r ask e))
 
--- and after a command on another number
+-- what a request was started for, after a command on another number
 pub ask_of-other : {Ask W C A Held B : Type 0} (R : Rules Ask Held C B) (asked : List (ℕ × Ask)) (c : Command Ask W C) (a : Answer A) (r : ℕ) → (reach_of R c ≡ Number r → ⊥) → ask_of (asked_after asked c a) r ≡ ask_of asked r
 ask_of-other R asked (Start s ask) Done r ne = rw (unequal_number s r (λ e. ne (ap Number e))) refl
 ask_of-other R asked (Start s ask) Pending r ne = refl
@@ -50,7 +50,7 @@ ask_of-other R asked (Poll s w) a r ne = refl
 ask_of-other R asked (End s) a r ne = refl
 ask_of-other R asked (Call call) a r ne = refl
 
--- of commands of this kind, with what is known of them
+-- Of commands of one kind, with what is known after each.
 module _ {S Command Reply Waker : Type 0} (M : Meaning Command Reply Waker) (IsKind : Command → Type 0) (after : S → Command → Reply → S) (Told : M.Object → S → Type 0) (keeps : (o o2 : M.Object) (k : S) (c : Command) (a : Reply) → IsKind c → M.allows o c a o2 → Told o k → Told o2 (after k c a)) where
   told_steps : (o o2 : M.Object) (k : S) (steps : List (Step M.Object Command Reply)) → Each IsKind (map (λ s. s.command) steps) → IsRun M o steps o2 → Told o k → Told o2 (account after k (map (λ s. s.command) steps) (map (λ s. s.reply) steps))
   told_steps o o2 k [] kind run told = subst (λ x. Told x k) (sym run) told
@@ -81,7 +81,7 @@ module _ {Ask Held C A W S : Type 0} (R : Rules Ask Held C A) (IsKind : Command 
   abbrev pub KeepsTold : (Object R.Core Held → S → Type 0) → Object R.Core Held → Command Ask W C → Answer A → Object R.Core Held → Type 0
   KeepsTold Told o c a o2 = (k : S) → IsKind c → Told o k → Told o2 (after k c a)
 
-  -- a law holds at a step, where this is told before it
+  -- a law holds at a step, if this is told before the step
   abbrev pub HasLaw : (Object R.Core Held → S → Type 0) → (S → Command Ask W C → Answer A → Type 0) → Object R.Core Held → Command Ask W C → Answer A → Object R.Core Held → Type 0
   HasLaw Told Law o c a o2 = (k : S) → IsKind c → Told o k → Law k c a
 
@@ -100,7 +100,7 @@ module _ {Ask Held C A W S : Type 0} (R : Rules Ask Held C A) (IsKind : Command 
     pub core : On o.core k
     pub here : (r : ℕ) (h : Held) → at_number o.requests r ≡ Some h → Here k r h
 
-  -- What a primitive shows to keep it. It sees one of the numbers at a time.
+  -- What a primitive shows so that a run keeps what is told. It sees one of the numbers at a time.
   pub record KeepsEach (On : R.Core → S → Type 0) (Here : S → ℕ → Held → Type 0) : Type 0 where
     -- nothing is told by an answer that says that nothing changed
     pub refused : (k : S) (c : Command Ask W C) → after k c NoSuch ≡ k

@@ -7,8 +7,8 @@ use Rattle.esync_machine.specs.Rules.{Rules}
 use Rattle.esync_machine.specs.Object.{Object, Allows, begun, written}
 
 module _ {Ask Held C A : Type 0} (R : Rules Ask Held C A) where
-  -- A start at the number has the answer that the primitive gives to what is asked: NoSuch where it makes no request for it, and else Done,
-  -- with the request at the number.
+  -- A start at the number has the answer that the primitive gives to what is asked. It is NoSuch if the primitive makes
+  -- no request for it. Otherwise it is Done, with the request at the number.
   abbrev pub CanStart : (W : Type 0) → Object R.Core Held → ℕ → Type 0
   CanStart W o r =
       (ask : Ask) (a : Answer A) (o2 : Object R.Core Held) → Allows R {W = W} o (Start r ask) a o2

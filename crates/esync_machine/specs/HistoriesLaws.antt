@@ -6,7 +6,7 @@ use Rattle.esync_machine.specs.RunsLaws.{ready_is_due}
 use Rattle.esync_machine.specs.Histories.{Turn, Through, AreOwed, History, step_of}
 
 module _ {S C A W : Type 0} (X : Semantics S C A W) where
-  -- the steps of one after those of another
+  -- two stretches of steps, one after the other, are one
   pub joined : (old mid new : S) (xs ys : List (Step X.meaning.Object C A)) → Through X old xs mid → Through X mid ys new → Through X old (xs ++ ys) new
   joined old mid new [] ys h k = subst (λ m. Through X m ys new) h k
   joined old mid new (s ∷ xs) ys h k = (h.0, h.1, h.2, joined h.0 mid new xs ys h.3 k)
@@ -76,7 +76,7 @@ module _ {S C A W : Type 0} (X : Semantics S C A W) where
         let q = split old k.0 p.earlier (p.poll ∷ p.later) (subst (λ xs. Through X old xs k.0) p.parts k.1) in
         woken q.0 k.0 p.poll p.later r p.waker q.2 p.polls waits.0 p.last waits.1 due
 
-    -- of steps that are told
+    -- steps that are turns of the machine are a good run
     pub good_run_by : (old new : S) (steps : List (Step X.meaning.Object C A)) → Through X old steps new → GoodRunOf X old (map (λ s. s.command) steps) (map (λ s. s.reply) steps) new
     good_run_by old new steps h = record {
       steps = steps;
@@ -96,7 +96,7 @@ module _ {S C A W : Type 0} {X : Semantics S C A W} where
   pub no_history : (s : S) → History X s [] [] s
   no_history s = record { steps = []; answers = (refl, refl); through = refl }
 
-  -- a history and a turn more
+  -- a history and one more turn
   pub longer : {old mid new : S} {cs : List C} {as' : List A} {c : C} {a : A} → History X old cs as' mid → Turn X mid c a new → History X old (cs ++ c ∷ []) (as' ++ a ∷ []) new
   longer {old} {mid} {new} {cs} {as'} {c} {a} h t =
       let s = step_of X mid c a new in

@@ -1,4 +1,4 @@
--- What polls are answered: to whom a waker is owed, Pending with nothing changed, and what isn't there, NoSuch.
+-- What polls are answered: Pending with nothing changed if the request is owed a waker, NoSuch if no request is there.
 use Rattle.std.specs.Prelude.{◌≡◌, ℕ, Bool, List, [], Option, Some, None, slice_get, slice_set, refl}
 use Rattle.std.proofs.Common.{sym, ap, ◌∙◌, subst}
 use Rattle.esync_machine.specs.Runs.{IsIdle as IsIdleNumber, IdleIsPending as IdleIsPendingThere, OnlyLiveArePolled}
@@ -51,7 +51,7 @@ module _ {Ask Held C A W : Type 0} (R : Rules Ask Held C A) where
   no_such_at law o r w (Some (Some x)) a o2 at n k = law o.core x a k.0 k.1 (λ i. n (x, at_of o.requests r (Some x) at, i)) k.2
 
   module _ (T : Wakings R.Core Held C A W) (same : W → W → Bool) (K : ℕ) where
-    -- where Pending without a change is allowed, nothing else is
+    -- if Pending without a change is allowed, nothing else is
     pub requests_pending : IdleIsPending R → IdleIsPendingThere (requests_meaning R T same K)
     requests_pending law o o2 c r w a b polls e h k =
         let p = polls_is c r w polls in

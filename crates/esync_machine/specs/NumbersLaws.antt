@@ -5,7 +5,7 @@ use Rattle.std.proofs.Math.ListN.{replicate}
 use Rattle.esync_base.specs.ListedLaws.{true_or_false, same_or_not}
 use Rattle.esync_machine.specs.Numbers.{flat, at_number, swept, swept_place, swept_below}
 
--- a write of what stands there
+-- a write of what stands at the number already changes nothing
 pub set_there : {A : Type 0} (q : List (Option A)) (r : ℕ) (p : Option A) → slice_get q r ≡ Some p → slice_set q r p ≡ q
 set_there [] r p e = cc
 set_there (y ∷ q) zero p e = (let h : y ≡ p = cc in ap (λ z. z ∷ q) (sym h))
@@ -63,7 +63,7 @@ at_swept f (Some x ∷ q) zero k e b =
     rw (c, swept_place) e
 at_swept f (p ∷ q) (suc t) k e b = at_swept f q t k e b
 
--- a sweep that takes nothing away
+-- a sweep of a table of which nothing passes the test changes nothing
 pub swept_nothing : {A : Type 0} (f : A → Bool) (q : List (Option A)) → ((x : A) → f x ≡ false) → swept f q ≡ q
 swept_nothing f [] h = refl
 swept_nothing f (None ∷ q) h = ap (λ l. None ∷ l) (swept_nothing f q h)
@@ -78,7 +78,7 @@ length_swept f zero q = refl
 length_swept f (suc n) [] = refl
 length_swept f (suc n) (p ∷ q) = ap suc (length_swept f n q)
 
--- one more number is swept
+-- a sweep of one number more
 pub sweeps : {A : Type 0} (f : A → Bool) (n : ℕ) (q : List (Option A)) (p : Option A) → slice_get (swept_below f n q) n ≡ Some p → slice_set (swept_below f n q) n (swept_place f p) ≡ swept_below f (suc n) q
 sweeps f zero [] p e = cc
 sweeps f zero (y ∷ q) p e = (let h : y ≡ p = cc in ap (λ z. swept_place f z ∷ q) (sym h))

@@ -17,7 +17,7 @@ pub record Object (Core Held : Type 0) : Type 0 where
   -- what stands at each number
   pub requests : List (Option Held)
 
--- the answer to a start that makes this
+-- the answer to a start that makes this request, or none
 abbrev pub begun : {A Held : Type 0} → Option Held → Answer A
 begun None = NoSuch
 begun (Some h) = Done
@@ -47,11 +47,11 @@ found Nobody q = None
 found Leavers q = None
 
 module _ {Ask Held C A : Type 0} (R : Rules Ask Held C A) where
-  -- it names what isn't there, and nothing changes
+  -- the command names what isn't there, and nothing changes
   abbrev pub Nowhere : R.Core → Option Held → Answer A → R.Core → Option Held → Type 0
   Nowhere o p a o2 p2 = (a ≡ NoSuch) × (o2 ≡ o) × (p2 ≡ p)
 
-  -- a command that finds this at its number, and leaves that
+  -- a command finds this at its number, and leaves that there
   abbrev pub Turns : {W : Type 0} → R.Core → Command Ask W C → Option Held → Answer A → R.Core → Option Held → Type 0
   Turns o (Start r ask) None a o2 p2 = R.begins o ask p2 × (a ≡ begun p2) × (o2 ≡ o)
   Turns o (Start r ask) (Some h) a o2 p2 = Nowhere o (Some h) a o2 p2
@@ -61,16 +61,16 @@ module _ {Ask Held C A : Type 0} (R : Rules Ask Held C A) where
   Turns o (End r) (Some h) a o2 p2 = R.ends o h o2 × (a ≡ Done) × (p2 ≡ None)
   Turns o (Call call) p a o2 p2 = R.calls o call p a o2 p2
 
-  -- the object with another core, and something else at the number
+  -- the object with a new core, and with this at the number
   abbrev pub written : Object R.Core Held → ℕ → R.Core → Option Held → Object R.Core Held
   written o r core p = record { core = core; requests = slice_set o.requests r p }
 
-  -- a command on one number, which is out of range or has this place: all other numbers stay
+  -- a command on one number, which is out of range or has this place: every other number stays
   abbrev pub AllowsAt : {W : Type 0} → Object R.Core Held → Command Ask W C → ℕ → Option (Option Held) → Answer A → Object R.Core Held → Type 0
   AllowsAt o c r None a o2 = (a ≡ NoSuch) × (o2 ≡ o)
   AllowsAt o c r (Some p) a o2 = (core : R.Core) × (p2 : Option Held) × Turns o.core c p a core p2 × (o2 ≡ written o r core p2)
 
-  -- a command on no number: all stay but those that it ends
+  -- a command on no number: every number stays, unless the command ends what stands there
   abbrev pub AllowsAlone : {W : Type 0} → Object R.Core Held → Command Ask W C → Answer A → Object R.Core Held → Type 0
   AllowsAlone o c a o2 = (core : R.Core) × (p2 : Option Held) × Turns o.core c None a core p2 × (o2 ≡ record { core = core; requests = swept (ended_by R o.core c) o.requests })
 

@@ -13,7 +13,7 @@ use Rattle.esync_machine.specs.Rules.{Rules, ended}
 use Rattle.esync_machine.specs.Object.{Object, written, Allows, AllowsAt, AllowsReach, Nowhere}
 
 module _ {Ask Held C A W : Type 0} (R : Rules Ask Held C A) where
-  -- What is told of each kind of step. That is enough: every other command names what isn't there.
+  -- What is told of each kind of step. No other kinds are needed: every other command names what isn't there.
   pub record EachStep (Goal : Object R.Core Held → Command Ask W C → Answer A → Object R.Core Held → Type 0) : Type 0 where
     -- what the command names isn't there: a number out of range, one that is free, or one that is in use
     pub refused : (o : Object R.Core Held) (c : Command Ask W C) → Goal o c NoSuch o
@@ -22,7 +22,7 @@ module _ {Ask Held C A W : Type 0} (R : Rules Ask Held C A) where
     -- a poll and an end of what stands there
     pub polls : (o : Object R.Core Held) (r : ℕ) (w : W) (h : Held) (a : Answer A) (core : R.Core) (p : Option Held) → slice_get o.requests r ≡ Some (Some h) → R.polls o.core h a core p → Goal o (Poll r w) a (written R o r core p)
     pub ends : (o : Object R.Core Held) (r : ℕ) (h : Held) (core : R.Core) → slice_get o.requests r ≡ Some (Some h) → R.ends o.core h core → Goal o (End r) Done (written R o r core None)
-    -- a call at its number, at no number, and of one who leaves
+    -- a call on its number, on no number, and by a subscriber or receiver that leaves
     pub calls : (o : Object R.Core Held) (call : C) (r : ℕ) (p : Option Held) (a : Answer A) (core : R.Core) (p2 : Option Held) → R.reach call ≡ Number r → slice_get o.requests r ≡ Some p → R.calls o.core call p a core p2 → Goal o (Call call) a (written R o r core p2)
     pub alone : (o : Object R.Core Held) (call : C) (a : Answer A) (core : R.Core) (p : Option Held) → R.reach call ≡ Nobody → R.calls o.core call None a core p → Goal o (Call call) a (record { core = core; requests = o.requests })
     pub leaves : (o : Object R.Core Held) (call : C) (a : Answer A) (core : R.Core) (p : Option Held) → R.reach call ≡ Leavers → R.calls o.core call None a core p → Goal o (Call call) a (record { core = core; requests = swept (R.leaves o.core call) o.requests })

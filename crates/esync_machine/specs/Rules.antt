@@ -12,25 +12,25 @@ pub record Rules (Ask Held C A : Type 0) : Type 1 where
   pub Core : Type 0
   -- a start of this makes that request, or names what isn't there
   pub begins : Core → Ask → Option Held → Type 0
-  -- a poll may give this answer, go on to the other object, and leave this at the number
+  -- a poll may give this answer, change the first object into the second, and leave this at the number
   pub polls : Core → Held → Answer A → Core → Option Held → Type 0
   pub ends : Core → Held → Core → Type 0
   -- which numbers a call concerns
   pub reach : C → Reach
-  -- the same as of a poll, for a call that finds this at its number, and None where it concerns none
+  -- a call may give this answer, if this stands at its number, and leave that; both are None if it concerns no number
   pub calls : Core → C → Option Held → Answer A → Core → Option Held → Type 0
-  -- a call that reaches leavers first ends such a one
+  -- a call that reaches leavers first ends what stands at a number, if this says so
   pub leaves : Core → C → Held → Bool
-  -- it can be polled
+  -- what stands at the number can be polled
   pub IsRequest : Held → Type 0
   -- a Pending poll hands out its own waker, though it changes nothing
   pub WakesItself : Type 0
 
--- of a call that concerns no number: what stands there stays
+-- a call that concerns no number leaves what stands there
 abbrev pub Alone : {Core C Held A : Type 0} → (Core → C → Answer A → Core → Type 0) → Core → C → Option Held → Answer A → Core → Option Held → Type 0
 Alone calls o call p a o2 p2 = calls o call a o2 × (p2 ≡ p)
 
--- of a primitive whose requests are what was asked, which ends leave as it is, and whose calls concern no number
+-- rules of a primitive whose requests are what was asked, whose ends change nothing, and whose calls have no number
 abbrev pub asked_rules : {Core Ask C A : Type 0} → (Core → Ask → Answer A → Core → Option Ask → Type 0) → (Core → C → Answer A → Core → Type 0) → Rules Ask Ask C A
 asked_rules {Core = Core} polls calls = record {
   Core = Core;
@@ -50,7 +50,7 @@ Finds Nobody p = p ≡ None
 Finds (Number r) p = Unit {0}
 Finds Leavers p = p ≡ None
 
--- what stands at a number, if anything does, is apart from the other
+-- what stands at a number, if anything does, is apart from this
 abbrev pub IsApart : {Held : Type 0} → (Held → Held → Type 0) → Option Held → Held → Type 0
 IsApart Apart None other = Unit {0}
 IsApart Apart (Some h) other = Apart h other
@@ -60,7 +60,7 @@ abbrev pub IsOwed : {S Held W : Type 0} → (S → Held → W → Type 0) → S 
 IsOwed Owes s None w = ⊥
 IsOwed Owes s (Some h) w = Owes s h w
 
--- the same with what ties it to the state
+-- what stands at a number fits the state and is owed the waker
 abbrev pub OwesAt : {S Held W : Type 0} → (S → Held → Type 0) → (S → Held → W → Type 0) → S → Option Held → W → Type 0
 OwesAt Fits Owes s None w = ⊥
 OwesAt Fits Owes s (Some h) w = Fits s h × Owes s h w
@@ -81,7 +81,7 @@ module _ {Ask Held C A : Type 0} (R : Rules Ask Held C A) where
   abbrev pub OnlyRequests : Type 0
   OnlyRequests = (o : R.Core) (h : Held) (a : Answer A) (o2 : R.Core) (p : Option Held) → (R.IsRequest h → ⊥) → R.polls o h a o2 p → a ≡ NoSuch
 
-  -- the call, of this reach, first ends such a one
+  -- whether a call of this reach first ends what stands at a number
   abbrev pub ended : R.Core → Reach → C → Held → Bool
   ended o Nobody call h = false
   ended o (Number r) call h = false
@@ -93,7 +93,7 @@ module _ {Ask Held C A : Type 0} (R : Rules Ask Held C A) where
   reach_of (End r) = Number r
   reach_of (Call call) = R.reach call
 
-  -- the same of any command
+  -- whether a command first ends what stands at a number
   abbrev pub ended_by : {W : Type 0} → R.Core → Command Ask W C → Held → Bool
   ended_by o (Start r ask) h = false
   ended_by o (Poll r w) h = false

@@ -6,7 +6,7 @@ use Rattle.esync_machine.specs.Wakings.{Handed}
 -- What a machine means: the objects, and which step each of them allows.
 pub record Meaning (Command Reply Waker : Type 0) : Type 1 where
   pub Object : Type 0
-  -- the object may give this answer to this command, and go on to the other
+  -- the object may give this answer to this command, and become the second object
   pub allows : Object → Command → Reply → Object → Type 0
   -- the number and the waker of a poll
   pub polls : Command → Option (ℕ × Waker)
@@ -17,7 +17,7 @@ pub record Meaning (Command Reply Waker : Type 0) : Type 1 where
   pub wakes : Reply → List Waker
   -- which wakers are registered where
   pub Registered : Type 0
-  -- which wakers a step hands out, from the object before it to that after it, and which are registered after it
+  -- the wakers that a step hands out, from the object before it to the one after it, and the wakers registered after it
   pub handed : Object → Registered → Command → Reply → Object → Handed Registered Waker
   -- whether two wakers are equal
   pub same : Waker → Waker → Bool
@@ -33,12 +33,12 @@ pub record Meaning (Command Reply Waker : Type 0) : Type 1 where
   -- a Pending poll hands out its own waker, though it leaves the object as it was
   pub WakesItself : Type 0
 
--- what is said of each of the list
+-- each item of a list has a property
 abbrev pub Each : {A : Type 0} → (A → Type 0) → List A → Type 0
 Each P [] = Unit {0}
 Each P (x ∷ xs) = P x × Each P xs
 
--- what is said of one of the list
+-- some item of a list has a property
 abbrev pub AtSome : {A : Type 0} → (A → Type 0) → List A → Type 0
 AtSome P [] = ⊥
 AtSome P (x ∷ xs) = P x ⊎ AtSome P xs
@@ -51,7 +51,7 @@ pub record Step (Object Command Reply : Type 0) : Type 0 where
   pub after : Object
 
 module _ {Command Reply Waker : Type 0} (M : Meaning Command Reply Waker) where
-  -- from old by these steps to new
+  -- these steps lead from old to new
   abbrev pub IsRun : M.Object → List (Step M.Object Command Reply) → M.Object → Type 0
   IsRun old [] new = new ≡ old
   IsRun old (s ∷ steps) new = (s.before ≡ old) × M.allows s.before s.command s.reply s.after × IsRun s.after steps new
@@ -68,7 +68,7 @@ module _ {Command Reply Waker : Type 0} (M : Meaning Command Reply Waker) where
   abbrev pub IsIdle : M.Object → ℕ → Type 0
   IsIdle o r = (c : Command) (w : Waker) → M.polls c ≡ Some (r, w) → (a : Reply) × M.IsPending a × M.allows o c a o
 
-  -- where Pending with the object left as it is is allowed for a poll, nothing else is
+  -- if Pending with the object left as it is is allowed for a poll, nothing else is
   abbrev pub IdleIsPending : Type 0
   IdleIsPending =
       (o o2 : M.Object) (c : Command) (r : ℕ) (w : Waker) (a b : Reply) → M.polls c ≡ Some (r, w) → M.IsPending a → M.allows o c a o → M.allows o c b o2 → M.IsPending b × (o2 ≡ o)
@@ -94,26 +94,26 @@ module _ {Command Reply Waker : Type 0} (M : Meaning Command Reply Waker) where
     pub polls : M.polls poll.command ≡ Some (r, waker)
     pub last : Each (λ s. Polls s.command r → ⊥) later
 
-  -- It answered Pending, and r wasn't ended after it.
+  -- The last poll was answered Pending, and no command ended r after it.
   abbrev pub IsWaiting : (steps : List (Step M.Object Command Reply)) (r : ℕ) → LastPoll steps r → Type 0
   IsWaiting steps r p = M.IsPending p.poll.reply × Each (λ s. M.Ends s.before s.command r → ⊥) p.later
 
-  -- A waker equal to that of the last poll was handed out in it or since.
+  -- A waker equal to that of the last poll was handed out in that poll or since.
   abbrev pub IsWoken : (steps : List (Step M.Object Command Reply)) (r : ℕ) → LastPoll steps r → Type 0
   IsWoken steps r p = AtSome (λ s. HandsOut s.reply p.waker) (p.poll ∷ p.later)
 
-  -- the object after a step and those that follow
+  -- the object after a step and the steps that follow it
   abbrev pub object_after : Step M.Object Command Reply → List (Step M.Object Command Reply) → M.Object
   object_after s [] = s.after
   object_after s (t ∷ steps) = object_after t steps
 
-  -- At every beginning of the run a request that waits, and of which this holds, was woken.
+  -- At every beginning of the run, a request that waits and has the property was woken.
   abbrev pub AreWoken : (M.Object → ℕ → Type 0) → List (Step M.Object Command Reply) → Type 0
   AreWoken Is steps =
       (beginning rest : List (Step M.Object Command Reply)) → steps ≡ beginning ++ rest
       → (r : ℕ) (p : LastPoll beginning r) → IsWaiting beginning r p → Is (object_after p.poll p.later) r → IsWoken beginning r p
 
-  -- Every request that waits and is due was woken, and so was every one that is ready.
+  -- Every request that waits and is due was woken, and so was every request that waits and is ready.
   abbrev pub NoLostWake : List (Step M.Object Command Reply) → Type 0
   NoLostWake steps = AreWoken IsDue steps × AreWoken IsReady steps
 
@@ -159,10 +159,10 @@ pub record Semantics (S Command Reply Waker : Type 0) : Type 1 where
   pub Owes : S → ℕ → Waker → Type 0
 
 module _ {S Command Reply Waker : Type 0} (X : Semantics S Command Reply Waker) where
-  -- The same of a machine's states.
+  -- The answers of a run from one state of a machine to another are those of a good run.
   abbrev pub GoodRunOf : S → List Command → List Reply → S → Type 0
   GoodRunOf old commands replies new = GoodRun X.meaning (X.object old) (X.registrations old) commands replies (X.object new) (X.registrations new)
 
-  -- to whom a waker is owed, a poll may now be answered Pending with the object left as it is
+  -- if a request is owed a waker, a poll of it may now be answered Pending with the object left as it is
   abbrev pub OwedAreIdle : Type 0
   OwedAreIdle = (m : S) (r : ℕ) (w : Waker) → X.Owes m r w → IsIdle X.meaning (X.object m) r

@@ -9,7 +9,7 @@ use Rattle.esync_machine.specs.Rules.{Rules, IsApart, IsOwed, OwesAt, ended_by}
 use Rattle.esync_machine.specs.Object.{Allows, Turns, Ends, poll_of, end_of, handed}
 use Rattle.esync_machine.specs.Wakings.{Wakings, IsHanded, handed_at}
 
--- of a command and the place at its number
+-- what is shown of a command and the place at its number
 pub record Turned {Ask Held C A W S : Type 0} (R : Rules Ask Held C A) (core : S → R.Core) (T : Wakings R.Core Held C A W) (registrations : S → T.Registered) (Fits : S → Held → Type 0) (Apart : Held → Held → Type 0) (Owes : S → Held → W → Type 0) (same : W → W → Bool) (s : S) (c : Command Ask W C) (p : Option Held) (a : Answer A) (wakes : List W) (s2 : S) (p2 : Option Held) : Type 0 where
   pub allowed : Turns R (core s) c p a (core s2) p2
   pub exact : IsHanded (handed_at T (core s) (registrations s) c p a p2) wakes (registrations s2)
@@ -20,7 +20,7 @@ pub record Turned {Ask Held C A W S : Type 0} (R : Rules Ask Held C A) (core : S
   pub fits : IfSome p2 (λ h. Fits s2 h)
   pub others : (other : Held) → Fits s other → IsApart Apart p other → ended_by R (core s) c other ≡ false → Fits s2 other × IsApart Apart p2 other
 
--- of a command and the whole table
+-- what is shown of a command and the whole table
 pub record Served {Ask Held C A W S : Type 0} (R : Rules Ask Held C A) (core : S → R.Core) (T : Wakings R.Core Held C A W) (registrations : S → T.Registered) (Fits : S → Held → Type 0) (Apart : Held → Held → Type 0) (Owes : S → Held → W → Type 0) (same : W → W → Bool) (s : S) (q : List (Option Held)) (c : Command Ask W C) (a : Answer A) (wakes : List W) (s2 : S) (q2 : List (Option Held)) : Type 0 where
   pub allowed : Allows R (record { core = core s; requests = q }) c a (record { core = core s2; requests = q2 })
   pub exact : IsHanded (handed R T (record { core = core s; requests = q }) (registrations s) c a (record { core = core s2; requests = q2 })) wakes (registrations s2)

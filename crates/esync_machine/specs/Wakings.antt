@@ -15,7 +15,7 @@ pub record Handed (Registered W : Type 0) : Type 0 where
 abbrev pub IsHanded : {G W : Type 0} → Handed G W → List W → G → Type 0
 IsHanded h wakes after = (wakes ≡ h.wakes) × (after ≡ h.after)
 
--- nothing is handed out, and who is registered stays so
+-- nothing is handed out, and the registered wakers stay
 abbrev pub nothing : {G W : Type 0} → G → Handed G W
 nothing g = record { wakes = []; after = g }
 
@@ -27,7 +27,7 @@ registers eq slot w = record { wakes = displaced eq 1 slot w; after = registered
 abbrev pub hands_out : {W : Type 0} → List W → Handed (List W) W
 hands_out slot = record { wakes = slot; after = [] }
 
--- nothing too where the answer says that nothing changed
+-- nothing is handed out too if the answer says that nothing changed
 abbrev pub unless_refused : {A G W : Type 0} → Answer A → G → Handed G W → Handed G W
 unless_refused NoSuch g h = nothing g
 unless_refused NoMemory g h = nothing g
@@ -46,10 +46,10 @@ is_pending (Gives x) = false
 pub record Wakings (Core Held C A W : Type 0) : Type 1 where
   -- which wakers are registered where
   pub Registered : Type 0
-  -- by a poll with the waker, that is answered so and leaves that at its number
+  -- the wakes of a poll with the waker that is answered so and leaves that at its number
   pub polls : Core → Registered → Held → W → Answer A → Option Held → Handed Registered W
   pub ends : Core → Registered → Held → Handed Registered W
-  -- by a call that finds this at its number, and None where it concerns none
+  -- the wakes of a call that finds this at its number, or None if it concerns none
   pub calls : Core → Registered → C → Option Held → Answer A → Handed Registered W
 
 module _ {Core Held C A W : Type 0} (T : Wakings Core Held C A W) where
@@ -59,7 +59,7 @@ module _ {Core Held C A W : Type 0} (T : Wakings Core Held C A W) where
   abbrev pub called : Core → T.Registered → C → Option Held → Answer A → Handed T.Registered W
   called o g call p a = unless_refused a g (T.calls o g call p a)
 
-  -- by a command that finds this at its number, and leaves that
+  -- the wakes of a command that finds this at its number, and leaves that
   abbrev pub handed_at : {Ask : Type 0} → Core → T.Registered → Command Ask W C → Option Held → Answer A → Option Held → Handed T.Registered W
   handed_at o g (Start r ask) p a p2 = nothing g
   handed_at o g (Poll r w) None a p2 = nothing g

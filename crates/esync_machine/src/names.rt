@@ -1,4 +1,4 @@
-//! Names of those that a primitive counts: numbers, each of which is free or in use.
+//! The numbers that a primitive gives as names, to subscribers for example. Each is free or in use.
 ghost use Rattle.std.specs.Prelude.{◌≡◌, ◌<◌, None, slice_set};
 ghost use Rattle.std.proofs.Math.ListN.{replicate};
 ghost use Rattle.esync_machine.specs.Numbers.{at_number};
@@ -9,7 +9,7 @@ use std::alloc::AllocError;
 use std::fmt;
 use std::marker::Model;
 
-/// The numbers below `N`, each free or in use for one that is named so.
+/// The numbers below `N`. Each is free, or names what was put there.
 #[derive_where(Debug; A: fmt::Debug + Drop)]
 #[derive(Drop)]
 pub struct Names<A, const N: usize> {
@@ -36,7 +36,7 @@ impl<A: Copy, const N: usize> Kept for Names<A, N> {
 }
 
 impl<A: Copy, const N: usize> Names<A, N> {
-    /// All numbers are free.
+    /// Returns names of which all are free.
     pub fn new() -> Self
         ensures { result ≡ replicate N None }
     {
@@ -45,14 +45,14 @@ impl<A: Copy, const N: usize> Names<A, N> {
         }
     }
 
-    /// Who is named so; nobody, where the number is free or not below `N`.
+    /// Returns what the number names. Returns `None` if the number is free or not below `N`.
     pub fn get(&self, r: usize) -> Option<A>
         ensures { result ≡ at_number self.now r }
     {
         self.table.get(r)
     }
 
-    /// Gives the number to this one, or frees it.
+    /// Gives the number to `named` as its name, or frees it with `None`.
     pub fn put(&mut self, r: usize, named: Option<A>)
         requires { r < N }
         ensures { self.new ≡ slice_set self.old r named }

@@ -1,4 +1,4 @@
-//! Primitives, which see one of their requests at a time and no number.
+//! Primitives. A primitive sees one of its requests at a time, and no number.
 ghost use Rattle.std.specs.Prelude.{◌≡◌, ◌≤◌, ℕ, [], Some, None, false, IfSome, ◌⊎◌};
 ghost use Rattle.esync_base.specs.Registration.{IsAmong};
 ghost use Rattle.esync_machine.specs.Rules.{Rules, IsApart, IsOwed, IsIdle, IdleIsPending, OnlyRequests, MakesNoRequests, Finds, ended};
@@ -6,10 +6,10 @@ ghost use Rattle.esync_machine.specs.Wakings.{Wakings, IsHanded, polled, called}
 
 use esync_base::waitqueue::Wakes;
 
-/// What a command is answered.
+/// The answer to a command.
 #[derive(Clone, Copy, Debug, PartialEq, Eq)]
 pub enum Answer<A> {
-    /// It is done, and there is nothing to tell.
+    /// The command was done, and there is nothing to tell.
     Done,
     /// The request that was polled waits.
     Pending,
@@ -33,18 +33,18 @@ pub enum Command<Q, W, C> {
     Call(C),
 }
 
-/// Which numbers a call concerns.
+/// The numbers that a call concerns.
 #[derive(Clone, Copy, Debug, PartialEq, Eq)]
 pub enum Reach {
-    /// None of them.
+    /// No number.
     Nobody,
-    /// What stands at this one.
+    /// The number in the variant, with what stands there.
     Number(usize),
-    /// It first ends all requests of one who leaves.
+    /// The numbers of all requests of a subscriber or receiver that leaves: the call ends them first.
     Leavers,
 }
 
-/// An answer, and what stands at the number after it.
+/// The answer to a poll or a call, and what stands at the number afterwards.
 #[derive(Drop)]
 pub struct Turn<A, H> {
     pub answer: Answer<A>,
@@ -52,7 +52,7 @@ pub struct Turn<A, H> {
 }
 
 impl<A, H> Turn<A, H> {
-    /// The request is over, and its number free.
+    /// Returns a turn after which the request is over and its number free.
     pub fn over(heard: A) -> Self
         ensures answer { result.answer ≡ Answer.Gives heard }
         ensures place { result.place ≡ None }
@@ -63,7 +63,7 @@ impl<A, H> Turn<A, H> {
         }
     }
 
-    /// The request waits.
+    /// Returns a turn after which the request waits.
     pub fn waits(held: H) -> Self
         ensures answer { result.answer ≡ Answer.Pending }
         ensures place { result.place ≡ Some held }
@@ -75,7 +75,7 @@ impl<A, H> Turn<A, H> {
     }
 }
 
-/// A primitive with its wakers. It sees what stands at one number at a time: a request, or what one became.
+/// A primitive with its wakers. It sees what stands at one number at a time: a request, or what a request became.
 pub trait Primitive<const K: usize> {
     /// What a request asks for.
     type Ask: Drop;
@@ -90,13 +90,13 @@ pub trait Primitive<const K: usize> {
 
     type Waker: Copy + Eq;
 
-    /// What it means.
+    /// The meaning of the primitive.
     ghost rules: { Rules Self.Ask Self.Held Self.Call Self.Heard };
 
-    /// Its object, without the requests.
+    /// The object of the primitive, without the requests.
     ghost core: { Self → rules.Core };
 
-    /// The table of its wakes.
+    /// The table of wakes.
     ghost wakings: { Wakings rules.Core Self.Held Self.Call Self.Heard Self.Waker };
 
     /// Which wakers are registered where.
@@ -105,22 +105,22 @@ pub trait Primitive<const K: usize> {
     /// The greatest number of wakers that a step hands out.
     ghost most: { ℕ };
 
-    /// The waker is registered where it will be handed out for the request, which is not due.
+    /// The waker is registered where it will be handed out for the request, and the request is not due.
     ghost Owes: { Self → Self.Held → Self.Waker → Type 0 };
 
-    /// What ties each held one to the state.
+    /// What ties what stands at a number to the state.
     ghost Fits: { Self → Self.Held → Type 0 };
 
-    /// What tells two held ones apart.
+    /// What tells apart what stands at two numbers.
     ghost Apart: { Self.Held → Self.Held → Type 0 };
 
-    /// The request that is asked for, unless it names what isn't there.
+    /// Returns the request that is asked for, or `None` if `ask` names what isn't there.
     fn begin(&self, ask: Self::Ask) -> Option<Self::Held>
         ensures allowed { rules.begins (core self.now) ask result }
         ensures fits { IfSome result (λ held. Fits self.now held) }
         ensures others { (other : Self.Held) → Fits self.now other → IsApart Apart result other };
 
-    /// Polls the request with the waker, and tells what stands at its number then.
+    /// Polls the request with the waker. Returns the answer, and what stands at the request's number afterwards.
     fn poll(
         &mut self,
         held: Self::Held,
@@ -138,7 +138,7 @@ pub trait Primitive<const K: usize> {
         ensures fits { IfSome result.place (λ after. Fits self.new after) }
         ensures others { (other : Self.Held) → Fits self.old other → Apart held other → Fits self.new other × IsApart Apart result.place other };
 
-    /// Ends what stands at a number, which is free then.
+    /// Ends what stands at a number. The number is free afterwards.
     fn end(&mut self, held: Self::Held, wakes: &mut Wakes<Self::Waker, K>)
         requires empty { wakes.old ≡ [] }
         requires room { most ≤ K }
@@ -148,15 +148,16 @@ pub trait Primitive<const K: usize> {
         ensures kept { (other : Self.Held) (v : Self.Waker) → Fits self.old other → Apart held other → Owes self.old other v → IsAmong Self.Waker.eq v wakes.new ⊎ Owes self.new other v }
         ensures others { (other : Self.Held) → Fits self.old other → Apart held other → Fits self.new other };
 
-    /// Which numbers the call concerns.
+    /// Returns which numbers the call concerns.
     fn reach(call: &Self::Call) -> Reach
         ensures { result ≡ rules.reach call.now };
 
-    /// The call, which reaches `Leavers`, first ends this one.
+    /// Returns whether the call, which reaches `Leavers`, first ends what stands at this number.
     fn leaves(&self, call: &Self::Call, held: &Self::Held) -> bool
         ensures { result ≡ rules.leaves (core self.now) call.now held.now };
 
-    /// `place` is what stands at the number that the call concerns, and `None` where it concerns none.
+    /// Makes a call that is no start, poll or end. `place` is what stands at the number that the call concerns, and
+    /// `None` if it concerns no number. Returns the answer, and what stands at the number afterwards.
     fn call(
         &mut self,
         call: Self::Call,
@@ -174,17 +175,17 @@ pub trait Primitive<const K: usize> {
         ensures fits { IfSome place.new (λ after. Fits self.new after) }
         ensures others { (other : Self.Held) → Fits self.old other → IsApart Apart place.old other → ended rules (core self.old) (rules.reach call) call other ≡ false → Fits self.new other × IsApart Apart place.new other };
 
-    /// To whom a waker is owed, a poll may now be answered Pending with nothing changed.
+    /// A law: if a request is owed a waker, a poll of it may now be answered Pending with nothing changed.
     ghost idle: { (m : Self) (h : Self.Held) (w : Self.Waker) → Fits m h → Owes m h w → IsIdle rules (core m) h };
 
-    /// Where Pending without a change is allowed, nothing else is.
+    /// A law: if a poll may be answered Pending without a change, nothing else is allowed.
     ghost pending: { IdleIsPending rules };
 
-    /// What is no request can't be polled.
+    /// A law: only a request can be polled.
     ghost no_such: { OnlyRequests rules };
 
     ghost symmetric: { (h k : Self.Held) → Apart h k → Apart k h };
 
-    /// Requests are made by `begin` alone.
+    /// A law: requests are made by `begin` alone.
     ghost no_requests: { MakesNoRequests rules };
 }

@@ -1,4 +1,4 @@
-//! What stands at each number below a limit.
+//! A table of what stands at each number below a limit.
 ghost use Rattle.std.specs.Prelude.{◌≡◌, ◌<◌, None, slice_set};
 ghost use Rattle.std.proofs.Math.ListN.{replicate};
 ghost use Rattle.esync_machine.specs.Numbers.{at_number};
@@ -6,14 +6,14 @@ ghost use Rattle.esync_machine.specs.Numbers.{at_number};
 use std::alloc::AllocError;
 use std::fmt;
 
-/// What stands at each number below `N`, if something does.
+/// What stands at each number below `N`, or `None` where the number is free.
 #[derive(Drop)]
 pub struct Table<A, const N: usize> {
     pub places: [Option<A>; N],
 }
 
 impl<A: Drop, const N: usize> Table<A, N> {
-    /// A table in which nothing stands.
+    /// Returns a table in which nothing stands.
     pub fn new() -> Self
         ensures { result.places ≡ replicate N None }
     {
@@ -24,7 +24,7 @@ impl<A: Drop, const N: usize> Table<A, N> {
 }
 
 impl<A: Copy, const N: usize> Table<A, N> {
-    /// What stands at the number, if something does.
+    /// Returns what stands at the number. Returns `None` if the number is free or not below `N`.
     pub fn get(&self, r: usize) -> Option<A>
         ensures { result ≡ at_number self.now.places r }
     {
@@ -34,7 +34,7 @@ impl<A: Copy, const N: usize> Table<A, N> {
         }
     }
 
-    /// Puts something at the number, or nothing.
+    /// Puts something at the number, or frees it with `None`.
     pub fn put(&mut self, r: usize, place: Option<A>)
         requires { r < N }
         ensures { self.new.places ≡ slice_set self.old.places r place }
@@ -57,7 +57,7 @@ impl<A: Copy, const N: usize> Clone for Table<A, N> {
 
 impl<A: Copy, const N: usize> Copy for Table<A, N> {}
 
-/// What stands where, as a map.
+/// Shows what stands at each number, as a map.
 impl<A: Drop + fmt::Debug, const N: usize> fmt::Debug for Table<A, N> {
     fn fmt<F: fmt::Write>(&self, f: &mut fmt::Formatter<F>) -> fmt::Result {
         let mut map = f.debug_map();

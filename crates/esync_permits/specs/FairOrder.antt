@@ -1,4 +1,5 @@
--- Who waits at a fair semaphore is granted in the order of first having heard Pending: told of the commands and their answers alone.
+-- Requests of a fair semaphore are granted in the order in which they first heard Pending, as commands and answers
+-- tell.
 use Rattle.std.specs.Prelude.{◌≡◌, ℕ, List, [], ◌∷◌, ◌++◌, Option, Some, None, Ok, if◌then◌else◌}
 use Rattle.esync_base.specs.Listed.{is_in}
 use Rattle.esync_machine.specs.Account.{AtEach}
@@ -14,7 +15,7 @@ use Rattle.esync_permits.specs.declared.semaphore.machine.PermitHeard.TheVariant
 use Rattle.esync_permits.specs.Queue.{without}
 use Rattle.esync_permits.specs.FairRules.{Heard}
 
--- who waits, in the order in which they first heard Pending: after a poll, an end, and any command
+-- the requests that wait, in the order in which they first heard Pending: after a poll, an end, and any command
 abbrev pub line_after_poll : List ℕ → ℕ → Answer Heard → List ℕ
 line_after_poll line r Pending = if is_in r line then line else line ++ r ∷ []
 line_after_poll line r (Gives heard) = without r line
@@ -35,7 +36,7 @@ line_after line (Poll r w) a = line_after_poll line r a
 line_after line (End r) a = line_after_end line r a
 line_after line (Call call) a = line
 
--- whose request is granted by an answer
+-- the request that an answer grants
 abbrev pub granted_to : ℕ → Answer Heard → Option ℕ
 granted_to r (Gives (Granted (Ok k))) = Some r
 granted_to r (Gives (Tried (Some k))) = Some r
@@ -51,12 +52,12 @@ granted (Call (Release k)) a = None
 granted (Call (Set k)) a = None
 granted (Call Permits) a = None
 
--- the first in the line, or anybody where nobody waits
+-- the request is the first in the line, or there is no line
 abbrev pub IsFirst : Option ℕ → List ℕ → Type 0
 IsFirst None line = Unit {0}
 IsFirst (Some r) [] = Unit {0}
 IsFirst (Some r) (x ∷ line) = x ≡ r
 
--- whenever a request is granted, it is the first of those who wait, or nobody waits
+-- whenever a request is granted, it is the first of those that wait, or no request waits
 abbrev pub NobodyOvertakes : {W : Type 0} {K : ℕ} → List ℕ → List (Command Amount W PermitCall) → List (Reply (Answer Heard) W K) → Type 0
 NobodyOvertakes line commands replies = AtEach (λ line c a. line_after line c a.answer) (λ line c a. IsFirst (granted c a.answer) line) line commands replies

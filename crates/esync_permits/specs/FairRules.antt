@@ -23,7 +23,7 @@ use Rattle.esync_machine.specs.Wakings.{Wakings, Handed, nothing}
 abbrev pub Held : Type 0
 Held = PermitHeld (Option ℕ)
 
--- it hears how many permits it was granted, or that there was no place
+-- a request hears how many permits it was granted, or that there was no place
 abbrev pub Heard : Type 0
 Heard = PermitHeard (Result ℕ WaitQueueFull)
 
@@ -32,12 +32,12 @@ pub record PermitQueue : Type 0 where
   pub permits : ℕ
   pub queue : List ℕ
 
--- a request that isn't granted goes to the back under a name that no other has, or hears that there is no place
+-- a request that isn't granted goes to the back under a name that no other request has, or hears that there is no place
 abbrev pub Enters : Bool → Amount → List ℕ → Answer Heard → List ℕ → Option Held → Type 0
 Enters true amount q a q2 p = (t : ℕ) × (is_in t q ≡ false) × (a ≡ Pending) × (q2 ≡ q ++ t ∷ []) × (p ≡ Some (Waiting amount (Some t)))
 Enters false amount q a q2 p = (e : WaitQueueFull) × (a ≡ Gives (Granted (Err e))) × (q2 ≡ q) × (p ≡ None)
 
--- what a poll does that got these permits, of a request with this name, or with none
+-- what a poll does that got these permits, if any, for a request with this name, if any
 abbrev pub Queued : ℕ → Amount → Option ℕ → Option ℕ → List ℕ → Answer Heard → List ℕ → Option Held → Type 0
 Queued n amount None (Some k) q a q2 p = (a ≡ Gives (Granted (Ok k))) × (q2 ≡ q) × (p ≡ Some (Releaser k))
 Queued n amount None None q a q2 p = Enters (nat_lt (length q) n) amount q a q2 p
@@ -52,7 +52,7 @@ abbrev pub Leaves : PermitQueue → Option ℕ → PermitQueue → Type 0
 Leaves o None o2 = o2 ≡ o
 Leaves o (Some t) o2 = (o2.permits ≡ o.permits) × (o2.queue ≡ without t o.queue)
 
--- of a semaphore at which n requests may wait
+-- a fair semaphore for which at most n requests wait
 abbrev pub fair : ℕ → Discipline (Option ℕ) (Result ℕ WaitQueueFull)
 fair n = record {
   Core = PermitQueue;
@@ -76,25 +76,25 @@ abbrev pub ticket_at : Option Held → Option ℕ
 ticket_at None = None
 ticket_at (Some h) = ticket_of h
 
--- which wakers are handed out; they stay in their entries
+-- The wakers that are handed out stay in their entries.
 module _ {W : Type 0} where
   -- more permits hand out the waker of the front entry
   abbrev pub more_hands : Bool → List (Entry W) → Handed (List (Entry W)) W
   more_hands news es = record { wakes = woken_if news (front_wakers es); after = es }
 
-  -- by a poll of a request with this ticket, which has that one after it
+  -- the wakes of a poll of a request with the first ticket, which has the second one afterwards
   abbrev pub poll_hands : List (Entry W) → Option ℕ → W → Option ℕ → Handed (List (Entry W)) W
   poll_hands es None w None = nothing es
   poll_hands es None w (Some t) = record { wakes = []; after = entered t w es }
   poll_hands es (Some t) w None = more_hands true (left_by t es)
   poll_hands es (Some t) w (Some u) = record { wakes = []; after = with_waker t w es }
 
-  -- by the end of a request, which takes its waker with it
+  -- the wakes of the end of a request, which takes its waker with it
   abbrev pub leave_hands : List (Entry W) → Option ℕ → Handed (List (Entry W)) W
   leave_hands es None = nothing es
   leave_hands es (Some t) = more_hands (is_front t (numbers es)) (left_by t es)
 
-  -- what is registered is the queue with the wakers
+  -- the queue is registered, with its wakers
   abbrev pub fair_wakings : Wakings PermitQueue Held PermitCall Heard W
   fair_wakings = record {
     Registered = List (Entry W);
@@ -103,7 +103,7 @@ module _ {W : Type 0} where
     calls = λ o es call p a. call_hands more_hands o.permits es call;
   }
 
--- requests that wait have different tickets
+-- two requests that wait have different tickets
 abbrev pub Differ : Option ℕ → Option ℕ → Type 0
 Differ (Some t) (Some u) = t ≡ u → ⊥
 Differ (Some t) None = Unit {0}
@@ -117,7 +117,7 @@ module _ {W : Type 0} where
   abbrev pub object_of : Fair W → PermitQueue
   object_of s = record { permits = s.permits; queue = numbers s.entries }
 
-  -- a ticket names a request that waits
+  -- a ticket, if there is one, names a request that waits
   abbrev pub FitsFor : Fair W → Held → Type 0
   FitsFor s h = NamesWaiting (ticket_of h) s.entries
 

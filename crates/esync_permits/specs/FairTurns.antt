@@ -9,12 +9,12 @@ use Rattle.esync_permits.specs.FairRules.{Held, Heard}
 use Rattle.esync_machine.specs.declared.primitive.Answer.{Answer}
 use Rattle.esync_machine.specs.declared.primitive.Answer.TheVariants.{Pending, Gives}
 
--- what it answers
+-- what the machine answers to the poll
 abbrev pub answer_of : FairPoll → Answer Heard
 answer_of (Ready answer) = Gives (Granted answer)
 answer_of (Waits t) = Pending
 
--- what then stands at the number of the request
+-- what stands at the number of the request afterwards
 abbrev pub place_of : Amount → FairPoll → Option Held
 place_of amount (Ready (Ok k)) = Some (Releaser k)
 place_of amount (Ready (Err e)) = None

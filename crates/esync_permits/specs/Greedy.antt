@@ -1,4 +1,4 @@
--- The greedy semaphore: its permits, and the slot for who waits.
+-- The greedy semaphore: its permits, and the slot for the waker of a task that waits.
 use Rattle.std.specs.Prelude.{ℕ, Bool, true, false, List, [], Option, Some, None, refl}
 use Rattle.std.specs.Coded.{Coded, code_by, coded×, coded_ℕ, coded_list}
 use Rattle.esync_base.specs.Registration.{registered, displaced}
@@ -6,7 +6,7 @@ use Rattle.esync_permits.specs.declared.semaphore.Amount.{Amount}
 
 pub record Greedy (W : Type 0) : Type 0 where
   pub permits : ℕ
-  -- who waits: at most one waker
+  -- the registered waker, at most one
   pub waiter : List W
 
 abbrev pub greedy_code : {W : Type 0} → Coded W → Coded (Greedy W)
@@ -23,7 +23,7 @@ module _ {W : Type 0} (eq : W → W → Bool) (w : W) where
   wakes_of_poll (Some k) slot = []
   wakes_of_poll None slot = displaced eq 1 slot w
 
--- the slot is emptied where it is handed out
+-- the slot is emptied if it is handed out
 abbrev pub slot_after_more : {W : Type 0} → Bool → List W → List W
 slot_after_more true slot = []
 slot_after_more false slot = slot

@@ -18,12 +18,12 @@ use Rattle.esync_machine.specs.Wakings.{Wakings, Handed, nothing, registers, han
 abbrev pub Held : Type 0
 Held = PermitHeld (Unit {0})
 
--- a poll that is granted makes a releaser of the request, and another one leaves it as it is
+-- a poll that is granted makes a releaser of the request; any other leaves the request as it is
 abbrev pub Polled : Amount → Option ℕ → Answer (PermitHeard ℕ) → Option Held → Type 0
 Polled amount (Some k) a p = (a ≡ Gives (Granted k)) × (p ≡ Some (Releaser k))
 Polled amount None a p = (a ≡ Pending) × (p ≡ Some (Waiting amount tt))
 
--- the object is the number of permits, and whoever finds enough of them takes them
+-- the object is the number of permits, and every request that finds enough of them takes them
 abbrev pub greedy : Discipline (Unit {0}) ℕ
 greedy = record {
   Core = ℕ;
@@ -43,12 +43,12 @@ abbrev pub more_hands : {W : Type 0} → Bool → List W → Handed (List W) W
 more_hands true slot = hands_out slot
 more_hands false slot = nothing slot
 
--- a poll that isn't granted registers
+-- a poll that isn't granted registers its waker
 abbrev pub poll_hands : {W : Type 0} → (W → W → Bool) → List W → W → Bool → Handed (List W) W
 poll_hands eq slot w true = registers eq slot w
 poll_hands eq slot w false = nothing slot
 
--- one waker at most is registered
+-- at most one waker is registered
 abbrev pub greedy_wakings : {W : Type 0} → (W → W → Bool) → Wakings ℕ Held PermitCall (PermitHeard ℕ) W
 greedy_wakings {W} eq = record {
   Registered = List W;

@@ -1,4 +1,4 @@
--- What semaphores of both kinds allow and hand out, for each request and call.
+-- What semaphores of both kinds allow for each request and each call, and which wakers they hand out.
 use Rattle.std.specs.Prelude.{◌≡◌, ℕ, Bool, false, Option, Some, None, nat_lt}
 use Rattle.esync_permits.specs.Permits.{released}
 use Rattle.esync_permits.specs.declared.semaphore.Amount.{Amount}
@@ -34,7 +34,7 @@ pub record Discipline (T G : Type 0) : Type 1 where
   pub Core : Type 0
   -- the permits that are there
   pub permits : Core → ℕ
-  -- the object with this number of permits is the other one
+  -- the first object becomes the second by setting this number of permits
   pub Puts : Core → ℕ → Core → Type 0
   -- what a request has before its first poll
   pub first : T
@@ -46,7 +46,7 @@ pub record Discipline (T G : Type 0) : Type 1 where
   pub tries : Core → Amount → Option ℕ → Core → Type 0
 
 module _ {T G : Type 0} (D : Discipline T G) where
-  -- the number is of another kind, and nothing changes
+  -- what stands at the number is of another kind, and nothing changes
   abbrev pub IsOther : D.Core → Option (PermitHeld T) → Answer (PermitHeard G) → D.Core → Option (PermitHeld T) → Type 0
   IsOther o p a o2 p2 = (a ≡ NoSuch) × (o2 ≡ o) × (p2 ≡ p)
 
@@ -59,12 +59,12 @@ module _ {T G : Type 0} (D : Discipline T G) where
   Ends o (Waiting amount t) o2 = D.leaves o t o2
   Ends o (Releaser k) o2 = D.Puts o (released (D.permits o) k) o2
 
-  -- a try needs a free number
+  -- a try on a number, which has to be free
   abbrev pub Tries : D.Core → Amount → Option (PermitHeld T) → Answer (PermitHeard G) → D.Core → Option (PermitHeld T) → Type 0
   Tries o amount None a o2 p2 = (got : Option ℕ) × D.tries o amount got o2 × (a ≡ Gives (Tried got)) × (p2 ≡ releaser got)
   Tries o amount (Some h) a o2 p2 = IsOther o (Some h) a o2 p2
 
-  -- a releaser that is disarmed keeps its permits from coming back
+  -- a releaser that is disarmed doesn't give its permits back
   abbrev pub Disarms : D.Core → Option (PermitHeld T) → Answer (PermitHeard G) → D.Core → Option (PermitHeld T) → Type 0
   Disarms o (Some (Releaser k)) a o2 p2 = (a ≡ Gives (Count k)) × (o2 ≡ o) × (p2 ≡ None)
   Disarms o (Some (Waiting amount t)) a o2 p2 = IsOther o (Some (Waiting amount t)) a o2 p2
@@ -94,14 +94,14 @@ module _ {T G : Type 0} (D : Discipline T G) where
     WakesItself = ⊥;
   }
 
--- which wakers are handed out, where these are by more permits
+-- The wakers that are handed out, by those that more permits hand out.
 module _ {R W : Type 0} (more : Bool → R → Handed R W) where
-  -- by the end of what stands at a number, where a request that ends hands out those
+  -- the wakes of the end of what stands at a number, by those of a request that ends
   abbrev pub end_hands : {T : Type 0} → (R → T → Handed R W) → R → PermitHeld T → Handed R W
   end_hands leaves g (Waiting amount t) = leaves g t
   end_hands leaves g (Releaser k) = more (nat_lt 0 k) g
 
-  -- by a call that finds n permits
+  -- the wakes of a call that finds n permits
   abbrev pub call_hands : ℕ → R → PermitCall → Handed R W
   call_hands n g (Try r amount) = nothing g
   call_hands n g (Disarm r) = nothing g
@@ -109,7 +109,7 @@ module _ {R W : Type 0} (more : Bool → R → Handed R W) where
   call_hands n g (Set k) = more (nat_lt n k) g
   call_hands n g Permits = nothing g
 
--- what is owed to a request, and nothing to a releaser
+-- what is owed to a request; a releaser is owed nothing
 abbrev pub owed_waiting : {S T W : Type 0} → (S → Amount → T → W → Type 0) → S → PermitHeld T → W → Type 0
 owed_waiting owes s (Waiting amount t) w = owes s amount t w
 owed_waiting owes s (Releaser k) w = ⊥

@@ -1,4 +1,4 @@
--- Permits that are there and those of live releasers add up, as long as nobody sets, disarms or releases.
+-- Permits that are there and those of live releasers add up, as long as no command sets, disarms or releases.
 use Rattle.std.specs.Prelude.{◌≡◌, ℕ, ◌+◌, ◌-◌, ◌^◌, ◌≤◌, List, [], ◌∷◌, Option, Some, None}
 use Rattle.esync_machine.specs.Runs.{Each}
 use Rattle.esync_machine.specs.Object.{Object}
@@ -22,7 +22,7 @@ IsPlain (Start r amount) = Unit {0}
 IsPlain (Poll r w) = Unit {0}
 IsPlain (End r) = Unit {0}
 
--- the permits of what stands at a number, and of all numbers
+-- how many permits stand at a number, and at all numbers
 abbrev pub granted_at : {T : Type 0} → Option (PermitHeld T) → ℕ
 granted_at None = 0
 granted_at (Some (Waiting amount t)) = 0
@@ -32,10 +32,10 @@ abbrev pub granted_in : {T : Type 0} → List (Option (PermitHeld T)) → ℕ
 granted_in [] = 0
 granted_in (p ∷ row) = granted_at p + granted_in row
 
--- the permits that are there, and those of live releasers
+-- the permits that are there and those of live releasers, in all
 abbrev pub total : {T G : Type 0} (D : Discipline T G) → Object D.Core (PermitHeld T) → ℕ
 total D o = D.permits o.core + granted_in o.requests
 
--- plain commands leave a total that it was possible to have
+-- plain commands leave the total as it was, if the total fits in a number
 abbrev pub AddsUp : {W : Type 0} → ℕ → List (Command Amount W PermitCall) → ℕ → Type 0
 AddsUp total commands total2 = total ≤ 2 ^ 64 - 1 → Each IsPlain commands → total2 ≡ total

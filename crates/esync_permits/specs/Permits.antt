@@ -15,12 +15,12 @@ abbrev pub taken : ℕ → Amount → ℕ
 taken n (Exactly k) = k
 taken n (AllFrom k) = n
 
--- of n permits these are taken where enough are there, and none elsewhere; n2 are left
+-- a request takes these of n permits if enough are there, and otherwise none; n2 are left
 abbrev pub Takes : ℕ → Amount → Option ℕ → ℕ → Type 0
 Takes n amount (Some k) n2 = (least amount ≤ n) × (k ≡ taken n amount) × (n2 ≡ n - k)
 Takes n amount None n2 = (n < least amount) × (n2 ≡ n)
 
--- the same of a request whose turn it is; another one takes none
+-- a request takes permits only if it is its turn
 abbrev pub TakesInTurn : Bool → ℕ → Amount → Option ℕ → ℕ → Type 0
 TakesInTurn true n amount got n2 = Takes n amount got n2
 TakesInTurn false n amount got n2 = (got ≡ None) × (n2 ≡ n)
@@ -34,7 +34,7 @@ abbrev pub granted : Poll ℕ → Option ℕ
 granted (Ready k) = Some k
 granted Pending = None
 
--- who waits is woken where there is news
+-- the wakers that are handed out, if there is news
 abbrev pub woken_if : {W : Type 0} → Bool → List W → List W
 woken_if true wakers = wakers
 woken_if false wakers = []

@@ -7,22 +7,22 @@ use Rattle.esync_permits.specs.declared.semaphore.Amount.TheVariants.{Exactly, A
 use Rattle.esync_permits.specs.Fair.{Request}
 use Rattle.esync_permits.specs.declared.semaphore.shared.SemaphoreReleaser.{SemaphoreReleaser}
 
--- so many permits are what a request for this amount is granted
+-- a request for this amount may be granted n permits
 abbrev pub Suits : Amount → ℕ → Type 0
 Suits (Exactly k) n = n ≡ k
 Suits (AllFrom k) n = k ≤ n
 
--- a fact of what a poll answers, where it is ready
+-- a fact about the answer of a poll, if it is ready
 abbrev pub IfReady : {T : Type 0} → Poll T → (T → Type 0) → Type 0
 IfReady (Ready x) P = P x
 IfReady Pending P = Unit {0}
 
--- what a poll leaves of the amount that its request is for: nothing once it is over
+-- what a poll leaves of the amount that its request is for: nothing once it is answered
 abbrev pub Leaves : {T : Type 0} → Poll T → Option Amount → Option Amount → Type 0
 Leaves (Ready x) old new = new ≡ None
 Leaves Pending old new = new ≡ old
 
--- what a request of a fair semaphore is for, until it is over
+-- the amount that a request of a fair semaphore is for, until it is answered
 abbrev pub unless : Bool → Amount → Option Amount
 unless true amount = None
 unless false amount = Some amount

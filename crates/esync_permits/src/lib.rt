@@ -1,4 +1,4 @@
-//! Permits, and who waits for them: the greedy and the fair semaphore.
+//! The greedy and the fair semaphore: permits, and the requests that wait for them.
 #![tactic(auto)]
 
 pub mod queue;

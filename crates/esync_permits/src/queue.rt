@@ -1,4 +1,4 @@
-//! The queue of a fair semaphore: who waits, in order.
+//! The queue of a fair semaphore: the requests that wait, in order.
 ghost use Rattle.std.specs.Prelude.{◌≡◌, ◌<◌, [], Some, None, false, length, drop, map, slice_get, IfSome, IfNone};
 ghost use Rattle.esync_base.specs.Listed.{is_in};
 ghost use Rattle.esync_permits.specs.Queue.{is_front, is_next, numbers, entered, with_waker, left_by, IsLeastFree, StandsAt};
@@ -9,7 +9,7 @@ use std::alloc::AllocError;
 use std::fmt;
 use std::marker::Model;
 
-/// A place in the queue: its number, and the waker of the request that waits there.
+/// An entry of the queue: its number, and the waker of the request that waits there.
 #[derive_where(Clone, Copy; W: Copy)]
 #[derive(Debug, Drop)]
 pub struct Entry<W> {
@@ -17,7 +17,7 @@ pub struct Entry<W> {
     pub waker: W,
 }
 
-// How many stand before the entry of this number.
+// How many entries stand before the entry with this number.
 fn place_of<W: Copy, const N: usize>(entries: &Deque<Entry<W>, N>, number: usize) -> Option<usize>
     ensures found { IfSome result (λ i. StandsAt number i entries.now.items) }
     ensures none { IfNone result (is_in number (numbers entries.now.items) ≡ false) }
@@ -42,40 +42,41 @@ fn free_number<W: Copy, const N: usize>(entries: &Deque<Entry<W>, N>) -> usize
     entries.len()
 }
 
-/// Where the requests that wait for a fair semaphore stand, oldest first, however many places there are.
+/// The queue of the requests that wait for a fair semaphore, oldest first, whatever its number of places.
 pub trait WaitQueue: Drop {
     type Waker: Copy + Eq;
 
     ghost use Rattle.std.specs.Prelude.{ℕ, List};
     ghost use Rattle.esync_permits.specs.declared.queue.Entry.{Entry};
 
-    /// How many places there are.
+    /// How many places the queue has.
     ghost places: { ℕ };
 
     /// The entries, oldest first.
     ghost entries: { Self → List (Entry Self.Waker) };
 
-    /// No entries.
+    /// Returns a queue without entries.
     fn new() -> Self
         ensures { entries result ≡ [] };
 
-    /// Nobody waits.
+    /// Returns whether the queue is empty.
     fn is_empty(&self) -> bool
         ensures { result ≡ is_next None (numbers (entries self.now)) };
 
-    /// A request waits under this number.
+    /// Returns whether a request waits under the number.
     fn is_waiting(&self, number: usize) -> bool
         ensures { result ≡ is_in number (numbers (entries self.now)) };
 
-    /// The entry in front has this number.
+    /// Returns whether the entry in front has the number.
     fn is_front(&self, number: usize) -> bool
         ensures { result ≡ is_front number (numbers (entries self.now)) };
 
-    /// The waker in the entry behind the first `i` ones, if there is one.
+    /// Returns the waker in entry `i`, counted from the front, or `None` if there is no such entry.
     fn waker(&self, i: usize) -> Option<Self::Waker>
         ensures { result ≡ slice_get (map (λ e. e.waker) (entries self.now)) i };
 
-    /// Puts an entry at the back, under the least number that no entry has. A full queue stays as it is.
+    /// Puts an entry at the back, under the least number that no entry has, and returns the number. If the queue is
+    /// full, returns `None`, and the queue stays as it is.
     fn enter(&mut self, waker: Self::Waker) -> Option<usize>
         ensures room { IfSome result (λ number. length (entries self.old) < places) }
         ensures number { IfSome result (λ number. IsLeastFree number (numbers (entries self.old))) }
@@ -83,15 +84,15 @@ pub trait WaitQueue: Drop {
         ensures full { IfNone result (length (entries self.old) ≡ places) }
         ensures refused { IfNone result (entries self.new ≡ entries self.old) };
 
-    /// The entry of this number has another waker from now on.
+    /// Replaces the waker in the entry with the number.
     fn set_waker(&mut self, number: usize, waker: Self::Waker)
         ensures { entries self.new ≡ with_waker number waker (entries self.old) };
 
-    /// The front entry leaves.
+    /// Removes the entry in front, if there is one.
     fn pop_front(&mut self)
         ensures { entries self.new ≡ drop 1 (entries self.old) };
 
-    /// The entry of this number leaves, wherever it stands. The ones behind it move up.
+    /// Removes the entry with the number, wherever it stands. The entries behind it move up.
     fn remove(&mut self, number: usize)
         ensures { entries self.new ≡ left_by number (entries self.old) };
 }

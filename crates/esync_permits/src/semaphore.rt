@@ -1,7 +1,9 @@
-//! Semaphores: a number of permits to a pool of resources, and who waits for some of them.
+//! Semaphores: a number of permits to a pool of resources, and the requests that wait for some of them. A semaphore
+//! holds no resources, only the number of permits.
 //!
-//! The state forms take `&mut self`, hold no lock and wait for nobody. What a call hands out, it appends to the list of
-//! wakes that it is given; who gets the list wakes them. A semaphore holds no resources, only the number of permits.
+//! The state forms take `&mut self`, hold no lock and never wait. Each call appends the wakers that it hands out to the
+//! list of wakes that it is given, and the caller wakes their tasks. A registration in a greedy semaphore hands out the
+//! waker that it displaces.
 ghost use Rattle.std.specs.Prelude.{◌≡◌, ℕ, ◌<◌, ◌++◌, [], length, nat_lt, ◌↔◌, Some, None, true, false, IsTrue, IsSome, IfSome, is_some, is_none};
 ghost use Rattle.esync_permits.specs.Permits.{least, taken, Takes, TakesInTurn, released, granted, woken_if};
 ghost use Rattle.esync_permits.specs.Greedy.{slot_after_poll, wakes_of_poll, slot_after_more, rest_of};
@@ -24,17 +26,17 @@ use thiserror::Error;
 pub mod machine;
 mod shared;
 
-/// How many permits a request is for.
+/// The number of permits that a request is for.
 #[derive(Clone, Copy, Debug, PartialEq, Eq)]
 pub enum Amount {
-    /// This number.
+    /// Exactly this number.
     Exactly(usize),
-    /// All that are there, where that is at least this number.
+    /// All permits that are there, if they are at least this number.
     AllFrom(usize),
 }
 
 impl Amount {
-    // How many permits have to be there.
+    // How many permits have to be there for a grant.
     fn least(self) -> usize
         ensures { result ≡ least self }
     {
@@ -44,7 +46,7 @@ impl Amount {
         }
     }
 
-    // How many are taken of those that are there.
+    // How many permits a grant takes of those that are there.
     fn taken(self, permits: usize) -> usize
         ensures { result ≡ taken permits self }
     {
@@ -55,7 +57,7 @@ impl Amount {
     }
 }
 
-// Takes the permits of a request where enough are there.
+// Takes the permits of a request if enough are there.
 fn take(permits: &mut usize, amount: Amount) -> Option<usize>
     ensures { Takes permits.old amount result permits.new }
 {
@@ -74,9 +76,9 @@ fn give_back(permits: &mut usize, more: usize)
     *permits = permits.saturating_add(more);
 }
 
-/// The state of a greedy semaphore: its permits, and the waker of who waits for some.
+/// The state of a greedy semaphore: its permits, and a slot for the waker of a task that waits for some.
 ///
-/// A request is granted as soon as its permits are there, even if another one waits for more of them.
+/// A request is granted as soon as its permits are there, even if another request waits for more.
 #[derive(Debug, Drop)]
 pub struct GreedyState<W> {
     available: usize,
@@ -111,7 +113,7 @@ impl<W: Copy + Eq> Default for GreedyState<W> {
     }
 }
 
-/// Who waits for permits.
+/// Place 0 is the slot of the task that waits for permits.
 impl<W: Copy + Eq> Registered for GreedyState<W> {
     type Waker = W;
 
@@ -128,7 +130,7 @@ impl<W: Copy + Eq> Registered for GreedyState<W> {
 }
 
 impl<W: Copy + Eq> GreedyState<W> {
-    /// This number of permits, and nobody who waits.
+    /// Returns a semaphore with the number of permits and without a registered waker.
     pub fn new(permits: usize) -> Self
         ensures permits { result.permits ≡ permits }
         ensures waiter { result.waiter ≡ [] }
@@ -139,7 +141,7 @@ impl<W: Copy + Eq> GreedyState<W> {
         }
     }
 
-    /// How many permits are there to be taken.
+    /// Returns how many permits are there to be taken.
     pub fn permits(&self) -> usize
         ensures { result ≡ self.now.permits }
     {
@@ -153,7 +155,7 @@ impl<W: Copy + Eq> GreedyState<W> {
         take(&mut self.available, amount)
     }
 
-    /// Takes this number of permits, if they are there.
+    /// Takes `permits` permits if they are there, and returns how many were taken. Otherwise returns `None`.
     pub fn try_acquire(&mut self, permits: usize) -> Option<usize>
         ensures permits { Takes self.old.permits (Amount.Exactly permits) result self.new.permits }
         ensures waiter { self.new.waiter ≡ self.old.waiter }
@@ -161,7 +163,7 @@ impl<W: Copy + Eq> GreedyState<W> {
         self.try_take(Amount::Exactly(permits))
     }
 
-    /// Takes all permits, if at least `min` are there.
+    /// Takes all permits if at least `min` are there, and returns how many were taken. Otherwise returns `None`.
     pub fn try_acquire_all(&mut self, min: usize) -> Option<usize>
         ensures permits { Takes self.old.permits (Amount.AllFrom min) result self.new.permits }
         ensures waiter { self.new.waiter ≡ self.old.waiter }
@@ -189,7 +191,8 @@ impl<W: Copy + Eq> GreedyState<W> {
         }
     }
 
-    /// Takes this number of permits, if they are there. If not, the context's waker waits for them.
+    /// Takes `permits` permits if they are there, and returns how many were taken. Otherwise registers the context's
+    /// waker and returns Pending.
     pub fn poll_acquire<const K: usize>(
         &mut self,
         permits: usize,
@@ -204,7 +207,8 @@ impl<W: Copy + Eq> GreedyState<W> {
         self.poll(Amount::Exactly(permits), cx.waker(), wakes)
     }
 
-    /// Takes all permits, if at least `min` are there. If not, the context's waker waits for them.
+    /// Takes all permits if at least `min` are there, and returns how many were taken. Otherwise registers the
+    /// context's waker and returns Pending.
     pub fn poll_acquire_all<const K: usize>(
         &mut self,
         min: usize,
@@ -219,7 +223,7 @@ impl<W: Copy + Eq> GreedyState<W> {
         self.poll(Amount::AllFrom(min), cx.waker(), wakes)
     }
 
-    // Wakes who waits, if there is more than before.
+    // Hands out the registered waker, if there are more permits than before.
     fn tell<const K: usize>(&mut self, more: bool, wakes: &mut Wakes<W, K>)
         requires { length wakes.old < K }
         ensures permits { self.new.permits ≡ self.old.permits }
@@ -231,7 +235,8 @@ impl<W: Copy + Eq> GreedyState<W> {
         }
     }
 
-    /// Gives permits back, up to `usize::MAX`, and wakes who waits.
+    /// Gives `permits` permits back, up to `usize::MAX` in all. Hands out the registered waker if `permits` is more
+    /// than 0.
     pub fn release<const K: usize>(&mut self, permits: usize, wakes: &mut Wakes<W, K>)
         requires { length wakes.old < K }
         ensures permits { self.new.permits ≡ released self.old.permits permits }
@@ -242,7 +247,7 @@ impl<W: Copy + Eq> GreedyState<W> {
         self.tell(0 < permits, wakes);
     }
 
-    /// Makes this the number of permits that are there. Wakes who waits, if it is more than before.
+    /// Sets the number of permits that are there. Hands out the registered waker if it is more than before.
     pub fn set<const K: usize>(&mut self, permits: usize, wakes: &mut Wakes<W, K>)
         requires { length wakes.old < K }
         ensures permits { self.new.permits ≡ permits }
@@ -270,7 +275,7 @@ impl Model for GreedyRequest {
 }
 
 impl GreedyRequest {
-    /// A request for this amount, which has heard nothing yet.
+    /// Returns a request for the amount, which isn't answered yet.
     pub fn new(amount: Amount) -> Self
         ensures { result ≡ Some amount }
     {
@@ -279,16 +284,17 @@ impl GreedyRequest {
         }
     }
 
-    /// The permits were granted.
+    /// Returns whether the permits were granted.
     pub fn is_finished(&self) -> bool
         ensures { result ≡ is_none self.now }
     {
         self.amount.is_none()
     }
 
-    /// Takes the permits, if they are there. If not, the context's waker waits for them.
+    /// Takes the permits if they are there, and returns how many were taken. Otherwise registers the context's waker
+    /// and returns Pending.
     ///
-    /// A request that is finished is not polled.
+    /// A finished request may not be polled.
     pub fn poll_state<W: Copy + Eq, const K: usize>(
         &mut self,
         state: &mut GreedyState<W>,
@@ -313,12 +319,13 @@ impl GreedyRequest {
     }
 }
 
-/// The queue of a fair semaphore is full.
+/// The error of a request that found the queue of a fair semaphore full.
 #[derive(Clone, Copy, Debug, PartialEq, Eq, Error)]
 #[error("the queue of the semaphore is full")]
 pub struct WaitQueueFull;
 
-/// What a waiting request of a fair semaphore is known by: the least number that no other one had when it came to wait.
+/// The name of a request that waits for a fair semaphore: the least number that no other request had when it came to
+/// wait.
 #[derive(Clone, Copy, Debug, PartialEq, Eq)]
 pub struct Ticket {
     number: usize,
@@ -334,10 +341,10 @@ impl Model for Ticket {
     ghost inverse = { λ n. record { number = n } };
 }
 
-/// What a poll of a fair semaphore answers.
+/// The answer of a poll of a fair semaphore.
 #[derive(Clone, Copy, Debug, PartialEq, Eq)]
 pub enum FairPoll {
-    /// This number of permits was granted, or there was no place in the queue.
+    /// The number of permits that were granted, or the error that there was no place in the queue.
     Ready(Result<usize, WaitQueueFull>),
     /// The request waits, and has this ticket.
     Pending(Ticket),
@@ -348,8 +355,8 @@ pub type FairState<W, const N: usize> = FairOver<Queue<W, N>>;
 
 /// The state of a fair semaphore: its permits, and a queue of requests that wait for some.
 ///
-/// Requests are granted in the order in which they came to wait. One that waits for many permits keeps all others from
-/// theirs until it is granted or ends. A request that ends gives its place back at once.
+/// Requests are granted in the order in which they came to wait. A request that waits for many permits keeps all
+/// requests behind it waiting until it is granted or ends. A request that ends gives its place back at once.
 #[derive(Debug, Drop)]
 pub struct FairOver<Q: WaitQueue> {
     permits: usize,
@@ -384,7 +391,7 @@ impl<Q: WaitQueue> Default for FairOver<Q> {
     }
 }
 
-/// Who waits in the queue, in order.
+/// Place 0 is the queue of the tasks that wait for permits, in order.
 impl<Q: WaitQueue> Registered for FairOver<Q> {
     type Waker = Q::Waker;
 
@@ -402,7 +409,7 @@ impl<Q: WaitQueue> Registered for FairOver<Q> {
 }
 
 impl<Q: WaitQueue> FairOver<Q> {
-    /// This number of permits, and nobody who waits.
+    /// Returns a semaphore with the number of permits, for which no request waits.
     pub fn new(permits: usize) -> Self
         ensures permits { result.permits ≡ permits }
         ensures entries { result.entries ≡ [] }
@@ -413,21 +420,21 @@ impl<Q: WaitQueue> FairOver<Q> {
         }
     }
 
-    /// How many permits are there to be taken.
+    /// Returns how many permits are there to be taken.
     pub fn permits(&self) -> usize
         ensures { result ≡ self.now.permits }
     {
         self.permits
     }
 
-    /// The request of this ticket waits.
+    /// Returns whether the request of the ticket waits.
     pub fn is_waiting(&self, ticket: Ticket) -> bool
         ensures { result ≡ is_in ticket (numbers self.now.entries) }
     {
         self.queue.is_waiting(ticket.number)
     }
 
-    // Takes the permits of a request that has no ticket: only where nobody waits.
+    // Takes the permits of a request that has no ticket, only if no request waits.
     fn try_take(&mut self, amount: Amount) -> Option<usize>
         ensures permits { TakesInTurn (is_next None (numbers self.old.entries)) self.old.permits amount result self.new.permits }
         ensures entries { self.new.entries ≡ self.old.entries }
@@ -438,7 +445,8 @@ impl<Q: WaitQueue> FairOver<Q> {
         take(&mut self.permits, amount)
     }
 
-    /// Takes this number of permits, if they are there and nobody waits.
+    /// Takes `permits` permits if they are there and no request waits, and returns how many were taken. Otherwise
+    /// returns `None`.
     pub fn try_acquire(&mut self, permits: usize) -> Option<usize>
         ensures permits { TakesInTurn (is_next None (numbers self.old.entries)) self.old.permits (Amount.Exactly permits) result self.new.permits }
         ensures entries { self.new.entries ≡ self.old.entries }
@@ -446,7 +454,8 @@ impl<Q: WaitQueue> FairOver<Q> {
         self.try_take(Amount::Exactly(permits))
     }
 
-    /// Takes all permits, if at least `min` are there and nobody waits.
+    /// Takes all permits if at least `min` are there and no request waits, and returns how many were taken. Otherwise
+    /// returns `None`.
     pub fn try_acquire_all(&mut self, min: usize) -> Option<usize>
         ensures permits { TakesInTurn (is_next None (numbers self.old.entries)) self.old.permits (Amount.AllFrom min) result self.new.permits }
         ensures entries { self.new.entries ≡ self.old.entries }
@@ -513,11 +522,14 @@ impl<Q: WaitQueue> FairOver<Q> {
         }
     }
 
-    /// Takes this number of permits, if they are there and it is the request's turn: it is in front, or has no ticket
-    /// and nobody waits. If not, the context's waker waits for them. A request without a ticket waits at the back, if
-    /// there is a place.
+    /// Takes `permits` permits if they are there and it is the request's turn, and returns how many were taken. It is
+    /// its turn if it is in front, or if it has no ticket and no request waits.
     ///
-    /// A ticket names a request that waits (`is_waiting`).
+    /// Otherwise registers the context's waker in the request's entry, and returns its ticket. A request without a
+    /// ticket gets an entry at the back; if the queue is full, it gets the error. A grant to a request with a ticket
+    /// hands out the waker of the request that is in front then.
+    ///
+    /// A ticket has to name a request that waits (`is_waiting`).
     pub fn poll_acquire<const K: usize>(
         &mut self,
         permits: usize,
@@ -535,10 +547,9 @@ impl<Q: WaitQueue> FairOver<Q> {
         self.poll(Amount::Exactly(permits), ticket, cx.waker(), wakes)
     }
 
-    /// Takes all permits, if at least `min` are there and it is the request's turn, as in `poll_acquire`. If not, the context's
-    /// waker waits for them. A request without a ticket waits at the back, if there is a place.
+    /// Like `poll_acquire`, but takes all permits, if at least `min` are there.
     ///
-    /// A ticket names a request that waits (`is_waiting`).
+    /// A ticket has to name a request that waits (`is_waiting`).
     pub fn poll_acquire_all<const K: usize>(
         &mut self,
         min: usize,
@@ -556,9 +567,10 @@ impl<Q: WaitQueue> FairOver<Q> {
         self.poll(Amount::AllFrom(min), ticket, cx.waker(), wakes)
     }
 
-    /// Ends a request that waits, which leaves the queue. Where it was in front, the one that is in front then is woken.
+    /// Ends a request that waits. It leaves the queue. If it was in front, hands out the waker of the request that is
+    /// in front then.
     ///
-    /// The ticket names a request that waits (`is_waiting`).
+    /// The ticket has to name a request that waits (`is_waiting`).
     pub fn cancel<const K: usize>(&mut self, ticket: Ticket, wakes: &mut Wakes<Q::Waker, K>)
         requires room { length wakes.old < K }
         requires waits { NamesWaiting (Some ticket) self.old.entries }
@@ -571,7 +583,7 @@ impl<Q: WaitQueue> FairOver<Q> {
         self.tell(was_front, wakes);
     }
 
-    // Wakes who is in front, if there is news for it.
+    // Hands out the waker of the request in front, if there is news for it.
     fn tell<const K: usize>(&self, news: bool, wakes: &mut Wakes<Q::Waker, K>)
         requires { length wakes.old < K }
         ensures { wakes.new ≡ wakes.old ++ woken_if news (front_wakers self.now.entries) }
@@ -583,7 +595,8 @@ impl<Q: WaitQueue> FairOver<Q> {
         }
     }
 
-    /// Gives permits back, up to `usize::MAX`, and wakes who is in front.
+    /// Gives `permits` permits back, up to `usize::MAX` in all. Hands out the waker of the request in front if
+    /// `permits` is more than 0. The waker stays in its entry.
     pub fn release<const K: usize>(&mut self, permits: usize, wakes: &mut Wakes<Q::Waker, K>)
         requires { length wakes.old < K }
         ensures permits { self.new.permits ≡ released self.old.permits permits }
@@ -594,7 +607,8 @@ impl<Q: WaitQueue> FairOver<Q> {
         self.tell(permits > 0, wakes);
     }
 
-    /// Makes this the number of permits that are there. Wakes who is in front, if it is more than before.
+    /// Sets the number of permits that are there. Hands out the waker of the request in front if it is more than
+    /// before. The waker stays in its entry.
     pub fn set<const K: usize>(&mut self, permits: usize, wakes: &mut Wakes<Q::Waker, K>)
         requires { length wakes.old < K }
         ensures permits { self.new.permits ≡ permits }
@@ -623,7 +637,7 @@ impl Model for FairRequest {
 }
 
 impl FairRequest {
-    /// A request for this amount, which has heard nothing yet.
+    /// Returns a request for the amount, which isn't answered yet.
     pub fn new(amount: Amount) -> Self
         ensures { result ≡ record { amount = amount; ticket = None; finished = false } }
     {
@@ -634,21 +648,21 @@ impl FairRequest {
         }
     }
 
-    /// The permits were granted, or there was no place in the queue.
+    /// Returns whether the request was answered: the permits were granted, or there was no place in the queue.
     pub fn is_finished(&self) -> bool
         ensures { result ≡ self.now.finished }
     {
         self.finished
     }
 
-    /// The ticket that it waits with.
+    /// Returns the ticket of the request, or `None` if it doesn't wait.
     pub fn ticket(&self) -> Option<Ticket>
         ensures { result ≡ self.now.ticket }
     {
         self.ticket
     }
 
-    // It has heard its answer.
+    // Marks the request as answered.
     fn finish(&mut self)
         ensures { self.new ≡ record self.old { ticket = None; finished = true } }
     {
@@ -659,7 +673,7 @@ impl FairRequest {
         };
     }
 
-    /// It has no ticket, or one that names a request that waits in this state.
+    /// Returns whether the request has no ticket, or a ticket that names a request which waits in the state.
     pub fn belongs_to<Q: WaitQueue>(&self, state: &FairOver<Q>) -> bool
         ensures { IsTrue result ↔ NamesWaiting self.now.ticket state.now.entries }
     {
@@ -669,9 +683,11 @@ impl FairRequest {
         }
     }
 
-    /// Takes the permits, if they are there and it is the request's turn. If not, the context's waker waits for them.
+    /// Takes the permits if they are there and it is the request's turn, and returns how many were taken. Otherwise
+    /// registers the context's waker in the request's entry and returns Pending. An error means that there was no place
+    /// in the queue. A grant to a request that waited hands out the waker of the request that is in front then.
     ///
-    /// A request that is finished is not polled. Its ticket names a request that waits in the state (`belongs_to`).
+    /// A finished request may not be polled. Its ticket has to name a request that waits in the state (`belongs_to`).
     pub fn poll_state<Q: WaitQueue, const K: usize>(
         &mut self,
         state: &mut FairOver<Q>,
@@ -686,7 +702,7 @@ impl FairRequest {
         ensures entries { Queues Q.places cx.now self.old.ticket state.old.entries self.new.ticket state.new.entries }
         ensures wakes { wakes.new ≡ wakes.old ++ wakes_of_grant self.old.ticket (granted_by (request_heard result)) state.new.entries }
 
-        // It has a ticket while it waits.
+        // The request has a ticket while it waits.
         ensures ticket { is_some self.new.ticket ≡ is_none (request_heard result) }
         ensures request { self.new ≡ record self.old { ticket = self.new.ticket; finished = is_some (request_heard result) } }
     {
@@ -705,9 +721,10 @@ impl FairRequest {
         }
     }
 
-    /// Ends the request, and its waiting. Where it was in front, the one that is in front then is woken.
+    /// Ends the request. If it waits, it leaves the queue. If it was in front, hands out the waker of the request that
+    /// is in front then.
     ///
-    /// Its ticket names a request that waits in the state (`belongs_to`).
+    /// Its ticket has to name a request that waits in the state (`belongs_to`).
     pub fn end<Q: WaitQueue, const K: usize>(
         self,
         state: &mut FairOver<Q>,

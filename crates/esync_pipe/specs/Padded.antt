@@ -6,7 +6,7 @@ use Rattle.std.proofs.Math.ListN.{replicate}
 abbrev pub padded : ℕ → List ℕ → List ℕ
 padded l bytes = bytes ++ replicate (l - length bytes) 0
 
--- the first so many bytes of the row count, and the others are zeros
+-- the first len bytes of the row count, and the rest are zeros
 pub record IsPadded (l : ℕ) (row : List ℕ) (len : ℕ) : Type 0 where
   pub shape : row ≡ padded l (take len row)
   pub count : len ≡ length (take len row)

@@ -1,4 +1,4 @@
--- What the calls of a pipe of n places do: to its bytes, and to who waits.
+-- What the calls of a pipe of n places do to its bytes and to the registered wakers.
 use Rattle.std.specs.Prelude.{◌≡◌, ℕ, ◌-◌, ◌<◌, ◌==◌, ◌&&◌, min, Bool, true, false, not, List, [], ◌++◌, length, take, drop, Option, Some, None, Result, Ok, Err, is_ok, nat_lt}
 use Rattle.esync_base.specs.Ring.{Ringed, slot}
 use Rattle.esync_base.specs.Registration.{registered_if, displaced_if}
@@ -8,11 +8,11 @@ use Rattle.esync_pipe.specs.Piped.{Slots, Piped}
 use Rattle.esync_pipe.specs.declared.pipe.TryReadError.{TryReadError}
 use Rattle.esync_pipe.specs.declared.pipe.TryWriteError.{TryWriteError}
 
--- more bytes behind the others
+-- the ring with more bytes behind those that it has
 abbrev pub behind : Ringed ℕ → List ℕ → Ringed ℕ
 behind o bytes = record o { items = o.items ++ bytes }
 
--- the k oldest bytes are gone, and the place of the oldest moves on by k, round the n places
+-- the ring without its k oldest bytes: the place of the oldest moves on by k, round the n places
 abbrev pub without : ℕ → Ringed ℕ → ℕ → Ringed ℕ
 without n o k = record { items = drop k o.items; front = slot n o.front k }
 
@@ -24,36 +24,36 @@ free n o = n - length o.items
 abbrev pub puts : ℕ → Ringed ℕ → List ℕ → ℕ
 puts n o bytes = min (length bytes) (free n o)
 
--- the oldest bytes, as many as stand one behind the other
+-- the oldest bytes, up to the wrap of the ring
 abbrev pub shown : ℕ → Ringed ℕ → List ℕ
 shown n o = take (n - o.front) o.items
 
--- a write puts as many of the bytes behind the others as there is room for, and is refused where there is none
+-- a write puts as many of the bytes behind the others as there is room for, and is refused if there is none
 abbrev pub Writes : ℕ → Ringed ℕ → List ℕ → Result ℕ TryWriteError → Ringed ℕ → Type 0
 Writes n o from (Ok k) o2 = (length o.items < n) × (k ≡ puts n o from) × (o2 ≡ behind o (take k from))
 Writes n o from (Err e) o2 = (length o.items ≡ n) × (o2 ≡ o)
 
--- a read takes the oldest bytes out into the front of a slice, as many as there are and as it has places, and is refused where there are none
+-- a read takes the oldest bytes into the front of a slice, as many as fit, and is refused if there are none
 abbrev pub Reads : ℕ → Ringed ℕ → List ℕ → Result ℕ TryReadError → List ℕ → Ringed ℕ → Type 0
 Reads n o to (Ok k) to2 o2 = (0 < length o.items) × (k ≡ min (length to) (length o.items)) × (to2 ≡ take k o.items ++ drop k to) × (o2 ≡ without n o k)
 Reads n o to (Err e) to2 o2 = (length o.items ≡ 0) × (to2 ≡ to) × (o2 ≡ o)
 
--- a fill copies the oldest bytes that stand one behind the other, and is refused where there are none
+-- a fill copies the oldest bytes up to the wrap, and is refused if there are none
 abbrev pub Copies : ℕ → Ringed ℕ → List ℕ → Result (Unit {0}) TryReadError → List ℕ → Type 0
 Copies n o copy (Ok done) copy2 = (0 < length o.items) × (copy2 ≡ shown n o)
 Copies n o copy (Err e) copy2 = (length o.items ≡ 0) × (copy2 ≡ copy)
 
--- a fill of the front of a slice copies as many of them as it has places
+-- a fill of a slice copies as many of the oldest bytes up to the wrap as fit, and is refused if there are none
 abbrev pub Shows : ℕ → Ringed ℕ → List ℕ → Result ℕ TryReadError → List ℕ → Type 0
 Shows n o to (Ok k) to2 = (0 < length o.items) × (k ≡ min (length to) (length (shown n o))) × (to2 ≡ take k (shown n o) ++ drop k to)
 Shows n o to (Err e) to2 = (length o.items ≡ 0) × (to2 ≡ to)
 
--- so many of the oldest bytes stand one behind the other
+-- whether at least k bytes stand before the wrap
 abbrev pub shows : ℕ → Ringed ℕ → ℕ → Bool
 shows n o k = not (nat_lt (length (shown n o)) k)
 
--- a write of all the bytes puts as many of them behind the others as there is room for, and is ready once none is left; else the pipe is
--- full then
+-- A write of all bytes puts as many of them behind the others as there is room for. It is ready once none is left;
+-- otherwise the pipe is full then.
 abbrev pub WritesAll : ℕ → Ringed ℕ → List ℕ → Poll (Unit {0}) → Ringed ℕ → Option (List ℕ) → Type 0
 WritesAll n o bytes (Ready done) o2 rest = (nat_lt (puts n o bytes) (length bytes) ≡ false) × (o2 ≡ behind o bytes) × (rest ≡ None)
 WritesAll n o bytes Pending o2 rest =
@@ -64,7 +64,7 @@ abbrev pub rest_of : Option (List ℕ) → List ℕ
 rest_of None = []
 rest_of (Some rest) = rest
 
--- the wakers of a slot that is handed out where this is so, and those that stay
+-- the wakers of a slot that are handed out, if the slot is, and the wakers that stay in it
 abbrev pub out_if : {W : Type 0} → Bool → List W → List W
 out_if true s = s
 out_if false s = []
@@ -73,7 +73,7 @@ abbrev pub left_if : {W : Type 0} → Bool → List W → List W
 left_if true s = []
 left_if false s = s
 
--- the waker that is registered where this is so
+-- the waker that is registered, if it is to be
 abbrev pub waker_if : {W : Type 0} → Bool → W → Option W
 waker_if true w = Some w
 waker_if false w = None
@@ -85,7 +85,7 @@ abbrev pub is_full : ℕ → Ringed ℕ → Bool
 is_full n o = length o.items == n
 
 module _ {W : Type 0} (eq : W → W → Bool) where
-  -- a write into an empty pipe hands out the readers' slot, and one that is refused registers the waker, if it is given one, in the writers'
+  -- a write into an empty pipe hands out the readers' slot; a refused one registers the waker, if any, in the writers'
   abbrev pub slots_after_write : Ringed ℕ → Option W → Bool → Slots W → Slots W
   slots_after_write o w true s = record s { readers = left_if (is_empty o) s.readers }
   slots_after_write o w false s = record s { writers = registered_if eq 1 s.writers w }
@@ -94,7 +94,7 @@ module _ {W : Type 0} (eq : W → W → Bool) where
   wakes_of_write o w true s = out_if (is_empty o) s.readers
   wakes_of_write o w false s = displaced_if eq 1 s.writers w
 
-  -- a read from a full pipe hands out the writers' slot, and one that is refused registers the waker, if it is given one, in the readers'
+  -- a read from a full pipe hands out the writers' slot; a refused one registers the waker, if any, in the readers'
   abbrev pub slots_after_read : ℕ → Ringed ℕ → Option W → Bool → Slots W → Slots W
   slots_after_read n o w true s = record s { writers = left_if (is_full n o) s.writers }
   slots_after_read n o w false s = record s { readers = registered_if eq 1 s.readers w }
@@ -103,7 +103,7 @@ module _ {W : Type 0} (eq : W → W → Bool) where
   wakes_of_read n o w true s = out_if (is_full n o) s.writers
   wakes_of_read n o w false s = displaced_if eq 1 s.readers w
 
-  -- a fill hands out nothing but what it displaces, where it is refused
+  -- a fill that is refused registers the waker, if any, in the readers' slot; any other changes no slot
   abbrev pub slots_after_fill : Option W → Bool → Slots W → Slots W
   slots_after_fill w true s = s
   slots_after_fill w false s = record s { readers = registered_if eq 1 s.readers w }
@@ -112,8 +112,8 @@ module _ {W : Type 0} (eq : W → W → Bool) where
   wakes_of_fill w true s = []
   wakes_of_fill w false s = displaced_if eq 1 s.readers w
 
-  -- a write of all, which puts k of that many bytes: the first byte into an empty pipe hands out the readers' slot, and then, where some
-  -- are left, the waker registers in the writers'
+  -- A write of all that puts k of its bytes: the first byte into an empty pipe hands out the readers' slot. Then, if
+  -- some bytes are left, the waker is registered in the writers'.
   abbrev pub slots_after_write_all : Ringed ℕ → ℕ → ℕ → W → Slots W → Slots W
   slots_after_write_all o k many w s = record {
     readers = left_if (nat_lt 0 k && is_empty o) s.readers;
@@ -123,11 +123,11 @@ module _ {W : Type 0} (eq : W → W → Bool) where
   abbrev pub wakes_of_write_all : Ringed ℕ → ℕ → ℕ → W → Slots W → List W
   wakes_of_write_all o k many w s = out_if (nat_lt 0 k && is_empty o) s.readers ++ displaced_if eq 1 s.writers (waker_if (nat_lt k many) w)
 
-  -- a fill leaves the bytes
+  -- a fill changes slots only
   abbrev pub Filling : Piped W → Option W → Bool → Piped W → List W → Type 0
   Filling p w ok p2 wakes = (p2 ≡ record { ring = p.ring; slots = slots_after_fill w ok p.slots }) × (wakes ≡ wakes_of_fill w ok p.slots)
 
--- so many of the oldest bytes are dropped where this is so, which makes room in a full pipe
+-- the k oldest bytes are dropped if this says so, which makes room in a full pipe
 abbrev pub Dropping : {W : Type 0} → ℕ → Piped W → ℕ → Bool → Piped W → List W → Type 0
 Dropping n p k true p2 wakes =
     (p2 ≡ record { ring = without n p.ring k; slots = record p.slots { writers = left_if (nat_lt 0 k && is_full n p.ring) p.slots.writers } })

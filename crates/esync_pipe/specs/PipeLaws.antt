@@ -29,11 +29,11 @@ module _ {W : Type 0} (eq : W → W → Bool) (n : ℕ) where
   OwesFor o s (Read k) w = OwesBytes o s w
   OwesFor o s Fill w = OwesBytes o s w
 
--- of a full pipe a write puts nothing
+-- a write into a full pipe puts nothing
 puts-full : (n : ℕ) (o : Ringed ℕ) (bytes : List ℕ) → is_full n o ≡ true → puts n o bytes ≡ 0
 puts-full n o bytes h = let e = same_number (length o.items) n h in grind (arith, nat_tests)
 
--- and what it puts of any pipe leaves it as it was only if it is nothing
+-- what a write puts of a pipe leaves the pipe as it was only if it is nothing
 same-behind : (o : Ringed ℕ) → o ≡ behind o []
 same-behind o = ap (λ l. record { items = l; front = o.front }) (sym (append-nil o.items))
 

@@ -1,4 +1,4 @@
--- What was written comes out, in order, and sizes add up: told of the commands and their answers alone.
+-- What was written comes out in order, and sizes add up. This is told of the commands and their answers alone.
 use Rattle.std.specs.Prelude.{◌≡◌, ℕ, ◌+◌, ◌-◌, min, List, [], ◌∷◌, ◌++◌, length, take, drop, Option, Some, None, Ok}
 use Rattle.esync_machine.specs.Account.{account, ask_of, asked_from, asked_after}
 use Rattle.esync_machine.specs.Sizes.{SizesAddUp as AddUpInRun}
@@ -31,11 +31,11 @@ bytes_of (Some (Read count)) = []
 bytes_of (Some Fill) = []
 bytes_of None = []
 
--- so many bytes are held: those that were written and not taken
+-- held counts the bytes that were written and not taken
 abbrev pub IsHeld : Account → ℕ → Type 0
 IsHeld k held = held + length k.taken ≡ length k.written
 
--- of a pipe of n places
+-- A pipe of n places.
 module _ (n : ℕ) where
   -- as many of the bytes as there is room for: what was written and not taken fills the pipe
   abbrev pub room_for : Account → List ℕ → ℕ
@@ -49,7 +49,7 @@ module _ (n : ℕ) where
   written_meanwhile k (Some Fill) = []
   written_meanwhile k None = []
 
-  -- and asks for the others
+  -- a write of all that hears Pending asks for the rest of its bytes
   abbrev pub asked_meanwhile : Account → ℕ → Option (PipeAsk (List ℕ)) → List (ℕ × PipeAsk (List ℕ))
   asked_meanwhile k r (Some (WriteAll bytes)) = (r, WriteAll (drop (room_for k bytes) bytes)) ∷ k.asked
   asked_meanwhile k r (Some (Write bytes)) = k.asked
@@ -70,7 +70,7 @@ module _ (n : ℕ) where
   written_after k (Call (TryWrite bytes)) (Gives (TryWrote (Ok count))) = k.written ++ take count bytes
   written_after k _ _ = k.written
 
-  -- and those that were taken: a consume takes so many of those written and not taken, and a clear takes all of them
+  -- the bytes that were taken, after a command and its answer: a clear takes all that were written and not taken
   abbrev pub taken_after : {W : Type 0} → Account → Command (PipeAsk (List ℕ)) W (PipeCall (List ℕ)) → Answer (PipeHeard (List ℕ)) → List ℕ
   taken_after k (Poll r w) (Gives (HasRead bytes)) = k.taken ++ bytes
   taken_after k (Call (TryRead count)) (Gives (HasTriedRead (Ok bytes))) = k.taken ++ bytes
@@ -85,13 +85,13 @@ module _ (n : ℕ) where
   abbrev pub at_first : List (Option (PipeAsk (List ℕ))) → List ℕ → Account
   at_first requests held = record { asked = asked_from 0 requests; written = held; taken = [] }
 
-  -- of a pipe with these requests that holds these bytes at first, and those at last: the bytes that were taken, and then those that
-  -- are held, are those held at first and those that were written since, in order
+  -- A pipe with these requests holds these bytes at first, and those at last. The bytes that were taken, and then those
+  -- held at last, are those held at first and those that were written since, in order.
   abbrev pub InOrder : {W : Type 0} {K : ℕ} → List (Option (PipeAsk (List ℕ))) → List ℕ → List (Command (PipeAsk (List ℕ)) W (PipeCall (List ℕ))) → List (Reply (Answer (PipeHeard (List ℕ))) W K) → List ℕ → Type 0
   InOrder requests held commands replies held2 =
       let k = account (λ k c a. after k c a.answer) (at_first requests held) commands replies in
       k.taken ++ held2 ≡ k.written
 
-  -- of a pipe with these requests that holds these bytes at first
+  -- the sizes add up in a run of a pipe that has these requests and bytes at first
   abbrev pub SizesAddUp : {W : Type 0} {K : ℕ} → List (Option (PipeAsk (List ℕ))) → List ℕ → List (Command (PipeAsk (List ℕ)) W (PipeCall (List ℕ))) → List (Reply (Answer (PipeHeard (List ℕ))) W K) → Type 0
   SizesAddUp requests held commands replies = AddUpInRun Len FreeCapacity Number n IsHeld after (at_first requests held) commands replies

@@ -1,5 +1,5 @@
--- What a pipe of n places allows, and which wakers it hands out: for each request and each call. A row of an answer has room for all bytes
--- that the pipe holds.
+-- What a pipe of n places allows for each request and each call, and which wakers it hands out. The rows of answers
+-- have room for all bytes that the pipe holds.
 use Rattle.std.specs.Prelude.{◌≡◌, ℕ, ◌+◌, min, Bool, true, false, not, ◌&&◌, List, [], length, take, drop, Option, Some, None, Result, Ok, Err, nat_lt}
 use Rattle.esync_base.specs.Ring.{Ringed}
 use Rattle.esync_pipe.specs.Piped.{Slots}
@@ -17,7 +17,7 @@ use Rattle.esync_pipe.specs.declared.pipe.machine.PipeCall.TheVariants.{TryWrite
 use Rattle.esync_pipe.specs.declared.pipe.machine.PipeHeard.{PipeHeard}
 use Rattle.esync_pipe.specs.declared.pipe.machine.PipeHeard.TheVariants.{Wrote, WroteAll, HasRead, Filled, TryWrote, HasTriedRead, TryFilled, Number}
 
--- how many bytes a read of so many takes
+-- how many bytes a read of at most k takes
 abbrev pub taken : Ringed ℕ → ℕ → ℕ
 taken o k = min k (length o.items)
 
@@ -30,18 +30,18 @@ module _ (n : ℕ) where
   abbrev pub Hears : PipeHeard (List ℕ) → Ringed ℕ → Answer (PipeHeard (List ℕ)) → Ringed ℕ → Option (PipeAsk (List ℕ)) → Type 0
   Hears heard after a o2 p = (a ≡ Gives heard) × (o2 ≡ after) × (p ≡ None)
 
-  -- a write, of a pipe that is full or not
+  -- a write into a pipe that is full, or isn't
   abbrev pub PollsWrite : Ringed ℕ → List ℕ → Bool → Answer (PipeHeard (List ℕ)) → Ringed ℕ → Option (PipeAsk (List ℕ)) → Type 0
   PollsWrite o bytes true a o2 p = Waits o (Write bytes) a o2 p
   PollsWrite o bytes false a o2 p = Hears (Wrote (puts n o bytes)) (behind o (take (puts n o bytes) bytes)) a o2 p
 
-  -- a write of all, where some bytes are left, so that the pipe is full then, or none
+  -- a write of all, by whether some bytes are left: if so, the pipe is full then
   abbrev pub PollsWriteAll : Ringed ℕ → List ℕ → Bool → Answer (PipeHeard (List ℕ)) → Ringed ℕ → Option (PipeAsk (List ℕ)) → Type 0
   PollsWriteAll o bytes true a o2 p =
       (a ≡ Pending) × (o2 ≡ behind o (take (puts n o bytes) bytes)) × (p ≡ Some (WriteAll (drop (puts n o bytes) bytes))) × (is_full n o2 ≡ true)
   PollsWriteAll o bytes false a o2 p = Hears WroteAll (behind o bytes) a o2 p
 
-  -- a read, of a pipe that is empty or not
+  -- a read from a pipe that is empty, or isn't
   abbrev pub PollsRead : Ringed ℕ → ℕ → Bool → Answer (PipeHeard (List ℕ)) → Ringed ℕ → Option (PipeAsk (List ℕ)) → Type 0
   PollsRead o k true a o2 p = Waits o (Read k) a o2 p
   PollsRead o k false a o2 p = Hears (HasRead (take (taken o k) o.items)) (without n o (taken o k)) a o2 p
@@ -56,12 +56,12 @@ module _ (n : ℕ) where
   Polls o (Read k) a o2 p = PollsRead o k (is_empty o) a o2 p
   Polls o Fill a o2 p = PollsFill o (is_empty o) a o2 p
 
-  -- a read of so many bytes, where there are any
+  -- a read of at most k bytes, which is refused if the pipe is empty
   abbrev pub TakesOut : Ringed ℕ → ℕ → Result (List ℕ) TryReadError → Ringed ℕ → Type 0
   TakesOut o k (Ok bytes) o2 = (is_empty o ≡ false) × (bytes ≡ take (taken o k) o.items) × (o2 ≡ without n o (taken o k))
   TakesOut o k (Err e) o2 = (is_empty o ≡ true) × (o2 ≡ o)
 
-  -- a fill, where there are any
+  -- a fill, which is refused if the pipe is empty
   abbrev pub Fills : Ringed ℕ → Result (List ℕ) TryReadError → Ringed ℕ → Type 0
   Fills o (Ok bytes) o2 = (is_empty o ≡ false) × (bytes ≡ shown n o) × (o2 ≡ o)
   Fills o (Err e) o2 = (is_empty o ≡ true) × (o2 ≡ o)
@@ -85,7 +85,7 @@ module _ (n : ℕ) where
   pipe_rules = asked_rules Polls Calls
 
 module _ {W : Type 0} (eq : W → W → Bool) (n : ℕ) where
-  -- by a write, with a waker or without
+  -- the wakes of a write, with a waker or without
   abbrev pub write_hands : Ringed ℕ → Option W → Slots W → Handed (Slots W) W
   write_hands o w s = record { wakes = wakes_of_write eq o w (not (is_full n o)) s; after = slots_after_write eq o w (not (is_full n o)) s }
 
@@ -104,7 +104,7 @@ module _ {W : Type 0} (eq : W → W → Bool) (n : ℕ) where
   poll_hands o s (Read k) w = read_hands o (Some w) s
   poll_hands o s Fill w = fill_hands o (Some w) s
 
-  -- a try registers nobody, and who consumes from a full pipe makes room
+  -- a try registers no waker, and a consume from a full pipe makes room
   abbrev pub call_hands : Ringed ℕ → Slots W → PipeCall (List ℕ) → Handed (Slots W) W
   call_hands o s (TryWrite bytes) = write_hands o None s
   call_hands o s (TryRead k) = read_hands o None s
@@ -117,7 +117,7 @@ module _ {W : Type 0} (eq : W → W → Bool) (n : ℕ) where
   call_hands o s Len = nothing s
   call_hands o s FreeCapacity = nothing s
 
-  -- one waker at most is registered in each slot
+  -- at most one waker is registered in each slot
   abbrev pub pipe_wakings : Wakings (Ringed ℕ) (PipeAsk (List ℕ)) (PipeCall (List ℕ)) (PipeHeard (List ℕ)) W
   pipe_wakings = record {
     Registered = Slots W;

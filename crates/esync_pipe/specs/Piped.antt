@@ -1,13 +1,13 @@
--- The bytes of a pipe, and who waits.
+-- The bytes of a pipe, and the registered wakers.
 use Rattle.std.specs.Prelude.{ℕ, List, [], refl}
 use Rattle.std.specs.Coded.{Coded, code_by, coded×, coded_list, coded_ℕ}
 use Rattle.esync_base.specs.Ring.{Ringed, ringed_code}
 
--- who waits: at most one waker in each
+-- the registered wakers, at most one in each slot
 pub record Slots (W : Type 0) : Type 0 where
-  -- for bytes
+  -- the waker of a task that waits for bytes
   pub readers : List W
-  -- for room
+  -- the waker of a task that waits for room
   pub writers : List W
 
 pub record Piped (W : Type 0) : Type 0 where

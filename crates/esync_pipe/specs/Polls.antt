@@ -3,7 +3,7 @@ use Rattle.std.specs.Prelude.{◌≡◌, ℕ, ◌<◌, List, length, drop, Optio
 use Rattle.esync_base.specs.declared.waitqueue.Poll.{Poll}
 use Rattle.esync_base.specs.declared.waitqueue.Poll.TheVariants.{Pending, Ready}
 
--- a fact of what a poll answers, where it is ready
+-- a fact about the answer of a poll, if it is ready
 abbrev pub IfReady : {T : Type 0} → Poll T → (T → Type 0) → Type 0
 IfReady (Ready x) P = P x
 IfReady Pending P = Unit {0}
@@ -14,7 +14,7 @@ abbrev pub LeavesBytes : Poll (Unit {0}) → Option (List ℕ) → Option (List 
 LeavesBytes (Ready done) old rest = rest ≡ None
 LeavesBytes Pending old rest = IfSome old (λ bytes. (k : ℕ) × (k < length bytes) × (rest ≡ Some (drop k bytes)))
 
--- what a poll to fill leaves of a copy: the same, where it waits
+-- a poll to fill leaves a copy as it was if it waits
 abbrev pub KeepsCopy : Poll (Unit {0}) → List ℕ → List ℕ → Type 0
 KeepsCopy (Ready done) old new = Unit {0}
 KeepsCopy Pending old new = new ≡ old

@@ -1,4 +1,4 @@
-//! The bytes of a command or of an answer: few of them, and no memory.
+//! The bytes of a command or of an answer: few, and without memory of their own.
 ghost use Rattle.std.specs.Prelude.{◌≡◌, ◌≤◌, length, take};
 
 use std::alloc::AllocError;
@@ -42,10 +42,10 @@ impl<const L: usize> Model for Bytes<L> {
 }
 
 impl<const L: usize> Bytes<L> {
-    /// How many bytes there can be.
+    /// How many bytes there is room for.
     pub const CAPACITY: usize = L;
 
-    /// The bytes of a slice: the first `L` where it has more.
+    /// Returns the bytes of a slice, or the first `L` if it has more.
     pub fn from_slice(bytes: &[u8]) -> Self
         ensures { result ≡ take L bytes.now }
     {
@@ -55,7 +55,7 @@ impl<const L: usize> Bytes<L> {
         Bytes { row, len }
     }
 
-    /// The bytes.
+    /// Returns the bytes as a slice.
     pub fn as_slice(&self) -> &[u8]
         ensures value { result.now ≡ self.now }
         ensures within { length self.now ≤ L }

@@ -1,7 +1,8 @@
 //! A pipe: bytes on their way from tasks that write to tasks that read, with backpressure.
 //!
-//! The state form takes `&mut self`, holds no lock and waits for nobody. What a call hands out, it appends to the list of
-//! wakes that it is given; who gets the list wakes them.
+//! The state form takes `&mut self`, holds no lock and never waits. Each call appends the wakers that it hands out to
+//! the list of wakes that it is given, and the caller wakes their tasks. A registration hands out the waker that it
+//! displaces.
 ghost use Rattle.std.specs.Prelude.{◌≡◌, ◌<◌, ◌≤◌, ◌+◌, ◌++◌, Some, length, is_none, IsSome, IfSome};
 ghost use Rattle.std.specs.Option.{option_copied};
 ghost use Rattle.esync_base.specs.Registration.{registered_if, displaced_if};
@@ -30,7 +31,7 @@ mod shared;
 /// Why no byte was read.
 #[derive(Clone, Copy, Debug, PartialEq, Eq, Error)]
 pub enum TryReadError {
-    /// No byte is held.
+    /// No byte is in the pipe.
     #[error("the pipe is empty")]
     Empty,
 }
@@ -46,7 +47,8 @@ pub enum TryWriteError {
 /// The state of a pipe of at most `N` bytes.
 pub type PipeState<W, const N: usize> = PipeOver<ByteRing<N>, W>;
 
-/// The state of a pipe: its bytes, oldest first, and a waker each of who waits for bytes and of who waits for room.
+/// The state of a pipe: its bytes, oldest first, a slot for the waker of a task that waits for bytes, and a slot for
+/// that of a task that waits for room.
 #[derive(Debug, Drop)]
 pub struct PipeOver<R: ByteStore, W> {
     buffer: R,
@@ -74,7 +76,7 @@ impl<R: ByteStore + Kept, W: Copy> Kept for PipeOver<R, W> {
     }
 }
 
-// Hands a slot out where this is so.
+// Hands out a slot if `is` holds.
 fn wake_if<W: Copy + Eq, const K: usize>(
     is: bool,
     slot: &mut WakerRegistration<W>,
@@ -90,7 +92,7 @@ fn wake_if<W: Copy + Eq, const K: usize>(
     }
 }
 
-// Registers a waker in a slot where this is so.
+// Registers a waker in a slot if `is` holds.
 fn register_if<W: Copy + Eq, const K: usize>(
     is: bool,
     waker: W,
@@ -116,7 +118,7 @@ pub(crate) fn waker_of<W: Copy>(cx: Option<&Context<W>>) -> Option<W>
     }
 }
 
-/// Who waits for bytes, and who waits for room.
+/// Place 0 is the readers' slot, for bytes. Place 1 is the writers' slot, for room.
 impl<R: ByteStore, W: Copy + Eq> Registered for PipeOver<R, W> {
     type Waker = W;
 
@@ -140,7 +142,7 @@ impl<R: ByteStore, W: Copy + Eq> PipeOver<R, W> {
     ghost use Rattle.esync_pipe.specs.Pipe.{Writes, Reads, shown, without, out_if, left_if, is_empty, is_full, slots_after_write, wakes_of_write, slots_after_read, wakes_of_read, slots_after_fill, wakes_of_fill, behind, puts, slots_after_write_all, wakes_of_write_all};
     ghost use Rattle.esync_pipe.specs.contracts.pipe.PipeOver.{the_row};
 
-    /// No byte, and nobody who waits.
+    /// Returns an empty pipe without a registered waker.
     pub fn new() -> Self
         ensures items { result.ring.items ≡ [] }
         ensures front { result.ring.front ≡ 0 }
@@ -175,8 +177,9 @@ impl<R: ByteStore, W: Copy + Eq> PipeOver<R, W> {
         Ok(taken)
     }
 
-    /// Takes the oldest bytes out into the front of the slice, as many as there are and as it has places, and tells how many. Reading
-    /// from a full pipe wakes who waits for room, also into an empty slice.
+    /// Takes the oldest bytes out into the front of the slice, as many as there are and as it has room for, and returns
+    /// how many. If the pipe was full, hands out the writers' waker, even if the slice is empty. An error means that
+    /// the pipe is empty.
     pub fn try_read<const K: usize>(
         &mut self,
         to: &mut [u8],
@@ -190,7 +193,8 @@ impl<R: ByteStore, W: Copy + Eq> PipeOver<R, W> {
         self.read(to, None, wakes)
     }
 
-    /// The same. Where there is no byte, the context's waker waits for one.
+    /// Like `try_read`, but if the pipe is empty, registers the waker of the context, if there is one, in the readers'
+    /// slot.
     pub fn try_read_with_context<const K: usize>(
         &mut self,
         cx: Option<&Context<W>>,
@@ -205,7 +209,8 @@ impl<R: ByteStore, W: Copy + Eq> PipeOver<R, W> {
         self.read(to, waker_of(cx), wakes)
     }
 
-    /// Shows the oldest bytes, as many as stand one behind the other. They stay, until `consume` drops them.
+    /// Returns the oldest bytes, up to the wrap of the ring. They stay until `consume` drops them. An error means that
+    /// the pipe is empty.
     pub fn try_fill_buf(&self) -> Result<&[u8], TryReadError>
         ensures ok { IfOk result (λ bytes. (0 < length self.now.ring.items) × (bytes.now ≡ shown R.capacity self.now.ring)) }
         ensures some { IfOk result (λ bytes. 0 < length bytes.now) }
@@ -217,7 +222,8 @@ impl<R: ByteStore, W: Copy + Eq> PipeOver<R, W> {
         Ok(self.buffer.filled())
     }
 
-    /// The same. Where there is no byte, the context's waker waits for one.
+    /// Like `try_fill_buf`, but if the pipe is empty, registers the waker of the context, if there is one, in the
+    /// readers' slot.
     pub fn try_fill_buf_with_context<const K: usize>(
         &mut self,
         cx: Option<&Context<W>>,
@@ -237,7 +243,7 @@ impl<R: ByteStore, W: Copy + Eq> PipeOver<R, W> {
         Ok(self.shown())
     }
 
-    // The waker, if one is given, waits for bytes.
+    // Registers the waker, if one is given, in the readers' slot.
     pub(crate) fn wait_for_bytes<const K: usize>(
         &mut self,
         waker: Option<W>,
@@ -252,7 +258,7 @@ impl<R: ByteStore, W: Copy + Eq> PipeOver<R, W> {
         }
     }
 
-    // The oldest bytes, as many as stand one behind the other.
+    // The oldest bytes, up to the wrap of the ring.
     pub(crate) fn shown(&self) -> &[u8]
         ensures value { result.now ≡ shown R.capacity self.now.ring }
         ensures some { 0 < length self.now.ring.items → 0 < length result.now }
@@ -260,8 +266,8 @@ impl<R: ByteStore, W: Copy + Eq> PipeOver<R, W> {
         self.buffer.filled()
     }
 
-    /// Drops so many of the bytes that `try_fill_buf` shows. That wakes who waits for room, where the pipe was full and at least one
-    /// byte is dropped.
+    /// Drops the first `amt` of the bytes that `try_fill_buf` returns, which have to be as many. If the pipe was full
+    /// and at least one byte is dropped, hands out the writers' waker.
     pub fn consume<const K: usize>(&mut self, amt: usize, wakes: &mut Wakes<W, K>)
         requires room { length wakes.old < K }
         requires shown { amt ≤ length (shown R.capacity self.old.ring) }
@@ -297,8 +303,8 @@ impl<R: ByteStore, W: Copy + Eq> PipeOver<R, W> {
         Ok(written)
     }
 
-    /// Puts as many of the bytes behind the others as there is room for, and tells how many. Writing into an empty pipe wakes who waits
-    /// for bytes, also of an empty slice.
+    /// Writes as many of the bytes as there is room for, behind those in the pipe, and returns how many. If the pipe
+    /// was empty, hands out the readers' waker, even if the slice is empty. An error means that the pipe is full.
     pub fn try_write<const K: usize>(
         &mut self,
         from: &[u8],
@@ -312,7 +318,8 @@ impl<R: ByteStore, W: Copy + Eq> PipeOver<R, W> {
         self.write(from, None, wakes)
     }
 
-    /// The same. Where there is no room, the context's waker waits for it.
+    /// Like `try_write`, but if the pipe is full, registers the waker of the context, if there is one, in the writers'
+    /// slot.
     pub fn try_write_with_context<const K: usize>(
         &mut self,
         cx: Option<&Context<W>>,
@@ -327,8 +334,8 @@ impl<R: ByteStore, W: Copy + Eq> PipeOver<R, W> {
         self.write(from, waker_of(cx), wakes)
     }
 
-    // Puts as many of the bytes behind the others as there is room for, and tells how many. Where some are left, the waker waits for
-    // room.
+    // Writes as many of the bytes as there is room for, and returns how many. If some are left, registers the waker in
+    // the writers' slot.
     fn write_all<const K: usize>(&mut self, from: &[u8], waker: W, wakes: &mut Wakes<W, K>) -> usize
         requires { length wakes.old + 1 < K }
         ensures count { result ≡ puts R.capacity self.old.ring from.now }
@@ -346,7 +353,7 @@ impl<R: ByteStore, W: Copy + Eq> PipeOver<R, W> {
         written
     }
 
-    /// Drops all bytes, and wakes who waits for room.
+    /// Drops all bytes, and hands out the writers' waker.
     pub fn clear<const K: usize>(&mut self, wakes: &mut Wakes<W, K>)
         requires { length wakes.old < K }
         ensures bytes { self.new.ring ≡ record { items = []; front = 0 } }
@@ -357,28 +364,28 @@ impl<R: ByteStore, W: Copy + Eq> PipeOver<R, W> {
         self.write_waker.wake(wakes);
     }
 
-    /// As many bytes are held as there is room for.
+    /// Returns whether the pipe is full.
     pub fn is_full(&self) -> bool
         ensures { result ≡ is_full R.capacity self.now.ring }
     {
         self.buffer.len() == R::capacity()
     }
 
-    /// No byte is held.
+    /// Returns whether the pipe is empty.
     pub fn is_empty(&self) -> bool
         ensures { result ≡ is_empty self.now.ring }
     {
         self.buffer.len() == 0
     }
 
-    /// How many bytes can be held.
+    /// Returns how many bytes the pipe has room for in all.
     pub fn capacity(&self) -> usize
         ensures { result ≡ R.capacity }
     {
         R::capacity()
     }
 
-    /// How many bytes are held.
+    /// Returns how many bytes are in the pipe.
     pub fn len(&self) -> usize
         ensures value { result ≡ length self.now.ring.items }
         ensures within { result ≤ R.capacity }
@@ -386,7 +393,7 @@ impl<R: ByteStore, W: Copy + Eq> PipeOver<R, W> {
         self.buffer.len()
     }
 
-    /// How many bytes there is room for.
+    /// Returns how many more bytes the pipe has room for.
     pub fn free_capacity(&self) -> usize
         ensures { result + length self.now.ring.items ≡ R.capacity }
     {
@@ -394,7 +401,7 @@ impl<R: ByteStore, W: Copy + Eq> PipeOver<R, W> {
     }
 }
 
-/// Bytes that wait to be written, all of them.
+/// A request to write all of its bytes, with those that are still to be written.
 #[derive(Debug, Drop)]
 pub struct WriteAllRequest<'a> {
     rest: Option<&'a [u8]>,
@@ -413,21 +420,21 @@ impl<'a> Model for WriteAllRequest<'a> {
 }
 
 impl<'a> WriteAllRequest<'a> {
-    /// These bytes, which are still to be written.
+    /// Returns a request whose bytes are all still to be written.
     pub fn new(bytes: &'a [u8]) -> Self
         ensures { result ≡ Some bytes.now }
     {
         WriteAllRequest { rest: Some(bytes) }
     }
 
-    /// All bytes were written.
+    /// Returns whether all bytes were written.
     pub fn is_finished(&self) -> bool
         ensures { result ≡ is_none self.now }
     {
         self.rest.is_none()
     }
 
-    /// The bytes that are still to be written.
+    /// Returns the bytes that are still to be written.
     pub fn rest(&self) -> &'a [u8]
         ensures { result.now ≡ rest_of self.now }
     {
@@ -437,10 +444,11 @@ impl<'a> WriteAllRequest<'a> {
         }
     }
 
-    /// Writes as many of the bytes as there is room for. Where some are left, the context's waker waits for room. Without bytes it is
-    /// ready at once.
+    /// Writes as many of the bytes as there is room for. If the first byte goes into an empty pipe, hands out the
+    /// readers' waker. If some bytes are left, registers the context's waker in the writers' slot and returns Pending.
+    /// Without bytes it is ready at once.
     ///
-    /// A request that is finished is not polled.
+    /// A finished request may not be polled.
     pub fn poll_state<R: ByteStore, W: Copy + Eq, const K: usize>(
         &mut self,
         state: &mut PipeOver<R, W>,

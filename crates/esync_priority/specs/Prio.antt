@@ -19,7 +19,7 @@ less cmp a b = is_lt (cmp a b)
 abbrev pub IsTop : {T : Type 0} → (T → T → Bool) → T → List T → Type 0
 IsTop above x xs = All (λ y. above y x ≡ false) xs
 
--- at most n messages, each as often as it is held: one leaves that none of the held ones is above
+-- at most n messages, each as often as it is held; the one that leaves is one that no held message is above
 abbrev pub Bag : (T : Type 0) → (T → T → Bool) → ℕ → Keeping T
 Bag T above n = record {
   capacity = n;

@@ -1,4 +1,4 @@
--- Greater and less are orders in which some may stand side by side.
+-- Greater and less are orders in which two items may stand side by side.
 use Rattle.std.specs.Prelude.{◌≡◌, Bool, true, false, refl}
 use Rattle.std.specs.Ordering.{is_gt, is_lt, ordering_reverse}
 use Rattle.std.specs.declared.cmp.Ordering.{Ordering}

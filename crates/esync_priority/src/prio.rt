@@ -1,4 +1,4 @@
-//! A queue of fixed capacity that takes no memory, and hands out first an item that none of the others is above.
+//! A queue of fixed capacity that takes no memory. The item that leaves first is one that no other item is above.
 ghost use Rattle.std.specs.Prelude.{◌≡◌, ◌≢◌, ◌+◌, ◌-◌, ◌*◌, ◌<◌, ◌≤◌, ◌↔◌, [], ◌∷◌, Bool, true, false, Some, None, length, get_or, slice_get, slice_set, IsPermutation, IsSome, IsTrue, OnOk, OnErr, OnSome, IfSome, IfErr, IfNone};
 ghost use Rattle.std.proofs.Math.ListN.{replicate};
 ghost use Rattle.esync_base.specs.Rows.{IsRow, items_of};
@@ -17,11 +17,11 @@ use std::cmp::Ordering;
 use std::fmt;
 use std::marker::{Model, PhantomData};
 
-/// Which of two items leaves first.
+/// An order of items, which says which of two leaves first.
 pub trait Kind<T> {
     ghost above: { T → T → Bool };
 
-    /// `a` is to leave before `b`. It counts one comparison.
+    /// Returns whether `a` is to leave before `b`. Counts one comparison.
     fn above(a: &T, b: &T, comparisons: &mut Comparisons) -> bool
         ensures value { result ≡ above a.now b.now }
         ensures once { comparisons.new ≡ comparisons.old + 1 };
@@ -33,11 +33,11 @@ pub trait Kind<T> {
     ghost ties: { (a b c : T) → above a b ≡ false → above b c ≡ false → above a c ≡ false };
 }
 
-/// The greatest leaves first.
+/// The order in which the greatest item leaves first.
 #[derive(Clone, Copy, Debug, PartialEq, Eq)]
 pub struct Max {}
 
-/// The least leaves first.
+/// The order in which the least item leaves first.
 #[derive(Clone, Copy, Debug, PartialEq, Eq)]
 pub struct Min {}
 
@@ -77,10 +77,10 @@ impl<T: Ord> Kind<T> for Min {
     ghost ties = { less-ties T.cmp T.Ord.total };
 }
 
-/// Holds at most `N` items, in places of its own, so that it allocates nothing.
+/// A queue of at most `N` items, in places of its own. It allocates nothing.
 ///
-/// The items are a heap: the children of place p are the places 2p + 1 and 2p + 2, and none is above its parent.
-/// The first item gives each place its bytes, which takes time in proportion to `N`. The bytes of an item that was taken
+/// The items are a heap: the children of place p are the places 2p + 1 and 2p + 2, and none is above its parent. The
+/// first item gives each place its bytes, which takes time in proportion to `N`. The bytes of an item that was taken
 /// stay in its place until another item is written over them, as in upstream's containers.
 pub struct PrioQueue<T, K: Kind<T>, const N: usize> {
     len: usize,
@@ -114,7 +114,7 @@ impl<T: fmt::Debug + Drop, K: Kind<T>, const N: usize> fmt::Debug for PrioQueue<
     }
 }
 
-// Returns whether an item is above that of a place.
+// Returns whether an item is above the item of a place.
 fn is_above<T, K: Kind<T>>(
     item: &T,
     row: &[Place<T>],
@@ -129,7 +129,7 @@ fn is_above<T, K: Kind<T>>(
     K::above(item, row[place].get(), comparisons)
 }
 
-// Returns whether a free place has a second child and that one is above the first.
+// Returns whether a free place has a second child that is above the first.
 fn right_is_upper<T, K: Kind<T>>(
     row: &[Place<T>],
     place: usize,
@@ -147,7 +147,7 @@ fn right_is_upper<T, K: Kind<T>>(
     right < row.len() && is_above::<T, K>(row[right].get(), row, left, comparisons)
 }
 
-// Moves the item of one place to a free one.
+// Moves the item of one place to a free place.
 fn shift<T>(row: &mut [Place<T>], to: usize, from: usize)
     requires to { to < length row.old }
     requires from { from < length row.old }
@@ -160,7 +160,7 @@ fn shift<T>(row: &mut [Place<T>], to: usize, from: usize)
     row[to].put(item);
 }
 
-// Brings the free first place down to one without children, and returns that one.
+// Brings the free first place down to a place without children, and returns that place.
 fn sink<T, K: Kind<T>>(row: &mut [Place<T>], comparisons: &mut Comparisons) -> usize
     requires some { 0 < length row.old }
     requires hole { IsHole row.old 0 }
@@ -187,7 +187,7 @@ fn sink<T, K: Kind<T>>(row: &mut [Place<T>], comparisons: &mut Comparisons) -> u
     place
 }
 
-// Brings a free place up to where no parent is below this item, and returns that one.
+// Brings a free place up until its parent isn't below the item, and returns the place.
 fn climb<T, K: Kind<T>>(
     row: &mut [Place<T>],
     start: usize,
@@ -216,7 +216,7 @@ fn climb<T, K: Kind<T>>(
     place
 }
 
-// Puts an item in where a place is free, or further up.
+// Puts an item into the free place, or further up where it belongs.
 fn rise<T, K: Kind<T>>(row: &mut [Place<T>], start: usize, item: T, comparisons: &mut Comparisons)
     requires inside { start < length row.old }
     requires hole { IsHole row.old start }
@@ -374,10 +374,10 @@ impl<T: Drop, K: Kind<T>, const N: usize> PrioQueue<T, K, N> {
         }
     }
 
-    /// Puts an item in. At a full queue the item comes back, and nothing was compared.
+    /// Puts an item in. If the queue is full, returns the item as the error, and nothing was compared.
     ///
-    /// Where the queue holds n items after it, it compares fewer times than n has binary digits. The first item of a queue
-    /// gives each place its bytes, which takes time in proportion to `N`.
+    /// If the queue holds n items afterwards, fewer comparisons are made than n has binary digits. The first item of a
+    /// queue gives each place its bytes, which takes time in proportion to `N`.
     pub fn push(&mut self, item: T, comparisons: &mut Comparisons) -> Result<(), T>
         ensures room { OnOk result (length self.old < N) }
         ensures ok { OnOk result (IsPermutation (item ∷ self.old) self.new) }
@@ -397,10 +397,10 @@ impl<T: Drop, K: Kind<T>, const N: usize> PrioQueue<T, K, N> {
         Ok(())
     }
 
-    /// Takes the item that `peek` lends: none of the others is above it. It returns `None` where the queue is empty.
+    /// Takes the item that `peek` returns, above which there is no other item. Returns `None` if the queue is empty.
     ///
-    /// Where n items are left, it compares at most twice for each binary digit of n but the first, and never where none is.
-    /// The bytes of the item stay in a place of the queue until another item is written over them.
+    /// If n items are left, at most two comparisons are made for each binary digit of n but the first. If none is left,
+    /// none is made. The bytes of the item stay in a place of the queue until another item is written over them.
     pub fn pop(&mut self, comparisons: &mut Comparisons) -> Option<T>
         ensures item { IfSome result (λ item. IsPermutation self.old (item ∷ self.new)) }
         ensures first { IfSome result (λ item. slice_get self.old 0 ≡ Some item) }
@@ -421,7 +421,7 @@ impl<T: Drop, K: Kind<T>, const N: usize> PrioQueue<T, K, N> {
         Some(item)
     }
 
-    /// Lends an item that none of the others is above. The item stays in the queue.
+    /// Returns an item that no other item is above, or `None` if the queue is empty. The item stays in the queue.
     pub fn peek(&self) -> Option<&T>
         ensures first { IfSome result (λ item. slice_get self.now 0 ≡ Some item.now) }
         ensures top { IfSome result (λ item. IsTop K.above item.now self.now) }
@@ -442,7 +442,7 @@ impl<T: Drop, K: Kind<T>, const N: usize> PrioQueue<T, K, N> {
         self.len = 0;
     }
 
-    /// Returns how many items the queue holds.
+    /// Returns how many items are in the queue.
     pub fn len(&self) -> usize
         ensures value { result ≡ length self.now }
         ensures within { result ≤ N }
@@ -450,14 +450,14 @@ impl<T: Drop, K: Kind<T>, const N: usize> PrioQueue<T, K, N> {
         self.len
     }
 
-    /// Returns whether the queue holds no item.
+    /// Returns whether the queue is empty.
     pub fn is_empty(&self) -> bool
         ensures { IsTrue result ↔ (self.now ≡ []) }
     {
         self.len == 0
     }
 
-    /// Returns whether the queue holds `N` items.
+    /// Returns whether the queue is full.
     pub fn is_full(&self) -> bool
         ensures { IsTrue result ↔ (length self.now ≡ N) }
     {

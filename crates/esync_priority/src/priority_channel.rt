@@ -1,6 +1,6 @@
 //! A queue for sending values between tasks, in which the greatest or the least leaves first.
 //!
-//! All but the order in which messages leave is as in a channel.
+//! Everything except the order in which messages leave is as in a channel.
 use crate::prio::PrioQueue;
 pub use crate::prio::{Kind, Max, Min};
 use esync_channel::channel::{Mailbox, Rcv, SharedMailbox, Snd};
@@ -10,7 +10,8 @@ pub use esync_channel::channel::{
 
 pub mod machine;
 
-/// The state of a priority channel of at most `N` messages: one leaves that none of the held ones is above.
+/// The state of a priority channel of at most `N` messages. The message that leaves is one that no held message is
+/// above.
 pub type ChannelState<T, W, O, const N: usize> = Mailbox<PrioQueue<T, O, N>, W>;
 
 /// A bounded channel of at most `N` messages that tasks on several threads share by reference.

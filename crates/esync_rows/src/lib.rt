@@ -1,4 +1,5 @@
-//! Rows of places without tags, which upstream has as `MaybeUninit`. Their memory is the row's own; nothing is allocated.
+//! Rows of places without tags, which upstream has as `MaybeUninit`. Their memory is the row's own; nothing is
+//! allocated.
 #![tactic(auto)]
 
 pub mod place;

@@ -1,14 +1,14 @@
-//! A place that holds an item, or only the bytes of one. Nothing in it says which.
+//! A place that holds an item, or only the bytes of one. Nothing in the place says which.
 //!
-//! Rust's `MaybeUninit` is such a place. Here the bytes are always those of some item, so that a place can be read and copied
-//! as memory; whether they are an item, which is owned, is known to the proofs alone.
+//! Rust's `MaybeUninit` is such a place. Here the bytes are always those of some item, so that a place can be read and
+//! copied as memory. Whether the bytes are an item, which is owned, is known to the proofs alone.
 ghost use Rattle.std.specs.Prelude.{◌≡◌, Option, Some, None, IsSome};
 ghost use Rattle.std.specs.Coded.{coded_option};
 ghost use Rattle.esync_rows.specs.Place.{place_owns, place_lends};
 
 use std::marker::{Move, Owns, Send, Sync};
 
-/// A place of exactly an item's bytes. A clause sees the item that it holds, as an option.
+/// A place of exactly an item's bytes. A clause sees the item that the place holds, as an option.
 pub struct Place<T> {
     item: T,
 }
@@ -30,14 +30,14 @@ unsafe impl<T: Send> Send for Place<T> {}
 unsafe impl<T: Sync> Sync for Place<T> {}
 
 impl<T> Place<T> {
-    /// Returns a place that holds this item.
+    /// Returns a place that holds the item.
     pub fn new(item: T) -> Place<T>
         ensures { result ≡ Some item }
     {
         Place { item }
     }
 
-    /// Takes the item. The place keeps its bytes alone.
+    /// Takes the item and returns it. The place keeps only the item's bytes.
     pub fn take(&mut self) -> T
         requires { IsSome self.old }
         ensures item { self.old ≡ Some result }
@@ -47,7 +47,7 @@ impl<T> Place<T> {
         unsafe { place.read() }
     }
 
-    /// Puts an item into an empty place, over the bytes that it has.
+    /// Puts an item into an empty place, over the bytes that are there.
     pub fn put(&mut self, item: T)
         requires { self.old ≡ None }
         ensures { self.new ≡ Some item }
@@ -65,7 +65,7 @@ impl<T> Place<T> {
         unsafe { place.read() }
     }
 
-    /// Returns the item that it holds.
+    /// Returns the item in the place.
     pub fn get(&self) -> &T
         requires { IsSome self.now }
         ensures { self.now ≡ Some result.now }

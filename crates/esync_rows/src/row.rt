@@ -1,5 +1,5 @@
-//! N places, each with an item or without one. Nothing in them says which: the container that owns the row knows it, as a queue
-//! does by its length.
+//! N places, each with an item or without one. Nothing in them says which: the container that owns the row knows it, as
+//! a queue does by its length.
 ghost use Rattle.std.specs.Prelude.{◌≡◌, ◌<◌, length, get_or, slice_set, Some, None, IsSome};
 ghost use Rattle.std.proofs.Math.ListN.{replicate};
 
@@ -31,7 +31,7 @@ impl<T, const N: usize> Model for Row<T, N> {
     ghost view = { λ a. places_in N a.cells };
 }
 
-// Returns N places that hold nothing, with the bytes of this one.
+// Returns N places that hold nothing, each with the bytes of `blank`.
 fn spares<T, const N: usize>(blank: &mut Place<T>) -> [Place<T>; N]
     ensures { result ≡ replicate N None }
 {
@@ -61,7 +61,7 @@ fn take_at<T>(places: &mut [Place<T>], i: usize) -> T
     places[i].take()
 }
 
-// Returns N places of which place i holds this item.
+// Returns N places of which place i holds the item.
 fn started<T, const N: usize>(i: usize, item: T) -> [Place<T>; N]
     requires { i < N }
     ensures { result ≡ slice_set (replicate N None) i (Some item) }
@@ -83,7 +83,7 @@ impl<T, const N: usize> Row<T, N> {
         Row { cells: None }
     }
 
-    /// Puts an item into an empty place.
+    /// Puts an item into place `i`, which is empty.
     pub fn put(&mut self, i: usize, item: T)
         requires below { i < N }
         requires free { get_or self.old i None ≡ None }
@@ -106,7 +106,7 @@ impl<T, const N: usize> Row<T, N> {
         let _gone = unsafe { ManuallyDrop::new_unchecked(old) };
     }
 
-    /// Takes the item of a place.
+    /// Takes the item of place `i` and returns it.
     pub fn take(&mut self, i: usize) -> T
         requires below { i < N }
         requires held { IsSome (get_or self.old i None) }
@@ -119,7 +119,7 @@ impl<T, const N: usize> Row<T, N> {
         take_at(&mut cells[..], i)
     }
 
-    /// Returns the item of a place.
+    /// Returns the item of place `i`.
     pub fn get(&self, i: usize) -> &T
         requires below { i < N }
         requires held { IsSome (get_or self.now i None) }
@@ -132,7 +132,7 @@ impl<T, const N: usize> Row<T, N> {
         cells[i].get()
     }
 
-    /// Lets go of a row without an item. Nothing is dropped.
+    /// Frees a row that holds no item. Nothing is dropped.
     pub fn free(self)
         requires { self ≡ replicate N None }
     {

@@ -8,10 +8,10 @@ use std::alloc::AllocError;
 use std::fmt;
 use std::marker::Model;
 
-/// The wakers of at most `N` tasks, no two of them equal, in the order in which they were registered.
+/// The wakers of at most `N` tasks, no two of them equal, in the order of their registration.
 pub type MultiWakerRegistration<W, const N: usize> = WakerRegistrations<Wakes<W, N>>;
 
-/// The wakers of as many tasks as its list has room for, no two of them equal, in the order in which they were registered.
+/// The wakers of as many tasks as the list `L` has room for, no two of them equal, in the order of their registration.
 #[derive(Drop)]
 pub struct WakerRegistrations<L: WakerList> {
     wakers: L,
@@ -33,7 +33,7 @@ impl<L: WakerList> Kept for WakerRegistrations<L> {
     }
 }
 
-/// The wakers, in order, as a list.
+/// Shows the wakers as a list, in order.
 impl<L: WakerList + fmt::Debug> fmt::Debug for WakerRegistrations<L> {
     fn fmt<F: fmt::Write>(&self, f: &mut fmt::Formatter<F>) -> fmt::Result {
         self.wakers.fmt(f)
@@ -41,15 +41,15 @@ impl<L: WakerList + fmt::Debug> fmt::Debug for WakerRegistrations<L> {
 }
 
 impl<L: WakerList> WakerRegistrations<L> {
-    /// A list with no waker.
+    /// Returns a list without a waker.
     pub fn new() -> Self
         ensures { result ≡ [] }
     {
         WakerRegistrations { wakers: L::new() }
     }
 
-    /// Registers a waker. One that equals a registered one changes nothing. A full list is handed out first, so that each
-    /// task that waited can register again if it still waits.
+    /// Registers a waker. If an equal waker is registered, nothing changes. If the list is full, all its wakers are
+    /// handed out, in order, and only the new one stays: each task that waited can register again if it still waits.
     pub fn register<const K: usize>(&mut self, waker: L::Waker, wakes: &mut Wakes<L::Waker, K>)
         requires place { 1 ≤ L.room }
         requires room { length wakes.old + L.room ≤ K }
@@ -84,21 +84,21 @@ impl<L: WakerList> WakerRegistrations<L> {
         }
     }
 
-    /// No waker is registered.
+    /// Returns whether no waker is registered.
     pub fn is_empty(&self) -> bool
         ensures { IsTrue result ↔ (self.now ≡ []) }
     {
         self.wakers.len() == 0
     }
 
-    /// The registered waker behind the first `i` ones, if there is one.
+    /// Returns registered waker `i`, counted from 0, or `None` if there is no such waker.
     pub fn get(&self, i: usize) -> Option<L::Waker>
         ensures { result ≡ slice_get self.now i }
     {
         self.wakers.get(i)
     }
 
-    // A waker that equals this one is registered.
+    // Whether a waker that equals this one is registered.
     fn has(&self, waker: L::Waker) -> bool
         ensures { result ≡ among L.Waker.eq waker self.now }
     {

@@ -15,15 +15,15 @@ use std::alloc::{AllocError, Global};
 use std::fmt;
 use std::marker::{Model, PhantomData};
 
-/// Nobody waits for the value: no request is ever made.
+/// A request, of which there is none: no task waits for the value.
 #[derive(Clone, Copy, Debug, PartialEq, Eq)]
 pub struct NoAsk {}
 
-/// The calls.
+/// The calls of a lazy lock.
 #[derive(Clone, Copy, Debug, PartialEq, Eq)]
 pub enum LazyCall {
     Get,
-    /// Takes the value out. Nothing is there after it.
+    /// Takes the value out. Nothing is there afterwards.
     Into,
 }
 
@@ -60,7 +60,7 @@ impl<T: Copy, M: Copy, W> Kept for LazyHolder<T, M, W> {
     }
 }
 
-/// Nobody: nobody waits for the value.
+/// No waker is registered: no task waits for the value.
 impl<T, M, W> Registered for LazyHolder<T, M, W> {
     type Waker = W;
 
@@ -74,7 +74,7 @@ impl<T, M, W> Registered for LazyHolder<T, M, W> {
 }
 
 impl<T: Drop, M: Maker<T> + Drop, W> LazyHolder<T, M, W> {
-    /// No value yet. None is made before it is asked for.
+    /// Returns a lock whose value isn't made yet.
     pub fn new(maker: M) -> Self
         ensures { result ≡ Some (record { value = None; maker = maker }) }
     {
@@ -167,21 +167,22 @@ impl<T: Copy, M: Maker<T> + Drop, W: Copy + Eq, const K: usize> Primitive<K>
     ghost no_requests = { record { polls = λ o o2 h h2 a k live. absurd live; calls = λ o o2 call p a h2 k live. absurd live } };
 }
 
-/// A value that is made when it is first asked for as a machine, with the numbers below `REQS`.
+/// A lazy lock as a machine, with the numbers below `REQS`.
 pub type LazyRun<T, M, W, const REQS: usize, const K: usize> = Requests<
     LazyHolder<T, M, W>,
     REQS,
     K,
 >;
 
-/// The commands of a value that is made when it is first asked for.
+/// The commands of a lazy lock.
 pub type LazyCommand<W> = Command<NoAsk, W, LazyCall>;
 
-/// What is answered to a command. It hands out no waker.
+/// The reply of a lazy lock to a command. It hands out no waker.
 pub type LazyReply<T, W, const K: usize> = Reply<Answer<T>, W, K>;
 
-/// Gives the commands to the value, one after another, as `run` does: the value is what its maker made at the first one that asked
-/// for it, and nothing is there once it was taken out.
+/// Gives the commands to the value, one after another, as `run` does, and returns the replies in order. After an error
+/// no command was taken. The value is what its maker made at the first command that asked for it. Nothing is there once
+/// it was taken out.
 pub fn run_lazy<T: Copy, M: Maker<T> + Drop, W: Copy + Eq, const REQS: usize, const K: usize>(
     alloc: Global,
     machine: &mut LazyRun<T, M, W, REQS, K>,

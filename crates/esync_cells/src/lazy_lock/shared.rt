@@ -4,8 +4,8 @@ ghost use Rattle.std.specs.Prelude.{◌≡◌};
 use std::marker::Model;
 use std::sync::{OnceLock, Wait};
 
-/// A value that a closure makes when it is first asked for, shared by reference with tasks on several threads. It has no lock:
-/// only who asks while the closure runs waits for it. The closure must not use this lock.
+/// A value that a closure makes when it is first asked for, shared by reference with tasks on several threads. It has
+/// no lock: only a thread that asks while the closure runs waits for it. The closure must not use this lock.
 #[derive(Drop)]
 pub struct LazyLock<T, F> {
     data: OnceLock<T>,
@@ -21,7 +21,7 @@ impl<T, F> Model for LazyLock<T, F> {
 }
 
 impl<T: Drop, F: Fn() -> T + Drop> LazyLock<T, F> {
-    /// No value yet. The closure isn't called before the value is asked for.
+    /// Returns a lock whose value isn't made yet. The closure isn't called before the value is asked for.
     pub fn new(init_fn: F) -> Self
         ensures { result ≡ init_fn }
     {
@@ -31,14 +31,14 @@ impl<T: Drop, F: Fn() -> T + Drop> LazyLock<T, F> {
         }
     }
 
-    /// Lends the value. The first time the closure makes it.
+    /// Returns the value by reference. The first call makes it by the closure.
     pub fn get(&self, rt: &impl Wait) -> &T
         requires { F.pre self.now }
     {
         self.data.get_or_init(rt, &self.init_fn)
     }
 
-    /// The value. Where it was not asked for before, the closure makes it.
+    /// Returns the value. Makes it by the closure if it was not asked for before.
     pub fn into_inner(self) -> T
         requires { F.pre self }
     {

@@ -12,11 +12,11 @@ use esync_machine::requests::Requests;
 use esync_machine::run::{Reply, run};
 use std::alloc::{AllocError, Global};
 
-/// A wait for the value, which is shown and stays.
+/// A request for the value. It is shown, and stays.
 #[derive(Clone, Copy, Debug, PartialEq, Eq)]
 pub struct Get {}
 
-/// The other calls of a value that is set once.
+/// The calls of a once lock that are no start, poll or end.
 #[derive(Clone, Copy, Debug, PartialEq, Eq)]
 pub enum OnceCall<T> {
     TryGet,
@@ -26,7 +26,7 @@ pub enum OnceCall<T> {
     IsSet,
 }
 
-/// What a value that is set once answers.
+/// The answers of a once lock.
 #[derive(Clone, Copy, Debug, PartialEq, Eq)]
 pub enum OnceHeard<T> {
     /// The value that the request waited for.
@@ -35,7 +35,7 @@ pub enum OnceHeard<T> {
     Found(Option<T>),
     /// Whether the value was set.
     HasSet(Result<(), InitError<T>>),
-    /// The value, which was set before if none was there.
+    /// The value that is there, set by this call if none was there before.
     Shown(T),
     IsSet(bool),
 }
@@ -119,21 +119,23 @@ impl<T: Copy, W: Copy + Eq, const K: usize> Primitive<K> for OnceState<T, W> {
     ghost no_requests = { all_requests (once_rules T) (λ h. tt) (λ o o2 call p p2 a c. c.1) };
 }
 
-/// A value that is set once as a machine, with requests at the numbers below `REQS`.
+/// A once lock as a machine, with requests at the numbers below `REQS`.
 pub type OnceRun<T, W, const REQS: usize, const K: usize> = Requests<OnceState<T, W>, REQS, K>;
 
-/// The commands of a value that is set once.
+/// The commands of a once lock.
 pub type OnceCommand<T, W> = Command<Get, W, OnceCall<T>>;
 
-/// What a value that is set once answers to a command, with the wakers that it hands out.
+/// The reply of a once lock to a command, with the wakers that it hands out.
 pub type OnceReply<T, W, const K: usize> = Reply<Answer<OnceHeard<T>>, W, K>;
 
-/// Gives the commands to the value, one after another, as `run` does.
+/// Gives the commands to the value, one after another, as `run` does, and returns the replies in order. After an error
+/// no command was taken.
 ///
-/// The answers are those of an optional value, and no wake is lost, since a poll that finds no value wakes itself. A value that was
-/// set, before the run or by a successful `Init` or a `GetOrInit`, stays until a `Take`: each call shows it, and so does each poll of a
-/// request, whether it stood at its number before the run or was started in it. A poll at a number without a request is answered
-/// `NoSuch`.
+/// The answers are those of an optional value, and no wake is lost, since a poll that finds no value wakes itself.
+///
+/// A value that was set stays until a `Take`, whether it was set before the run, by a successful `Init` or by a
+/// `GetOrInit`. Each call shows it. So does each poll of a request, whether the request stood at its number before the
+/// run or was started in it. A poll at a number without a request is answered `NoSuch`.
 pub fn run_once<T: Copy, W: Copy + Eq, const REQS: usize, const K: usize>(
     alloc: Global,
     machine: &mut OnceRun<T, W, REQS, K>,

@@ -6,8 +6,8 @@ use esync_base::waitqueue::{Context, Hand, Poll};
 use std::marker::PhantomData;
 use std::sync;
 
-/// A value that is set once and shared by reference with tasks on several threads. It has no lock: only who sets the value waits,
-/// for another one that is just setting it.
+/// A value that is set once and shared by reference with tasks on several threads. It has no lock: only a thread that
+/// sets the value waits, while another one is setting it.
 #[derive(Drop)]
 pub struct OnceLock<T, W, H> {
     data: sync::OnceLock<T>,
@@ -16,7 +16,7 @@ pub struct OnceLock<T, W, H> {
 }
 
 impl<T: Drop, W, H> OnceLock<T, W, H> {
-    /// No value.
+    /// Returns a lock without a value.
     pub fn new(hand: H) -> Self {
         OnceLock {
             data: sync::OnceLock::new(),
@@ -25,12 +25,13 @@ impl<T: Drop, W, H> OnceLock<T, W, H> {
         }
     }
 
-    /// Lends the value, when it was set.
+    /// Returns a future that gives the value by reference when it was set.
     pub fn get(&self) -> OnceGet<'_, T, W, H> {
         OnceGet { lock: self }
     }
 
-    /// Lends the value. Where there is none, the hand gets the context's waker at once: whoever waits polls again and again.
+    /// Returns the value by reference. If there is none, gives the context's waker to the hand at once and returns
+    /// Pending, so that the task polls again.
     pub fn poll_get(&self, cx: &Context<W>) -> Poll<&T>
     where
         W: Copy,
@@ -45,12 +46,12 @@ impl<T: Drop, W, H> OnceLock<T, W, H> {
         }
     }
 
-    /// Lends the value, if there is one.
+    /// Returns the value by reference, or `None` if there is none.
     pub fn try_get(&self) -> Option<&T> {
         self.data.get()
     }
 
-    /// Sets the value. Where there is one, it stays, and the other comes back.
+    /// Sets the value. If there is one already, it stays, and the new one is in the error.
     pub fn init(&self, value: T) -> Result<(), InitError<T>>
     where
         H: Hand<W>,
@@ -62,7 +63,8 @@ impl<T: Drop, W, H> OnceLock<T, W, H> {
         }
     }
 
-    /// Lends the value. Where there is none, it is first set to what the closure gives, which must not use this lock.
+    /// Returns the value by reference. If there is none, first sets it to what the closure returns. The closure must
+    /// not use this lock.
     pub fn get_or_init<F: FnOnce() -> T + Drop>(&self, f: F) -> &T
     where
         H: Hand<W>,
@@ -71,7 +73,7 @@ impl<T: Drop, W, H> OnceLock<T, W, H> {
         self.data.get_or_init(self.hand.rt(), f)
     }
 
-    /// The value, if it was set.
+    /// Returns the value, or `None` if it was not set.
     pub fn into_inner(self) -> Option<T>
     where
         H: Drop,
@@ -84,18 +86,18 @@ impl<T: Drop, W, H> OnceLock<T, W, H> {
         data.into_inner()
     }
 
-    /// Takes the value, if it was set. It can then be set again.
+    /// Takes the value and returns it, or `None` if it was not set. A value can then be set again.
     pub fn take(&mut self) -> Option<T> {
         self.data.take()
     }
 
-    /// The value was set.
+    /// Returns whether the value was set.
     pub fn is_set(&self) -> bool {
         self.data.get().is_some()
     }
 }
 
-/// A wait for the value: what `get` gives. It acts anew after it was ready.
+/// A future that gives the value by reference. `get` returns it. After it was ready, a poll gives the value again.
 #[must_use]
 #[derive(Drop)]
 pub struct OnceGet<'a, T, W, H> {
@@ -103,7 +105,8 @@ pub struct OnceGet<'a, T, W, H> {
 }
 
 impl<'a, T: Drop, W: Copy, H: Hand<W>> OnceGet<'a, T, W, H> {
-    /// Lends the value. Where there is none, the context's waker is handed out at once.
+    /// Returns the value by reference. If there is none, gives the context's waker to the hand at once and returns
+    /// Pending.
     pub fn poll(&mut self, cx: &Context<W>) -> Poll<&'a T> {
         self.lock.poll_get(cx)
     }

@@ -11,11 +11,11 @@ use esync_machine::requests::Requests;
 use esync_machine::run::{Reply, run};
 use std::alloc::{AllocError, Global};
 
-/// A wait for the value.
+/// A request for the value.
 #[derive(Clone, Copy, Debug, PartialEq, Eq)]
 pub struct Wait {}
 
-/// The other calls of a signal.
+/// The calls of a signal that are no start, poll or end.
 #[derive(Clone, Copy, Debug, PartialEq, Eq)]
 pub enum SignalCall<T> {
     Signal(T),
@@ -24,7 +24,7 @@ pub enum SignalCall<T> {
     Signaled,
 }
 
-/// What a signal answers.
+/// The answers of a signal.
 #[derive(Clone, Copy, Debug, PartialEq, Eq)]
 pub enum SignalHeard<T> {
     /// The value that the request waited for.
@@ -128,11 +128,11 @@ pub type SignalRun<T, W, const REQS: usize, const K: usize> = Requests<SignalSta
 /// The commands of a signal.
 pub type SignalCommand<T, W> = Command<Wait, W, SignalCall<T>>;
 
-/// What a signal answers to a command, with the wakers that it hands out.
+/// The reply of a signal to a command, with the wakers that it hands out.
 pub type SignalReply<T, W, const K: usize> = Reply<Answer<SignalHeard<T>>, W, K>;
 
-/// Gives the commands to the signal, one after another, as `run` does: the answers are those of an optional value, and no wake
-/// is lost.
+/// Gives the commands to the signal, one after another, as `run` does, and returns the replies in order. The answers
+/// are those of an optional value, and no wake is lost.
 pub fn run_signal<T: Drop, W: Copy + Eq, const REQS: usize, const K: usize>(
     alloc: Global,
     machine: &mut SignalRun<T, W, REQS, K>,

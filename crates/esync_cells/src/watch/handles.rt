@@ -40,52 +40,52 @@ impl<'a, B: WatchBehavior> Snd<'a, B> {
         Snd { watch }
     }
 
-    /// The same sender, whose type doesn't say how many receivers the watch has room for.
+    /// Returns this sender, in a type that doesn't say how many receivers the watch has room for.
     pub fn as_dyn(self) -> DynSender<'a, B> {
         self
     }
 
-    /// Puts a value, whatever is there, under the next version, and wakes who waits.
+    /// Puts a value under the next version, whatever is there, and wakes the tasks that wait for news.
     ///
     /// # Errors
     ///
-    /// The value comes back where versions have run out, and nothing is changed.
+    /// If versions have run out, nothing changes, and the value is in the error.
     pub fn send(&self, value: B::Value) -> Result<(), Exhausted<B::Value>>
         ensures { IfErr result (λ back. back.0 ≡ value) }
     {
         self.watch.send(value)
     }
 
-    /// Changes the value, under the next version, and wakes who waits, whether or not the change answers that there is another
-    /// value.
+    /// Changes the value, puts it under the next version, and wakes the tasks that wait for news, whatever the change
+    /// answers.
     ///
     /// # Errors
     ///
-    /// Where versions have run out the change isn't called, and nothing is changed.
+    /// If versions have run out, the change isn't called, and nothing changes.
     pub fn send_modify<C: Change<B::Value>>(&self, change: &C) -> Result<(), Exhausted<()>> {
         self.watch.send_modify(change)
     }
 
-    /// Changes the value. Where the change answers that there is another value, it stands under the next version, and who waits is
-    /// woken.
+    /// Changes the value. If the change answers true, puts it under the next version, and wakes the tasks that wait for
+    /// news.
     ///
     /// # Errors
     ///
-    /// Where versions have run out the change isn't called, and nothing is changed.
+    /// If versions have run out, the change isn't called, and nothing changes.
     pub fn send_if_modified<C: Change<B::Value>>(&self, change: &C) -> Result<(), Exhausted<()>> {
         self.watch.send_if_modified(change)
     }
 
-    /// Drops the value. The version stays, and who waits goes on waiting.
+    /// Drops the value. The version stays, and tasks that wait for news go on waiting.
     pub fn clear(&self) {
         self.watch.clear()
     }
 
-    /// A clone of the value, if there is one.
+    /// Reads the value and returns a clone of it, or `None` if there is none.
     ///
     /// # Errors
     ///
-    /// Where a clone has no memory.
+    /// A clone has no memory.
     pub fn try_get(&self) -> Result<Option<B::Value>, AllocError>
         ensures { (after : ℕ) × ReadsSome B.Value.is_clone B.Value.is_infallible Always (λ v. true) 0 result after }
     {
@@ -93,11 +93,11 @@ impl<'a, B: WatchBehavior> Snd<'a, B> {
         self.watch.try_get(&mut seen)
     }
 
-    /// A clone of the value, if there is one that passes the test.
+    /// Reads the value and returns a clone of it if it passes the test. Returns `None` if there is no such value.
     ///
     /// # Errors
     ///
-    /// Where a clone has no memory.
+    /// A clone has no memory.
     pub fn try_get_and<F: Fn(&B::Value) -> bool + Drop>(
         &self,
         test: F,
@@ -109,7 +109,7 @@ impl<'a, B: WatchBehavior> Snd<'a, B> {
         self.watch.try_get_and(&test, &mut seen)
     }
 
-    /// There is a value now.
+    /// Returns whether there is a value now.
     pub fn contains_value(&self) -> bool {
         self.watch.contains_value()
     }
@@ -121,7 +121,7 @@ pub type Receiver<'a, T, W, H, const N: usize, const K: usize> = Rcv<'a, Watch<T
 /// A receiver whose type doesn't say how many receivers the watch has room for.
 pub type DynReceiver<'a, B> = Rcv<'a, B>;
 
-/// A receiver of a watch, which knows the version that it has seen. It is counted until it ends.
+/// A receiver of a watch, which knows the version that it has seen. It is counted until it is dropped.
 pub struct Rcv<'a, B: WatchBehavior> {
     watch: &'a B,
     seen: u64,
@@ -154,21 +154,22 @@ impl<'a, B: WatchBehavior> Rcv<'a, B> {
         Rcv { watch, seen: 0 }
     }
 
-    /// The same receiver, whose type doesn't say how many receivers the watch has room for. It keeps the version that it has seen.
+    /// Returns this receiver with the version that it has seen, in a type that doesn't say how many receivers the watch
+    /// has room for.
     pub fn as_dyn(self) -> DynReceiver<'a, B>
         ensures { result.seen ≡ self.entry.seen }
     {
         self
     }
 
-    /// The value, when there is one.
+    /// Returns a future that gives a clone of the value when there is one.
     pub fn get<'s>(&'s mut self) -> Get<'s, 'a, B>
         ensures { result.seen ≡ self.old.seen }
     {
         self.waits_for(Anything {})
     }
 
-    /// The value, when there is one that passes the test.
+    /// Returns a future that gives a clone of the value when there is one that passes the test.
     pub fn get_and<'s, F: Fn(&B::Value) -> bool>(&'s mut self, test: F) -> GetAnd<'s, 'a, B, F>
         ensures test { result.sought.test ≡ test }
         ensures seen { result.seen ≡ self.old.seen }
@@ -176,14 +177,15 @@ impl<'a, B: WatchBehavior> Rcv<'a, B> {
         self.waits_for(Passing { test })
     }
 
-    /// The value, when its version is newer than the one that was seen.
+    /// Returns a future that gives a clone of the value when its version is newer than the seen one.
     pub fn changed<'s>(&'s mut self) -> Changed<'s, 'a, B>
         ensures { result.seen ≡ self.old.seen }
     {
         self.waits_for(News {})
     }
 
-    /// The value, when it passes the test and its version is newer than the one that was seen.
+    /// Returns a future that gives a clone of the value when it passes the test and its version is newer than the seen
+    /// one.
     pub fn changed_and<'s, F: Fn(&B::Value) -> bool>(
         &'s mut self,
         test: F,
@@ -194,7 +196,7 @@ impl<'a, B: WatchBehavior> Rcv<'a, B> {
         self.waits_for(PassingNews { test })
     }
 
-    // What is sought, when it is there.
+    // A future that waits for what is sought.
     fn waits_for<'s, S>(&'s mut self, sought: S) -> Waiting<'s, 'a, B, S>
         ensures sought { result.sought ≡ sought }
         ensures seen { result.seen ≡ self.old.seen }
@@ -205,22 +207,23 @@ impl<'a, B: WatchBehavior> Rcv<'a, B> {
         }
     }
 
-    /// A clone of the value, if there is one. The version is marked as seen, also where there is none.
+    /// Reads the value and returns a clone of it, or `None` if there is none. Marks the version as seen in both cases.
     ///
     /// # Errors
     ///
-    /// Where a clone has no memory the seen version stays.
+    /// If a clone has no memory, the seen version stays.
     pub fn try_get(&mut self) -> Result<Option<B::Value>, AllocError>
         ensures { ReadsSome B.Value.is_clone B.Value.is_infallible Always (λ v. true) self.old.seen result self.new.seen }
     {
         self.watch.try_get(&mut self.seen)
     }
 
-    /// A clone of the value, if there is one that passes the test. Its version is marked as seen.
+    /// Reads the value and returns a clone of it if it passes the test. Marks its version as seen. Returns `None` if
+    /// there is no such value, and the seen version stays.
     ///
     /// # Errors
     ///
-    /// Where a clone has no memory the seen version stays.
+    /// If a clone has no memory, the seen version stays.
     pub fn try_get_and<F: Fn(&B::Value) -> bool + Drop>(
         &mut self,
         test: F,
@@ -231,24 +234,24 @@ impl<'a, B: WatchBehavior> Rcv<'a, B> {
         self.watch.try_get_and(&test, &mut self.seen)
     }
 
-    /// A clone of the value, if there is one and its version is newer than the one that was seen. A newer version is marked as seen,
-    /// also where there is no value.
+    /// Reads the value if its version is newer than the seen one, and returns a clone of it. Marks a newer version as
+    /// seen, even if there is no value. Returns `None` if there is no newer value.
     ///
     /// # Errors
     ///
-    /// Where a clone has no memory the seen version stays.
+    /// If a clone has no memory, the seen version stays.
     pub fn try_changed(&mut self) -> Result<Option<B::Value>, AllocError>
         ensures { ReadsSome B.Value.is_clone B.Value.is_infallible (WhereNewer self.old.seen) (nat_lt self.old.seen) self.old.seen result self.new.seen }
     {
         self.watch.try_changed(&mut self.seen)
     }
 
-    /// A clone of the value, if there is one that passes the test and its version is newer than the one that was seen. Its version is
-    /// marked as seen.
+    /// Reads the value if its version is newer than the seen one, and returns a clone of it if it passes the test.
+    /// Marks its version as seen. Returns `None` if there is no such value, and the seen version stays.
     ///
     /// # Errors
     ///
-    /// Where a clone has no memory the seen version stays.
+    /// If a clone has no memory, the seen version stays.
     pub fn try_changed_and<F: Fn(&B::Value) -> bool + Drop>(
         &mut self,
         test: F,
@@ -259,7 +262,7 @@ impl<'a, B: WatchBehavior> Rcv<'a, B> {
         self.watch.try_changed_and(&test, &mut self.seen)
     }
 
-    /// There is a value now.
+    /// Returns whether there is a value now.
     pub fn contains_value(&self) -> bool {
         self.watch.contains_value()
     }
@@ -274,7 +277,8 @@ pub type AnonReceiver<'a, T, W, H, const N: usize, const K: usize> = AnonRcv<
 /// A receiver that never waits, whose type doesn't say how many receivers the watch has room for.
 pub type DynAnonReceiver<'a, B> = AnonRcv<'a, B>;
 
-/// A receiver that never waits, and knows the version that it has seen. It isn't counted, so there may be any number of them.
+/// A receiver that never waits, and knows the version that it has seen. It isn't counted, so there may be any number of
+/// them.
 #[derive(Drop)]
 pub struct AnonRcv<'a, B> {
     watch: &'a B,
@@ -296,18 +300,19 @@ impl<'a, B: WatchBehavior> AnonRcv<'a, B> {
         AnonRcv { watch, seen: 0 }
     }
 
-    /// The same receiver, whose type doesn't say how many receivers the watch has room for. It keeps the version that it has seen.
+    /// Returns this receiver with the version that it has seen, in a type that doesn't say how many receivers the watch
+    /// has room for.
     pub fn as_dyn(self) -> DynAnonReceiver<'a, B>
         ensures { result.seen ≡ self.entry.seen }
     {
         self
     }
 
-    /// A clone of the value, if there is one. The version is marked as seen, also where there is none.
+    /// Reads the value and returns a clone of it, or `None` if there is none. Marks the version as seen in both cases.
     ///
     /// # Errors
     ///
-    /// Where a clone has no memory the seen version stays.
+    /// If a clone has no memory, the seen version stays.
     pub fn try_get(&mut self) -> Result<Option<B::Value>, AllocError>
         ensures { ReadsSome B.Value.is_clone B.Value.is_infallible Always (λ v. true) self.old.seen result self.new.seen }
     {
@@ -315,11 +320,12 @@ impl<'a, B: WatchBehavior> AnonRcv<'a, B> {
         watch.try_get(seen)
     }
 
-    /// A clone of the value, if there is one that passes the test. Its version is marked as seen.
+    /// Reads the value and returns a clone of it if it passes the test. Marks its version as seen. Returns `None` if
+    /// there is no such value, and the seen version stays.
     ///
     /// # Errors
     ///
-    /// Where a clone has no memory the seen version stays.
+    /// If a clone has no memory, the seen version stays.
     pub fn try_get_and<F: Fn(&B::Value) -> bool + Drop>(
         &mut self,
         test: F,
@@ -331,12 +337,12 @@ impl<'a, B: WatchBehavior> AnonRcv<'a, B> {
         watch.try_get_and(&test, seen)
     }
 
-    /// A clone of the value, if there is one and its version is newer than the one that was seen. A newer version is marked as seen,
-    /// also where there is no value.
+    /// Reads the value if its version is newer than the seen one, and returns a clone of it. Marks a newer version as
+    /// seen, even if there is no value. Returns `None` if there is no newer value.
     ///
     /// # Errors
     ///
-    /// Where a clone has no memory the seen version stays.
+    /// If a clone has no memory, the seen version stays.
     pub fn try_changed(&mut self) -> Result<Option<B::Value>, AllocError>
         ensures { ReadsSome B.Value.is_clone B.Value.is_infallible (WhereNewer self.old.seen) (nat_lt self.old.seen) self.old.seen result self.new.seen }
     {
@@ -344,12 +350,12 @@ impl<'a, B: WatchBehavior> AnonRcv<'a, B> {
         watch.try_changed(seen)
     }
 
-    /// A clone of the value, if there is one that passes the test and its version is newer than the one that was seen. Its version is
-    /// marked as seen.
+    /// Reads the value if its version is newer than the seen one, and returns a clone of it if it passes the test.
+    /// Marks its version as seen. Returns `None` if there is no such value, and the seen version stays.
     ///
     /// # Errors
     ///
-    /// Where a clone has no memory the seen version stays.
+    /// If a clone has no memory, the seen version stays.
     pub fn try_changed_and<F: Fn(&B::Value) -> bool + Drop>(
         &mut self,
         test: F,
@@ -361,37 +367,38 @@ impl<'a, B: WatchBehavior> AnonRcv<'a, B> {
         watch.try_changed_and(&test, seen)
     }
 
-    /// There is a value now.
+    /// Returns whether there is a value now.
     pub fn contains_value(&self) -> bool {
         self.watch.contains_value()
     }
 }
 
-/// What a poll of a watch answers.
+/// The answer of a poll of a watch.
 type Polled<B> = Result<Poll<<B as WatchBehavior>::Value>, AllocError>;
 
-/// What a receiver of a watch waits for.
+/// What a receiver of a watch seeks.
 pub trait Sought<B: WatchBehavior> {
     ghost use Rattle.std.specs.Prelude.{ℕ, Bool, Option, ⊤};
 
-    /// It can be looked for. Without a word of its own it always can.
+    /// What has to hold for a poll to be made. It holds always, unless a type says otherwise.
     ghost can_look: { Self → Type 0 } = { λ _. ⊤ };
 
-    /// Whether a value of some version is shown to who has seen that one.
+    /// Whether a value of one version is shown to a receiver that has seen another version.
     ghost shows: { Self → ℕ → Option B.Value → ℕ → Bool → Type 0 };
 
-    /// A clone of the value, if it is shown, and marks its version as seen. Elsewhere the context's waker waits for one.
+    /// Polls for the value, if it is shown: returns a clone of it, and marks its version as seen. If it isn't shown,
+    /// registers the context's waker and returns Pending.
     ///
     /// # Errors
     ///
-    /// Where a clone has no memory the seen version stays, and nobody is registered.
+    /// If a clone has no memory, the seen version stays, and no waker is registered.
     fn poll(&self, watch: &B, seen: &mut u64, cx: &Context<B::Waker>) -> Polled<B>
         requires place { 1 ≤ B.places }
         requires can { can_look self.now }
         ensures { ReadsSome B.Value.is_clone B.Value.is_infallible (shows self.now seen.old) (λ v. false) seen.old (polled result) seen.new };
 }
 
-/// The value.
+/// What `get` seeks: the value.
 #[derive(Drop)]
 pub struct Anything {}
 
@@ -405,7 +412,7 @@ impl<B: WatchBehavior> Sought<B> for Anything {
     }
 }
 
-/// The value, if its version is newer than the one that was seen.
+/// What `changed` seeks: the value, if its version is newer than the seen one.
 #[derive(Drop)]
 pub struct News {}
 
@@ -419,7 +426,7 @@ impl<B: WatchBehavior> Sought<B> for News {
     }
 }
 
-/// The value, if it passes the test.
+/// What `get_and` seeks: the value, if it passes the test.
 #[derive(Drop)]
 pub struct Passing<F> {
     pub test: F,
@@ -438,7 +445,7 @@ impl<B: WatchBehavior, F: Fn(&B::Value) -> bool> Sought<B> for Passing<F> {
     }
 }
 
-/// The value, if it passes the test and its version is newer than the one that was seen.
+/// What `changed_and` seeks: the value, if it passes the test and its version is newer than the seen one.
 #[derive(Drop)]
 pub struct PassingNews<F> {
     pub test: F,
@@ -457,19 +464,19 @@ impl<B: WatchBehavior, F: Fn(&B::Value) -> bool> Sought<B> for PassingNews<F> {
     }
 }
 
-/// The value on its way to a receiver: what `get` gives.
+/// A future that gives the value. `get` returns it.
 pub type Get<'s, 'a, B> = Waiting<'s, 'a, B, Anything>;
 
-/// News on its way to a receiver: what `changed` gives.
+/// A future that gives news. `changed` returns it.
 pub type Changed<'s, 'a, B> = Waiting<'s, 'a, B, News>;
 
-/// A value that passes a test, on its way to a receiver: what `get_and` gives.
+/// A future that gives a value which passes a test. `get_and` returns it.
 pub type GetAnd<'s, 'a, B, F> = Waiting<'s, 'a, B, Passing<F>>;
 
-/// News that pass a test, on their way to a receiver: what `changed_and` gives.
+/// A future that gives news which pass a test. `changed_and` returns it.
 pub type ChangedAnd<'s, 'a, B, F> = Waiting<'s, 'a, B, PassingNews<F>>;
 
-/// What is sought, on its way to a receiver. It acts anew after it was ready.
+/// A future that gives a receiver what it seeks. After it was ready, a poll seeks again.
 #[must_use]
 #[derive(Drop)]
 pub struct Waiting<'s, 'a, B: WatchBehavior, S> {
@@ -488,11 +495,12 @@ impl<'s, 'a, B: WatchBehavior, S> Model for Waiting<'s, 'a, B, S> {
 }
 
 impl<'s, 'a, B: WatchBehavior, S: Sought<B>> Waiting<'s, 'a, B, S> {
-    /// A clone of the value that is sought, whose version is marked as seen. Where there is none, the context's waker waits for one.
+    /// Polls for what is sought: returns a clone of it, and marks its version as seen. If there is none, registers the
+    /// context's waker and returns Pending.
     ///
     /// # Errors
     ///
-    /// Where a clone has no memory the seen version stays, and nobody is registered.
+    /// If a clone has no memory, the seen version stays, and no waker is registered.
     pub fn poll(&mut self, cx: &Context<B::Waker>) -> Polled<B>
         requires { S.can_look self.old.sought }
         ensures same { self.new.sought ≡ self.old.sought }

@@ -29,27 +29,27 @@ pub struct Seen {
     pub version: u64,
 }
 
-/// What a receiver reads.
+/// What a receiver reads of a watch.
 #[derive(Clone, Copy, Debug, PartialEq, Eq)]
 pub enum Reading<J> {
     /// The value.
     Get,
-    /// The value, if its version is newer than the one that was seen.
+    /// The value, if its version is newer than the one that the receiver has seen.
     Changed,
     /// The value, if it passes the test.
     GetAnd(J),
-    /// The value, if it passes the test and its version is newer than the one that was seen.
+    /// The value, if it passes the test and its version is newer than the one that the receiver has seen.
     ChangedAnd(J),
 }
 
-/// A wait of the counted receiver at a number for what it reads.
+/// A request of the counted receiver at a number, for what it reads.
 #[derive(Clone, Copy, Debug, PartialEq, Eq)]
 pub struct Await<J> {
     pub receiver: usize,
     pub read: Reading<J>,
 }
 
-/// The other calls of a watch.
+/// The calls of a watch that are no start, poll or end.
 #[derive(Clone, Copy, Debug, PartialEq, Eq)]
 pub enum WatchCall<T, C, J> {
     /// Makes a counted receiver at a free number, if there is room for one more.
@@ -63,7 +63,7 @@ pub enum WatchCall<T, C, J> {
     Send(T),
     /// Changes the value and sends it.
     Modify(C),
-    /// Changes the value and sends it, if the change tells that there is another one.
+    /// Changes the value, and sends it if the change answers that there is another value.
     ModifyIf(C),
     /// Reads the value for no receiver.
     TryGet,
@@ -75,7 +75,7 @@ pub enum WatchCall<T, C, J> {
     Contains,
 }
 
-/// What a watch answers.
+/// The answers of a watch.
 #[derive(Clone, Copy, Debug, PartialEq, Eq)]
 pub enum WatchHeard<T> {
     /// The value that the request waited for.
@@ -93,7 +93,7 @@ pub enum WatchHeard<T> {
 }
 
 impl<T: Clone, L: WakerList> WatchOver<T, L> {
-    // The value, if there is one, is shown to a reader of this who has seen that version.
+    // Whether the value, if there is one, is shown to a receiver that reads this and has seen that version.
     fn shows<J: Judge<T>>(&self, read: &Reading<J>, seen: u64) -> bool
         ensures { result ≡ shows J.passes self.now.value self.now.version seen read.now }
     {
@@ -105,7 +105,7 @@ impl<T: Clone, L: WakerList> WatchOver<T, L> {
         }
     }
 
-    // A try of this marks the version as seen, also where it finds nothing.
+    // Whether a read of this marks the version as seen even if it finds nothing.
     fn marks<J>(&self, read: &Reading<J>, seen: u64) -> bool
         ensures { result ≡ marks self.now.version seen read.now }
     {
@@ -117,7 +117,7 @@ impl<T: Clone, L: WakerList> WatchOver<T, L> {
     }
 }
 
-// Counts one receiver less, if this one is counted.
+// Counts one receiver less, if the one that leaves is counted.
 fn drop_counted<T: Drop, L: WakerList>(state: &mut WatchOver<T, L>, is_counted: bool)
     requires { is_counted ≡ true → 1 ≤ state.old.receivers }
     ensures state { state.new ≡ record state.old { receivers = state.new.receivers } }
@@ -181,7 +181,7 @@ impl<
     J: Judge<T> + Drop,
     const NAMES: usize,
 > Watched<T, L, C, J, NAMES> {
-    // The version that the receiver at the number has seen, and 0 where there is none.
+    // The version that the receiver at the number has seen, or 0 if no receiver is there.
     fn seen_at(&self, h: usize) -> u64
         ensures { result ≡ seen_at self.now.receivers h }
     {
@@ -191,7 +191,7 @@ impl<
         }
     }
 
-    // The receiver at the number, if there is one, has seen the version.
+    // Marks the version as seen by the receiver at the number, if one is there.
     #[tactic(auto, using(crate::specs::ReceiversLaws::in_table))]
     fn mark(&mut self, h: usize, version: u64)
         ensures { self.new ≡ record self.old { receivers = with_seen h version self.old.receivers } }
@@ -205,14 +205,14 @@ impl<
         }
     }
 
-    // The number is one of the table, and free.
+    // Whether the number is one of the table, and free.
     fn is_free(&self, h: usize) -> bool
         ensures { result ≡ is_free h self.now.receivers }
     {
         h < NAMES && self.receivers.get(h).is_none()
     }
 
-    /// A watch without receivers and without a value, at version 0.
+    /// Returns a watch without receivers and without a value, at version 0.
     pub fn new() -> Self
         ensures state { result.state ≡ fresh None 0 }
         ensures receivers { result.receivers ≡ replicate NAMES None }
@@ -220,7 +220,7 @@ impl<
         Watched::with_state(WatchOver::new())
     }
 
-    /// A watch without receivers, with this value, at version 0: nobody has news of it.
+    /// Returns a watch without receivers, with the value at version 0, which is news to no receiver.
     pub fn new_with(value: T) -> Self
         ensures state { result.state ≡ fresh (Some value) 0 }
         ensures receivers { result.receivers ≡ replicate NAMES None }
@@ -228,7 +228,7 @@ impl<
         Watched::with_state(WatchOver::new_with(value))
     }
 
-    /// A watch without receivers and without a value, at this version.
+    /// Returns a watch without receivers and without a value, at the version.
     pub fn new_at(version: u64) -> Self
         ensures state { result.state ≡ fresh None version }
         ensures receivers { result.receivers ≡ replicate NAMES None }
@@ -236,7 +236,7 @@ impl<
         Watched::with_state(WatchOver::new_at(version))
     }
 
-    // A watch without receivers, in this state, in which nobody is counted.
+    // A watch without receivers in this state, in which no receiver is counted.
     fn with_state(state: WatchOver<T, L>) -> Self
         requires { state.receivers ≡ 0 }
         ensures state { result.state ≡ state }
@@ -250,7 +250,7 @@ impl<
         }
     }
 
-    // A counted receiver has the number.
+    // Whether a counted receiver has the number.
     fn is_counted(&self, h: usize) -> bool
         ensures { result ≡ is_counted (at_number self.now.receivers h) }
     {
@@ -260,7 +260,7 @@ impl<
         }
     }
 
-    // Where a counted receiver is, there is a place for a waker. This says so, and does nothing.
+    // Does nothing, and says in its contract: if a receiver is counted, there is a place for a waker.
     fn has_place(&self, h: usize)
         requires { is_counted (at_number self.now.receivers h) ≡ true }
         ensures { 1 ≤ L.room }
@@ -298,7 +298,7 @@ impl<
         }
     }
 
-    // A counted receiver comes.
+    // Makes a counted receiver at the number.
     fn join(&mut self, h: usize) -> Answer<WatchHeard<T>>
         ensures allowed { Joins (is_free h self.old.receivers) (nat_lt (count self.old.receivers) L.room) h (watch_of self.old) result (watch_of self.new) }
         ensures waiters { self.new.state.waiters ≡ self.old.state.waiters }
@@ -317,7 +317,7 @@ impl<
         Answer::Gives(WatchHeard::Counted(true))
     }
 
-    // An anonymous receiver comes.
+    // Makes an anonymous receiver at the number.
     fn join_anon(&mut self, h: usize) -> Answer<WatchHeard<T>>
         ensures allowed { JoinsAnon (is_free h self.old.receivers) h (watch_of self.old) result (watch_of self.new) }
         ensures waiters { self.new.state.waiters ≡ self.old.state.waiters }
@@ -333,7 +333,7 @@ impl<
         Answer::Done
     }
 
-    // The receiver at the number leaves.
+    // Ends the receiver at the number.
     #[tactic(auto, using(crate::specs::ReceiversLaws::in_table))]
     fn leave(&mut self, h: usize) -> Answer<WatchHeard<T>>
         ensures allowed { Leaves (at_number self.old.receivers h) h (watch_of self.old) result (watch_of self.new) }
@@ -347,7 +347,7 @@ impl<
         Answer::Done
     }
 
-    // A try of the watch itself.
+    // Reads the value for no receiver.
     fn try_get(&self) -> Answer<WatchHeard<T>>
         ensures { TriesGet T.is_clone T.is_infallible (watch_of self.now) result (watch_of self.now) }
     {
@@ -358,7 +358,7 @@ impl<
         }
     }
 
-    // A try of the receiver at the number.
+    // Reads for the receiver at the number.
     fn read(&mut self, h: usize, read: &Reading<J>) -> Answer<WatchHeard<T>>
         ensures allowed { Reads T.is_clone T.is_infallible J.passes (at_number self.old.receivers h) h read.now (watch_of self.old) result (watch_of self.new) }
         ensures waiters { self.new.state.waiters ≡ self.old.state.waiters }
@@ -377,7 +377,7 @@ impl<
         }
     }
 
-    // What a call does that puts a value.
+    // What a call that puts a value does.
     fn send<const K: usize>(
         &mut self,
         value: T,
@@ -391,7 +391,7 @@ impl<
         Answer::Gives(WatchHeard::Sent(self.state.send(value, wakes)))
     }
 
-    // What a call does that changes the value.
+    // What a call that changes the value does.
     fn modify<const K: usize>(
         &mut self,
         change: &C,
@@ -405,7 +405,7 @@ impl<
         Answer::Gives(WatchHeard::Modified(self.state.send_modify(change, wakes)))
     }
 
-    // What a call does that changes the value where the change tells that there is another.
+    // What a call does that sends the value only if the change answers that there is another one.
     fn modify_if<const K: usize>(
         &mut self,
         change: &C,
@@ -543,8 +543,8 @@ impl<
     ghost no_requests = { all_requests (watch_rules L.room T.is_clone T.is_infallible C.changed C.tells J.passes) (λ h. tt) (λ o o2 call p p2 a c. c.1) };
 }
 
-/// A watch as a machine, with requests at the numbers below `REQS`, and receivers at those below `NAMES`, of which at most `N` are
-/// counted.
+/// A watch as a machine, with requests at the numbers below `REQS`. Its receivers are at the numbers below `NAMES`, and
+/// at most `N` of them are counted.
 pub type WatchRun<
     T,
     W,
@@ -559,16 +559,20 @@ pub type WatchRun<
 /// The commands of a watch.
 pub type WatchCommand<T, W, C, J> = Command<Await<J>, W, WatchCall<T, C, J>>;
 
-/// What a watch answers to a command, with the wakers that it hands out.
+/// The reply of a watch to a command, with the wakers that it hands out.
 pub type WatchReply<T, W, const K: usize> = Reply<Answer<WatchHeard<T>>, W, K>;
 
-/// Gives the commands to the watch, one after another, as `run` does.
+/// Gives the commands to the watch, one after another, as `run` does, and returns the replies in order. After an error
+/// no command was taken.
 ///
-/// Each answer is one that the latest value with its version, and what each receiver has seen, allow. No live request that last
-/// heard Pending would now be answered Ready, unless its waker was handed out in that poll or since. And no Pending poll that
-/// changes nothing hands out its own waker. A change is told once: from a receiver's read on, or a poll that showed it a value, until a
-/// send, its reads of what changed find nothing, and its requests for what changed wait on, whether they stood at their numbers before
-/// the run or were started in it. A poll at a number without a request is answered `NoSuch`.
+/// Each answer is one that the latest value with its version, and what each receiver has seen, allow. No live request
+/// that last heard Pending would now be answered Ready, unless its waker was handed out in that poll or since. No
+/// Pending poll that changes nothing hands out its own waker.
+///
+/// A change is told once. It is told by a receiver's read, or by a poll that showed it a value. From then on until a
+/// send, the receiver's reads of what changed find nothing, and its requests for what changed wait on, whether they
+/// stood at their numbers before the run or were started in it. A poll at a number without a request is answered
+/// `NoSuch`.
 pub fn run_watch<
     T: Clone + Drop,
     W: Copy + Eq,
@@ -587,7 +591,7 @@ pub fn run_watch<
     ensures news { IfOk result (λ replies. (h : ℕ) → TellsOnce h machine.old.requests commands.items replies.items) }
     ensures refused { OnErr result (machine.new ≡ machine.old) }
 {
-    // Each request's receiver is counted, also at first.
+    // The receiver of each request is counted, also at first.
     machine.tied();
     run(alloc, machine, commands)
 }

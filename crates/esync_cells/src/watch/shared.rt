@@ -13,15 +13,16 @@ use esync_base::waitqueue::{Context, Hand, Poll, WakerList, Wakes};
 use std::alloc::AllocError;
 use std::sync::Wait;
 
-/// What a sender or a receiver needs of a watch, however many receivers it has room for.
+/// The calls of a watch that its senders and receivers need, however many receivers it has room for.
 ///
-/// A read is of the value and version that the watch has when it takes the lock. Who keeps no version lends one that it drops.
+/// A read is of the value and the version that the watch has when the lock is taken. A caller that keeps no version
+/// lends one that it drops.
 pub trait WatchBehavior {
     type Value: Clone;
 
     type Waker: Copy + Eq;
 
-    /// What may wait for the watch's lock.
+    /// The handle by which a thread may wait for the watch's lock.
     type Rt: Wait;
 
     ghost use Rattle.std.specs.Prelude.{ℕ};
@@ -29,11 +30,12 @@ pub trait WatchBehavior {
     /// How many receivers can be counted.
     ghost places: { ℕ };
 
-    /// A clone of the value, if there is one. The version is marked as seen, also where there is none.
+    /// Reads the value and returns a clone of it, or `None` if there is none. Marks the version as seen in both cases.
     fn try_get(&self, seen: &mut u64) -> Result<Option<Self::Value>, AllocError>
         ensures { ReadsSome Self.Value.is_clone Self.Value.is_infallible Always (λ v. true) seen.old result seen.new };
 
-    /// A clone of the value, if there is one that passes the test. Its version is marked as seen.
+    /// Reads the value and returns a clone of it if it passes the test. Marks its version as seen. Returns `None` if
+    /// there is no such value, and the seen version stays.
     fn try_get_and<F: Fn(&Self::Value) -> bool>(
         &self,
         test: &F,
@@ -42,13 +44,13 @@ pub trait WatchBehavior {
         requires { F.IsAlwaysCallable test.now }
         ensures { ReadsSome Self.Value.is_clone Self.Value.is_infallible (WherePassing (FnReturnsAt F.Fn test.now)) (λ v. false) seen.old result seen.new };
 
-    /// A clone of the value, if there is one and its version is newer than the one that was seen. A newer version is marked as seen,
-    /// also where there is no value.
+    /// Reads the value if its version is newer than the seen one, and returns a clone of it. Marks a newer version as
+    /// seen, even if there is no value. Returns `None` if there is no newer value.
     fn try_changed(&self, seen: &mut u64) -> Result<Option<Self::Value>, AllocError>
         ensures { ReadsSome Self.Value.is_clone Self.Value.is_infallible (WhereNewer seen.old) (nat_lt seen.old) seen.old result seen.new };
 
-    /// A clone of the value, if there is one that passes the test and its version is newer than the one that was seen. Its version is
-    /// marked as seen.
+    /// Reads the value if its version is newer than the seen one, and returns a clone of it if it passes the test.
+    /// Marks its version as seen. Returns `None` if there is no such value, and the seen version stays.
     fn try_changed_and<F: Fn(&Self::Value) -> bool>(
         &self,
         test: &F,
@@ -57,7 +59,8 @@ pub trait WatchBehavior {
         requires { F.IsAlwaysCallable test.now }
         ensures { ReadsSome Self.Value.is_clone Self.Value.is_infallible (WhereNewPassing (FnReturnsAt F.Fn test.now) seen.old) (λ v. false) seen.old result seen.new };
 
-    /// A clone of the value, whose version is marked as seen. Where there is none, the context's waker waits for one.
+    /// Polls for the value: returns a clone of it, and marks its version as seen. If there is none, registers the
+    /// context's waker and returns Pending.
     fn poll_get(
         &self,
         seen: &mut u64,
@@ -66,8 +69,8 @@ pub trait WatchBehavior {
         requires { 1 ≤ places }
         ensures { ReadsSome Self.Value.is_clone Self.Value.is_infallible Always (λ v. false) seen.old (polled result) seen.new };
 
-    /// A clone of the value that passes the test, whose version is marked as seen. Where there is none, the context's waker waits for
-    /// one.
+    /// Polls for a value that passes the test: returns a clone of it, and marks its version as seen. If there is none,
+    /// registers the context's waker and returns Pending.
     fn poll_get_and<F: Fn(&Self::Value) -> bool>(
         &self,
         test: &F,
@@ -78,8 +81,8 @@ pub trait WatchBehavior {
         requires test { F.IsAlwaysCallable test.now }
         ensures { ReadsSome Self.Value.is_clone Self.Value.is_infallible (WherePassing (FnReturnsAt F.Fn test.now)) (λ v. false) seen.old (polled result) seen.new };
 
-    /// A clone of the value, if its version is newer than the one that was seen, and marks it. Elsewhere the context's waker waits for
-    /// one.
+    /// Polls for a value whose version is newer than the seen one: returns a clone of it, and marks its version as
+    /// seen. If there is none, registers the context's waker and returns Pending.
     fn poll_changed(
         &self,
         seen: &mut u64,
@@ -88,8 +91,8 @@ pub trait WatchBehavior {
         requires { 1 ≤ places }
         ensures { ReadsSome Self.Value.is_clone Self.Value.is_infallible (WhereNewer seen.old) (λ v. false) seen.old (polled result) seen.new };
 
-    /// A clone of the value, if it passes the test and its version is newer than the one that was seen, and marks it. Elsewhere the
-    /// context's waker waits for one.
+    /// Polls for a value that passes the test and whose version is newer than the seen one: returns a clone of it, and
+    /// marks its version as seen. If there is none, registers the context's waker and returns Pending.
     fn poll_changed_and<F: Fn(&Self::Value) -> bool>(
         &self,
         test: &F,
@@ -100,34 +103,34 @@ pub trait WatchBehavior {
         requires test { F.IsAlwaysCallable test.now }
         ensures { ReadsSome Self.Value.is_clone Self.Value.is_infallible (WhereNewPassing (FnReturnsAt F.Fn test.now) seen.old) (λ v. false) seen.old (polled result) seen.new };
 
-    /// There is a value now.
+    /// Returns whether there is a value now.
     fn contains_value(&self) -> bool;
 
-    /// Puts a value, whatever is there, under the next version, and wakes who waits.
+    /// Puts a value under the next version, whatever is there, and wakes the tasks that wait for news.
     ///
     /// # Errors
     ///
-    /// The value comes back where versions have run out, and nothing is changed.
+    /// If versions have run out, nothing changes, and the value is in the error.
     fn send(&self, value: Self::Value) -> Result<(), Exhausted<Self::Value>>
         ensures { IfErr result (λ back. back.0 ≡ value) };
 
-    /// Changes the value, under the next version, and wakes who waits, whether or not the change answers that there is another
-    /// value.
+    /// Changes the value, puts it under the next version, and wakes the tasks that wait for news, whatever the change
+    /// answers.
     ///
     /// # Errors
     ///
-    /// Where versions have run out the change isn't called, and nothing is changed.
+    /// If versions have run out, the change isn't called, and nothing changes.
     fn send_modify<C: Change<Self::Value>>(&self, change: &C) -> Result<(), Exhausted<()>>;
 
-    /// Changes the value. Where the change answers that there is another value, it stands under the next version, and who waits is
-    /// woken.
+    /// Changes the value. If the change answers true, puts it under the next version, and wakes the tasks that wait for
+    /// news.
     ///
     /// # Errors
     ///
-    /// Where versions have run out the change isn't called, and nothing is changed.
+    /// If versions have run out, the change isn't called, and nothing changes.
     fn send_if_modified<C: Change<Self::Value>>(&self, change: &C) -> Result<(), Exhausted<()>>;
 
-    /// Drops the value. The version stays, and who waits goes on waiting.
+    /// Drops the value. The version stays, and tasks that wait for news go on waiting.
     fn clear(&self);
 
     /// Counts one receiver less.
@@ -139,8 +142,8 @@ pub type Watch<T, W, H, const N: usize, const K: usize> = SharedWatch<T, Wakes<W
 
 /// The latest value, for several receivers, that tasks on several threads share by reference.
 ///
-/// Each call takes the lock, takes the call of its name on the state, releases the lock, and then gives each waker that the step
-/// handed out to the hand, in order.
+/// Each call takes the lock, makes the call of its name on the state, and releases the lock. Then it gives each waker
+/// that the step handed out to the hand, in order.
 #[derive(Drop)]
 pub struct SharedWatch<T, L: WakerList, H, const K: usize> {
     inner: Shared<WatchOver<T, L>, L::Waker, H>,
@@ -149,10 +152,10 @@ pub struct SharedWatch<T, L: WakerList, H, const K: usize> {
 }
 
 impl<T: Clone + Drop, L: WakerList, H: Hand<L::Waker>, const K: usize> SharedWatch<T, L, H, K> {
-    /// No value, at version 0.
+    /// Returns a watch without a value, at version 0.
     ///
-    /// A call hands out at most `K` wakers: as many as may wait have to fit, and `K` has to be below 65536. A caller who takes `K` as a
-    /// number of its own compares it, as by `N <= K && K < 65536`.
+    /// A call hands out at most `K` wakers. So the list of wakers has to fit in `K`, and `K` has to be below 65536. A
+    /// caller that takes `K` as a number of its own compares it, as by `N <= K && K < 65536`.
     pub fn new(hand: H) -> Self
         requires room { L.room ≤ K }
         requires small { K < 65536 }
@@ -162,7 +165,7 @@ impl<T: Clone + Drop, L: WakerList, H: Hand<L::Waker>, const K: usize> SharedWat
         }
     }
 
-    /// This value, at version 0: nobody has news of it. `K` as for `new`.
+    /// Returns a watch with the value at version 0, which is news to no receiver. `K` has to be as for `new`.
     pub fn new_with(value: T, hand: H) -> Self
         requires room { L.room ≤ K }
         requires small { K < 65536 }
@@ -172,17 +175,18 @@ impl<T: Clone + Drop, L: WakerList, H: Hand<L::Waker>, const K: usize> SharedWat
         }
     }
 
-    /// A sender.
+    /// Returns a sender.
     pub fn sender(&self) -> Snd<'_, Self> {
         Snd::new(self)
     }
 
-    /// The same.
+    /// Returns a sender whose type doesn't say how many receivers the watch has room for.
     pub fn dyn_sender(&self) -> DynSender<'_, Self> {
         self.sender()
     }
 
-    /// A receiver, which has seen version 0. `None` where as many are counted as there is room for.
+    /// Returns a receiver that is counted and has seen version 0, or `None` if as many are counted as there is room
+    /// for.
     pub fn receiver(&self) -> Option<Rcv<'_, Self>>
         ensures { IfSome result (λ receiver. receiver.seen ≡ 0) }
     {
@@ -193,48 +197,48 @@ impl<T: Clone + Drop, L: WakerList, H: Hand<L::Waker>, const K: usize> SharedWat
         }
     }
 
-    /// The same.
+    /// Returns what `receiver` returns, in a type that doesn't say how many receivers the watch has room for.
     pub fn dyn_receiver(&self) -> Option<DynReceiver<'_, Self>>
         ensures { IfSome result (λ receiver. receiver.seen ≡ 0) }
     {
         self.receiver()
     }
 
-    /// A receiver that never waits, and has seen version 0. It isn't counted.
+    /// Returns a receiver that never waits, and has seen version 0. It isn't counted.
     pub fn anon_receiver(&self) -> AnonRcv<'_, Self>
         ensures { result.seen ≡ 0 }
     {
         AnonRcv::new(self)
     }
 
-    /// The same.
+    /// Returns what `anon_receiver` returns, in a type that doesn't say how many receivers the watch has room for.
     pub fn dyn_anon_receiver(&self) -> DynAnonReceiver<'_, Self>
         ensures { result.seen ≡ 0 }
     {
         self.anon_receiver()
     }
 
-    /// The version of the latest value: the first version, and one more for each that was sent.
+    /// Returns the version of the latest value: the first version, and one more for each value that was sent.
     pub fn get_msg_id(&self) -> u64 {
         self.inner.guard().get_msg_id()
     }
 
-    /// A clone of the value, if there is one.
+    /// Reads the value and returns a clone of it, or `None` if there is none.
     ///
     /// # Errors
     ///
-    /// Where a clone has no memory.
+    /// A clone has no memory.
     pub fn try_get(&self) -> Result<Option<T>, AllocError>
         ensures { (after : ℕ) × ReadsSome T.is_clone T.is_infallible Always (λ v. true) 0 result after }
     {
         self.sender().try_get()
     }
 
-    /// A clone of the value, if there is one that passes the test.
+    /// Reads the value and returns a clone of it if it passes the test. Returns `None` if there is no such value.
     ///
     /// # Errors
     ///
-    /// Where a clone has no memory.
+    /// A clone has no memory.
     pub fn try_get_and<F: Fn(&T) -> bool + Drop>(&self, test: F) -> Result<Option<T>, AllocError>
         requires { F.IsAlwaysCallable test }
         ensures { (after : ℕ) × ReadsSome T.is_clone T.is_infallible (WherePassing (FnReturnsAt F.Fn test)) (λ v. false) 0 result after }

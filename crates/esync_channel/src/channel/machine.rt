@@ -19,17 +19,17 @@ use std::alloc::{AllocError, Global};
 /// What a request on a channel waits for.
 #[derive(Clone, Copy, Debug, PartialEq, Eq)]
 pub enum ChannelAsk<T> {
-    /// To put a message in.
+    /// Room for this message, to put it in.
     Send(T),
-    /// To take a message out.
+    /// A message, to take it out.
     Receive,
-    /// For room, without putting anything in.
+    /// Room, without putting a message in.
     SendReady,
-    /// For a message, without taking it out.
+    /// A message, without taking it out.
     ReceiveReady,
 }
 
-/// The other calls of a channel.
+/// The calls of a channel that are no start, poll or end.
 #[derive(Clone, Copy, Debug, PartialEq, Eq)]
 pub enum ChannelCall<T> {
     TrySend(T),
@@ -39,10 +39,10 @@ pub enum ChannelCall<T> {
     FreeCapacity,
 }
 
-/// What a channel answers.
+/// The answers of a channel.
 #[derive(Clone, Copy, Debug, PartialEq, Eq)]
 pub enum ChannelHeard<T> {
-    /// The message of the request is sent, or what it waited for is there.
+    /// The message of the request was sent, or what the request waited for is there.
     Ready,
     /// The message that the request received.
     Received(T),
@@ -173,16 +173,21 @@ pub type ChannelRun<T, W, const N: usize, const REQS: usize, const K: usize> = R
 /// The commands of a channel.
 pub type ChannelCommand<T, W> = Command<ChannelAsk<T>, W, ChannelCall<T>>;
 
-/// What a channel answers to a command, with the wakers that it hands out.
+/// The reply of a channel to a command, with the wakers that it hands out.
 pub type ChannelReply<T, W, const K: usize> = Reply<Answer<ChannelHeard<T>>, W, K>;
 
-/// Gives the commands to the channel, one after another, as `run` does.
+/// Gives the commands to the channel, one after another, as `run` does, and returns the replies in order. After an
+/// error no command was taken.
 ///
-/// Each answer is one that a list of at most `N` messages, oldest first, allows. No live request that last heard Pending
-/// would now be answered Ready, unless its waker was handed out in that poll or since. No Pending poll that changes nothing
-/// hands out its own waker. What is sent comes out in order: the messages that the run received or cleared, and then those that
-/// are held, are those held at first and those that it sent, in order. And its sizes add up: the length is the number of messages
-/// that were sent and not taken, and the free capacity what it lacks to `N`.
+/// Each answer is one that a list of at most `N` messages, oldest first, allows. No live request that last heard
+/// Pending would now be answered Ready, unless its waker was handed out in that poll or since. No Pending poll that
+/// changes nothing hands out its own waker.
+///
+/// What is sent comes out in order. Take the messages that the run received or cleared, and behind them those that are
+/// held after it: they are the messages held at first and behind them those that the run sent, in order.
+///
+/// The sizes add up. The length is the number of messages that were held at first or sent since, and not taken. With
+/// the free capacity it makes `N`.
 pub fn run_channel<T: Drop, W: Copy + Eq, const N: usize, const REQS: usize, const K: usize>(
     alloc: Global,
     machine: &mut ChannelRun<T, W, N, REQS, K>,

@@ -13,21 +13,21 @@ use esync_base::waitqueue::{Context, Hand, Poll};
 use std::marker::Model;
 use std::sync::Wait;
 
-/// What a sender or a receiver needs of a channel, whatever its capacity and the way that it keeps its messages.
+/// The calls of a channel that its dynamic handles need. Its type doesn't say the capacity, or how messages are kept.
 pub trait DynamicChannel {
     type Message: Drop;
 
     type Waker: Copy + Eq;
 
-    /// What may wait for the channel's lock.
+    /// The handle by which a thread may wait for the channel's lock.
     type Rt: Wait;
 
-    /// Sends a message where there is room. Where there is none it comes back.
+    /// Sends a message. If the channel is full, returns the message in the error.
     fn try_send(&self, message: Self::Message) -> Result<(), TrySendError<Self::Message>>
         ensures { IfErr result (λ error. error ≡ TrySendError.Full message) };
 
-    /// Sends a message where there is room. Where there is none it comes back, and the waker of a context, if there is one, waits for
-    /// room.
+    /// Sends a message. If the channel is full, returns the message in the error, and registers the waker of the
+    /// context, if there is one, for room.
     fn try_send_with_context(
         &self,
         message: Self::Message,
@@ -35,7 +35,8 @@ pub trait DynamicChannel {
     ) -> Result<(), TrySendError<Self::Message>>
         ensures { IfErr result (λ error. error ≡ TrySendError.Full message) };
 
-    /// Sends the message of the request where there is room. Where there is none, the context's waker waits for it.
+    /// Sends the message of the request. If the channel is full, registers the context's waker for room and returns
+    /// Pending.
     fn poll_send(
         &self,
         request: &mut SendRequest<Self::Message>,
@@ -44,22 +45,25 @@ pub trait DynamicChannel {
         requires { IsSome request.old }
         ensures { LeavesRequest result request.old request.new };
 
-    /// Takes the message that is first.
+    /// Takes the first message and returns it. An error means that the channel is empty.
     fn try_receive(&self) -> Result<Self::Message, TryReceiveError>;
 
-    /// Takes the message that is first. Where there is none, the waker of a context, if there is one, waits for one.
+    /// Takes the first message and returns it. If the channel is empty, returns an error, and registers the waker of
+    /// the context, if there is one, for a message.
     fn try_receive_with_context(
         &self,
         cx: Option<&Context<Self::Waker>>,
     ) -> Result<Self::Message, TryReceiveError>;
 
-    /// Whether there is room. Registers the context's waker, whatever the answer.
+    /// Polls for room: Ready if the channel isn't full. Registers the context's waker for room, whatever the answer.
     fn poll_ready_to_send(&self, cx: &Context<Self::Waker>) -> Poll<()>;
 
-    /// Whether there is a message. Registers the context's waker, whatever the answer.
+    /// Polls for a message: Ready if the channel isn't empty. Registers the context's waker for a message, whatever the
+    /// answer.
     fn poll_ready_to_receive(&self, cx: &Context<Self::Waker>) -> Poll<()>;
 
-    /// Takes the message that is first. Where there is none, the context's waker waits for one.
+    /// Takes the first message and returns it. If the channel is empty, registers the context's waker for a message and
+    /// returns Pending.
     fn poll_receive(&self, cx: &Context<Self::Waker>) -> Poll<Self::Message>;
 }
 
@@ -68,15 +72,15 @@ pub type Channel<T, W, H, const N: usize> = SharedMailbox<Deque<T, N>, W, H>;
 
 /// A channel that tasks on several threads share by reference.
 ///
-/// Each call takes the lock, takes the call of the same name on the state, releases the lock, and then gives each waker that
-/// the step handed out to the hand, in order.
+/// Each call takes the lock, makes the call of its name on the state, and releases the lock. Then it gives each waker
+/// that the step handed out to the hand, in order.
 #[derive(Drop)]
 pub struct SharedMailbox<S, W, H> {
     inner: Shared<Mailbox<S, W>, W, H>,
 }
 
 impl<S: Store, W: Copy + Eq, H: Hand<W>> SharedMailbox<S, W, H> {
-    /// No message, and nobody who waits.
+    /// Returns an empty channel without a registered waker.
     pub fn new(hand: H) -> Self {
         SharedMailbox {
             inner: Shared::new(Mailbox::new(), hand),
@@ -93,14 +97,15 @@ impl<S: Store, W: Copy + Eq, H: Hand<W>> SharedMailbox<S, W, H> {
         Rcv::new(self)
     }
 
-    /// Sends a message, when there is room.
+    /// Returns a future that sends the message when there is room.
     pub fn send(&self, message: S::Message) -> SendFuture<'_, Self>
         ensures { result ≡ Some message }
     {
         SendFuture::new(self, message)
     }
 
-    /// Sends a message where there is room. Where there is none it comes back.
+    /// Sends a message, and wakes the task that is registered for a message. If the channel is full, returns the
+    /// message in the error.
     #[inline]
     pub fn try_send(&self, message: S::Message) -> Result<(), TrySendError<S::Message>>
         ensures { IfErr result (λ error. error ≡ TrySendError.Full message) }
@@ -111,8 +116,8 @@ impl<S: Store, W: Copy + Eq, H: Hand<W>> SharedMailbox<S, W, H> {
         )
     }
 
-    /// Sends a message where there is room. Where there is none it comes back, and the waker of a context, if there is one, waits for
-    /// room.
+    /// Sends a message, and wakes the task that is registered for a message. If the channel is full, returns the
+    /// message in the error, and registers the waker of the context, if there is one, for room.
     pub fn try_send_with_context(
         &self,
         message: S::Message,
@@ -126,18 +131,20 @@ impl<S: Store, W: Copy + Eq, H: Hand<W>> SharedMailbox<S, W, H> {
         )
     }
 
-    /// Takes the message that is first, when there is one.
+    /// Returns a future that takes the first message when there is one.
     pub fn receive(&self) -> ReceiveFuture<'_, Self> {
         ReceiveFuture::new(self)
     }
 
-    /// Takes the message that is first.
+    /// Takes the first message and returns it. If the channel was full, wakes the task that is registered for room. An
+    /// error means that the channel is empty.
     #[inline]
     pub fn try_receive(&self) -> Result<S::Message, TryReceiveError> {
         step!(self.inner, |state, wakes| state.try_receive(&mut wakes))
     }
 
-    /// Takes the message that is first. Where there is none, the waker of a context, if there is one, waits for one.
+    /// Takes the first message and returns it. If the channel was full, wakes the task that is registered for room. If
+    /// it is empty, returns an error, and registers the waker of the context, if there is one, for a message.
     pub fn try_receive_with_context(
         &self,
         cx: Option<&Context<W>>,
@@ -148,7 +155,8 @@ impl<S: Store, W: Copy + Eq, H: Hand<W>> SharedMailbox<S, W, H> {
         )
     }
 
-    /// Takes the message that is first. Where there is none, the context's waker waits for one.
+    /// Takes the first message and returns it. If the channel was full, wakes the task that is registered for room. If
+    /// it is empty, registers the context's waker for a message and returns Pending.
     #[inline]
     pub fn poll_receive(&self, cx: &Context<W>) -> Poll<S::Message> {
         step!(
@@ -157,7 +165,8 @@ impl<S: Store, W: Copy + Eq, H: Hand<W>> SharedMailbox<S, W, H> {
         )
     }
 
-    /// Whether there is a message. Registers the context's waker, whatever the answer.
+    /// Polls for a message: Ready if the channel isn't empty. Registers the context's waker for a message, whatever the
+    /// answer.
     pub fn poll_ready_to_receive(&self, cx: &Context<W>) -> Poll<()> {
         step!(
             self.inner,
@@ -165,7 +174,7 @@ impl<S: Store, W: Copy + Eq, H: Hand<W>> SharedMailbox<S, W, H> {
         )
     }
 
-    /// Whether there is room. Registers the context's waker, whatever the answer.
+    /// Polls for room: Ready if the channel isn't full. Registers the context's waker for room, whatever the answer.
     pub fn poll_ready_to_send(&self, cx: &Context<W>) -> Poll<()> {
         step!(
             self.inner,
@@ -173,38 +182,38 @@ impl<S: Store, W: Copy + Eq, H: Hand<W>> SharedMailbox<S, W, H> {
         )
     }
 
-    /// How many messages can be held. It takes no lock.
+    /// Returns how many messages the channel has room for in all. Takes no lock.
     pub fn capacity(&self) -> usize
         ensures { result ≡ S.keeping.capacity }
     {
         S::capacity()
     }
 
-    /// How many messages there is room for now.
+    /// Returns how many more messages the channel has room for now.
     pub fn free_capacity(&self) -> usize
         ensures { result ≤ S.keeping.capacity }
     {
         self.inner.guard().free_capacity()
     }
 
-    /// Drops all messages, and wakes who waits for room.
+    /// Drops all messages, and wakes the task that is registered for room.
     pub fn clear(&self) {
         step!(self.inner, |state, wakes| state.clear(&mut wakes))
     }
 
-    /// How many messages are held now.
+    /// Returns how many messages are in the channel now.
     pub fn len(&self) -> usize
         ensures { result ≤ S.keeping.capacity }
     {
         self.inner.guard().len()
     }
 
-    /// No message is held now.
+    /// Returns whether the channel is empty now.
     pub fn is_empty(&self) -> bool {
         self.inner.guard().is_empty()
     }
 
-    /// As many messages are held now as there is room for.
+    /// Returns whether the channel is full now.
     pub fn is_full(&self) -> bool {
         self.inner.guard().is_full()
     }
@@ -261,23 +270,23 @@ impl<S: Store, W: Copy + Eq, H: Hand<W>> DynamicChannel for SharedMailbox<S, W, 
 }
 
 impl<T: Drop, W: Copy + Eq, H: Hand<W>, const N: usize> Channel<T, W, H, N> {
-    /// Returns a handle that can only send, for functions over any channel.
+    /// Returns a handle that can only send. Its type doesn't say how the channel keeps its messages.
     pub fn dyn_sender(&self) -> DynamicSender<'_, Self> {
         self.sender()
     }
 
-    /// Returns a handle that can only receive, for functions over any channel.
+    /// Returns a handle that can only receive. Its type doesn't say how the channel keeps its messages.
     pub fn dyn_receiver(&self) -> DynamicReceiver<'_, Self> {
         self.receiver()
     }
 
-    /// Ready when there is a message, which stays.
+    /// Returns a future that is ready when there is a message. The message stays in the channel.
     pub fn ready_to_receive(&self) -> ReceiveReadyFuture<'_, Self> {
         ReceiveReadyFuture { channel: self }
     }
 }
 
-/// A message on its way into a channel: what `send` gives.
+/// A future that sends a message into a channel. `send` returns it.
 #[must_use]
 #[derive(Drop)]
 pub struct SendFuture<'ch, C: DynamicChannel> {
@@ -300,7 +309,7 @@ impl<'ch, C: DynamicChannel> Model for SendFuture<'ch, C> {
 }
 
 impl<'ch, C: DynamicChannel> SendFuture<'ch, C> {
-    /// The message is still to be sent.
+    /// Returns a future whose message is still to be sent.
     pub(crate) fn new(channel: &'ch C, message: C::Message) -> Self
         ensures { result ≡ Some message }
     {
@@ -310,14 +319,15 @@ impl<'ch, C: DynamicChannel> SendFuture<'ch, C> {
         }
     }
 
-    /// The message was sent.
+    /// Returns whether the message was sent.
     pub fn is_finished(&self) -> bool
         ensures { result ≡ is_none self.now }
     {
         self.request.is_finished()
     }
 
-    /// Sends the message where there is room. A future that is finished isn't polled.
+    /// Sends the message. If the channel is full, registers the context's waker for room and returns Pending. A
+    /// finished future may not be polled.
     pub fn poll(&mut self, cx: &Context<C::Waker>) -> Poll<()>
         requires { IsSome self.old }
         ensures { LeavesRequest result self.old self.new }
@@ -326,7 +336,8 @@ impl<'ch, C: DynamicChannel> SendFuture<'ch, C> {
     }
 }
 
-/// A message on its way out of a channel: what `receive` gives. It acts anew after it was ready.
+/// A future that takes a message from a channel. `receive` returns it. After it was ready, a poll takes the next
+/// message.
 #[must_use]
 #[derive(Drop)]
 pub struct ReceiveFuture<'ch, C> {
@@ -337,18 +348,20 @@ pub struct ReceiveFuture<'ch, C> {
 pub type DynamicReceiveFuture<'ch, C> = ReceiveFuture<'ch, C>;
 
 impl<'ch, C: DynamicChannel> ReceiveFuture<'ch, C> {
-    /// Nothing is received yet.
+    /// Returns a future that takes from the channel.
     pub(crate) fn new(channel: &'ch C) -> Self {
         ReceiveFuture { channel }
     }
 
-    /// Takes the message that is first. Where there is none, the context's waker waits for one.
+    /// Takes the first message and returns it. If the channel is empty, registers the context's waker for a message and
+    /// returns Pending.
     pub fn poll(&mut self, cx: &Context<C::Waker>) -> Poll<C::Message> {
         self.channel.poll_receive(cx)
     }
 }
 
-/// A wait for a message, which stays: what `ready_to_receive` gives. It acts anew after it was ready.
+/// A future that is ready when a channel has a message, which stays there. `ready_to_receive` returns it. After it was
+/// ready, a poll looks for a message again.
 #[must_use]
 #[derive(Drop)]
 pub struct ReceiveReadyFuture<'ch, C> {
@@ -356,7 +369,8 @@ pub struct ReceiveReadyFuture<'ch, C> {
 }
 
 impl<'ch, C: DynamicChannel> ReceiveReadyFuture<'ch, C> {
-    /// Whether there is a message. Registers the context's waker, whatever the answer.
+    /// Polls for a message: Ready if the channel isn't empty. Registers the context's waker for a message, whatever the
+    /// answer.
     pub fn poll(&mut self, cx: &Context<C::Waker>) -> Poll<()> {
         self.channel.poll_ready_to_receive(cx)
     }

@@ -1,4 +1,4 @@
-//! The messages of a log, oldest first, and beside each how many subscribers still read it.
+//! The messages of a log, oldest first, each with a count: how many subscribers have still to read it.
 ghost use Rattle.std.specs.Prelude.{◌≡◌, ℕ, suc, not, nat_lt, ◌-◌, ◌<◌, ◌≤◌, ◌++◌, ◌∷◌, ◌↔◌, [], Some, length, drop, IsTrue, replicate, slice_get, slice_set, slice_index};
 ghost use Rattle.esync_log.specs.Counts.{unread};
 
@@ -42,7 +42,8 @@ impl<const N: usize> Kept for Counts<N> {
     }
 }
 
-/// At most `N` messages. The count of each stands at its place in the ring, so that it is found and changed there.
+/// At most `N` messages. The count of each stands at the message's place in the ring, so that it is found and changed
+/// there.
 #[derive_where(Debug; T: fmt::Debug + Drop)]
 #[derive(Drop)]
 pub struct Held<T, const N: usize> {
@@ -64,7 +65,7 @@ impl<T, const N: usize> Model for Held<T, N> {
 }
 
 impl<T: Drop, const N: usize> Held<T, N> {
-    /// No messages.
+    /// Returns a row without messages.
     pub fn new() -> Self
         ensures { result ≡ record { messages = []; counts = [] } }
     {
@@ -74,7 +75,7 @@ impl<T: Drop, const N: usize> Held<T, N> {
         }
     }
 
-    /// How many messages are held.
+    /// Returns how many messages are held.
     pub fn len(&self) -> usize
         ensures value { result ≡ length self.now.messages }
         ensures within { result ≤ N }
@@ -83,14 +84,14 @@ impl<T: Drop, const N: usize> Held<T, N> {
         self.messages.len()
     }
 
-    /// No message is held.
+    /// Returns whether no message is held.
     pub fn is_empty(&self) -> bool
         ensures { IsTrue result ↔ (self.now.messages ≡ []) }
     {
         self.messages.is_empty()
     }
 
-    /// As many messages are held as there is room for.
+    /// Returns whether as many messages are held as there is room for.
     pub fn is_full(&self) -> bool
         ensures answer { result ≡ not (nat_lt (length self.now.messages) N) }
         ensures within { length self.now.messages ≤ N }
@@ -98,7 +99,7 @@ impl<T: Drop, const N: usize> Held<T, N> {
         self.messages.is_full()
     }
 
-    /// Message `i`, counted from the oldest.
+    /// Returns message `i`, counted from the oldest.
     pub fn message(&self, i: usize) -> &T
         requires { i < length self.now.messages }
         ensures { Some result.now ≡ slice_get self.now.messages i }
@@ -106,7 +107,7 @@ impl<T: Drop, const N: usize> Held<T, N> {
         self.messages.get(i)
     }
 
-    /// How many still read message `i`, counted from the oldest.
+    /// Returns how many subscribers have still to read message `i`, counted from the oldest.
     pub fn count(&self, i: usize) -> usize
         requires { i < length self.now.messages }
         ensures { result ≡ slice_index self.now.counts i }
@@ -114,7 +115,7 @@ impl<T: Drop, const N: usize> Held<T, N> {
         self.counts.get(self.messages.slot_of(i))
     }
 
-    /// Puts a message behind the others, which so many read.
+    /// Appends a message that `count` subscribers have still to read.
     pub fn push(&mut self, message: T, count: usize)
         requires { length self.old.messages < N }
         ensures messages { self.new.messages ≡ self.old.messages ++ message ∷ [] }
@@ -127,7 +128,7 @@ impl<T: Drop, const N: usize> Held<T, N> {
         self.counts.put(place, count);
     }
 
-    /// The oldest message leaves, with its count.
+    /// Takes the oldest message and its count out, and returns the message. Returns `None` if no message is held.
     pub fn take_front(&mut self) -> Option<T>
         ensures item { slice_get self.old.messages 0 ≡ result }
         ensures messages { self.new.messages ≡ drop 1 self.old.messages }
@@ -136,7 +137,7 @@ impl<T: Drop, const N: usize> Held<T, N> {
         self.messages.pop_front()
     }
 
-    /// The oldest message is dropped.
+    /// Drops the oldest message and its count.
     pub fn pop(&mut self)
         ensures messages { self.new.messages ≡ drop 1 self.old.messages }
         ensures counts { self.new.counts ≡ drop 1 self.old.counts }
@@ -144,7 +145,7 @@ impl<T: Drop, const N: usize> Held<T, N> {
         self.take_front();
     }
 
-    /// One reader fewer for message `i`, counted from the oldest.
+    /// Lowers the count of message `i`, counted from the oldest, by one.
     pub fn lower(&mut self, i: usize)
         requires place { i < length self.old.messages }
         requires some { 0 < slice_index self.old.counts i }
@@ -156,7 +157,7 @@ impl<T: Drop, const N: usize> Held<T, N> {
         self.counts.put(place, readers - 1);
     }
 
-    /// One reader fewer for each message from message `from` on.
+    /// Lowers the counts of message `from` and of all messages behind it by one each.
     pub fn lower_from(&mut self, from: usize)
         requires { (k : ℕ) → from ≤ k → k < length self.old.messages → 0 < slice_index self.old.counts k }
         ensures messages { self.new.messages ≡ self.old.messages }
@@ -169,7 +170,7 @@ impl<T: Drop, const N: usize> Held<T, N> {
         }
     }
 
-    // Nobody still reads the oldest message.
+    // Whether no subscriber has still to read the oldest message. It is false if no message is held.
     fn is_unread(&self) -> bool
         ensures { IsTrue result ↔ (0 < unread self.now.counts) }
     {
@@ -179,7 +180,7 @@ impl<T: Drop, const N: usize> Held<T, N> {
         self.count(0) == 0
     }
 
-    /// The messages in front that nobody still reads leave.
+    /// Drops the messages in front that no subscriber has still to read.
     pub fn free(&mut self)
         ensures messages { self.new.messages ≡ drop (unread self.old.counts) self.old.messages }
         ensures counts { self.new.counts ≡ drop (unread self.old.counts) self.old.counts }

@@ -1,4 +1,4 @@
-//! A log that is kept as it is now.
+//! A copy of a log as it is now.
 use super::{Log, Positions};
 use esync_base::kept::Kept;
 use std::alloc::AllocError;

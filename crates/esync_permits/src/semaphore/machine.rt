@@ -8,16 +8,16 @@ use esync_machine::primitive::{Answer, Reach};
 pub mod fair;
 pub mod greedy;
 
-/// What stands at a number of a semaphore.
+/// What stands at a number of a semaphore: a request, or its permits.
 #[derive(Clone, Copy, Debug, PartialEq, Eq)]
 pub enum PermitHeld<T> {
-    /// A request for this amount, and what the semaphore knows it by while it waits.
+    /// A request for this amount, and the name by which the semaphore knows it while it waits.
     Waiting(Amount, T),
     /// The permits that were granted.
     Releaser(usize),
 }
 
-/// The calls of a semaphore beside its requests.
+/// The calls of a semaphore that are no start, poll or end.
 #[derive(Clone, Copy, Debug, PartialEq, Eq)]
 pub enum PermitCall {
     /// Takes permits for a free number, if they are granted now.
@@ -26,14 +26,14 @@ pub enum PermitCall {
     Disarm(usize),
     /// Gives this number of permits back.
     Release(usize),
-    /// Makes this the number of permits that are there.
+    /// Sets the number of permits that are there.
     Set(usize),
     /// Asks for the number of permits that are there.
     Permits,
 }
 
 impl PermitCall {
-    /// Which number it concerns.
+    /// Returns which number the call concerns.
     pub fn reach(&self) -> Reach
         ensures { result ≡ reach self.now }
     {
@@ -45,18 +45,18 @@ impl PermitCall {
     }
 }
 
-/// What a semaphore answers.
+/// The answers of a semaphore.
 #[derive(Clone, Copy, Debug, PartialEq, Eq)]
 pub enum PermitHeard<G> {
-    /// What a request heard: the permits that it was granted, or why it gets none.
+    /// The answer to a request: the permits that it was granted, or why it gets none.
     Granted(G),
-    /// The permits that a try took.
+    /// The permits that a try took, or `None`.
     Tried(Option<usize>),
-    /// A number of permits.
+    /// A count of permits.
     Count(usize),
 }
 
-// The answer to a try at a free number, which then holds what was taken.
+// The answer to a try at a free number. The number then holds the permits that were taken.
 fn tried<T: Drop, G>(
     taken: Option<usize>,
     place: &mut Option<PermitHeld<T>>,

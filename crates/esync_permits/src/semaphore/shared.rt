@@ -12,7 +12,7 @@ use esync_base::waitqueue::{Context, Hand, Poll, Wakes};
 use std::convert::Infallible;
 use std::marker::Model;
 
-/// What a shared semaphore takes of its state, greedy or fair. The calls are those of the state and of its requests.
+/// A state of a semaphore, greedy or fair, for its shared form. The calls are those of the state and of its requests.
 pub trait PermitState: Drop {
     type Waker: Copy + Eq;
 
@@ -24,36 +24,38 @@ pub trait PermitState: Drop {
     ghost use Rattle.std.specs.Prelude.{Option};
     ghost use Rattle.esync_permits.specs.declared.semaphore.Amount.{Amount};
 
-    /// What a request is for, until it is over.
+    /// The amount that a request is for, until it is answered.
     ghost wanted: { Self.Request → Option Amount };
 
-    /// This number of permits, and nobody who waits.
+    /// Returns a semaphore with the number of permits, for which no request waits.
     fn new(permits: usize) -> Self;
 
-    /// How many permits are there to be taken.
+    /// Returns how many permits are there to be taken.
     fn permits(&self) -> usize;
 
-    /// Takes the permits of a request that doesn't wait, if they are granted now.
+    /// Takes the permits of a request that doesn't wait, if they are granted now, and returns how many were taken.
+    /// Otherwise returns `None`.
     fn try_take(&mut self, amount: Amount) -> Option<usize>
         ensures { IfSome result (λ permits. Suits amount permits) };
 
-    /// Gives permits back, up to `usize::MAX`, and wakes who waits for some.
+    /// Gives `permits` permits back, up to `usize::MAX` in all. May hand out the waker of a task that waits for some.
     fn release(&mut self, permits: usize, wakes: &mut Wakes<Self::Waker, 1>)
         requires { length wakes.old < 1 };
 
-    /// Makes this the number of permits that are there. Wakes who waits, if it is more than before.
+    /// Sets the number of permits that are there. If it is more, may hand out the waker of a task that waits.
     fn set(&mut self, permits: usize, wakes: &mut Wakes<Self::Waker, 1>)
         requires { length wakes.old < 1 };
 
-    /// A request for this amount, which has heard nothing yet.
+    /// Returns a request for the amount, which isn't answered yet.
     fn request(amount: Amount) -> Self::Request
         ensures { wanted result ≡ Some amount };
 
-    /// It has heard its answer.
+    /// Returns whether the request was answered.
     fn is_finished(request: &Self::Request) -> bool
         ensures { result ≡ is_none (wanted request.now) };
 
-    /// Takes the permits of a request, if they are granted now. If not, the context's waker waits for them.
+    /// Takes the permits of a request if they are granted now, and returns how many were taken. Otherwise registers the
+    /// context's waker and returns Pending, unless the request is refused.
     fn poll(
         &mut self,
         request: &mut Self::Request,
@@ -65,17 +67,17 @@ pub trait PermitState: Drop {
         ensures granted { IfReady result (λ heard. IfOk heard (λ permits. IfSome (wanted request.old) (λ amount. Suits amount permits))) }
         ensures request { Leaves result (wanted request.old) (wanted request.new) };
 
-    /// The request is one that has to be ended in the state.
+    /// Returns whether the request has to be ended in the state.
     fn has_a_place(request: &Self::Request) -> bool;
 
-    /// Ends a request, and its waiting.
+    /// Ends a request. If it waits, it leaves the state.
     fn end(&mut self, request: &Self::Request, wakes: &mut Wakes<Self::Waker, 1>)
         requires { length wakes.old < 1 };
 }
 
-/// A semaphore that tasks on several threads share: what both kinds have in common. Their shared references implement it.
+/// A semaphore that tasks on several threads share: the calls of both kinds. Shared references to them implement it.
 ///
-/// What is granted is a releaser, whose end gives the permits back.
+/// A grant is a releaser, whose end gives the permits back.
 pub trait Semaphore: Copy {
     /// Why permits were refused.
     type Error;
@@ -86,26 +88,28 @@ pub trait Semaphore: Copy {
     /// The future of `acquire_all`.
     type AcquireAll;
 
-    /// Takes this number of permits, when they are granted.
+    /// Returns a future that takes `permits` permits when they are granted.
     fn acquire(self, permits: usize) -> Self::Acquire;
 
-    /// Takes this number of permits, if they are granted now.
+    /// Takes `permits` permits if they are granted now, and returns a releaser of them. Otherwise returns `None`.
     fn try_acquire(self, permits: usize) -> Option<SemaphoreReleaser<Self>>;
 
-    /// Takes all permits, when at least `min` are granted.
+    /// Returns a future that takes all permits when at least `min` are granted.
     fn acquire_all(self, min: usize) -> Self::AcquireAll;
 
-    /// Takes all permits, if at least `min` are granted now.
+    /// Takes all permits if at least `min` are granted now, and returns a releaser of them. Otherwise returns `None`.
     fn try_acquire_all(self, min: usize) -> Option<SemaphoreReleaser<Self>>;
 
-    /// Gives permits back, up to `usize::MAX`, and wakes who waits for some.
+    /// Gives `permits` permits back, up to `usize::MAX` in all. If that is more than 0, wakes the task that waits, or
+    /// in a fair semaphore the one in front.
     fn release(self, permits: usize);
 
-    /// Makes this the number of permits that are there. Wakes who waits, if it is more than before.
+    /// Sets the number of permits that are there. If it is more than before, wakes the task that waits, or in a fair
+    /// semaphore the one in front.
     fn set(self, permits: usize);
 }
 
-/// Permits that were granted. They are released when it ends.
+/// A releaser of permits that were granted. They are given back when it ends.
 pub struct SemaphoreReleaser<S: Semaphore> {
     semaphore: S,
     permits: usize,
@@ -119,14 +123,14 @@ impl<S: Semaphore> Drop for SemaphoreReleaser<S> {
 }
 
 impl<S: Semaphore> SemaphoreReleaser<S> {
-    /// How many permits were granted.
+    /// Returns how many permits were granted.
     pub fn permits(&self) -> usize
         ensures { result ≡ granted self.now }
     {
         self.permits
     }
 
-    /// Keeps the permits from coming back, and tells how many they are.
+    /// Ends the releaser without giving its permits back, and returns how many they are.
     pub fn disarm(self) -> usize
         ensures { result ≡ granted self }
     {
@@ -137,19 +141,19 @@ impl<S: Semaphore> SemaphoreReleaser<S> {
         permits
     }
 
-    /// Releases the permits, as a drop does.
+    /// Gives the permits back, as a drop does.
     pub fn end(self) {
         drop(self);
     }
 }
 
-/// A greedy semaphore: a request is granted as soon as its permits are there, even if another one waits for more of them.
+/// A greedy semaphore. A request is granted as soon as its permits are there, even if another request waits for more.
 pub type GreedySemaphore<W, H> = SharedSemaphore<GreedyState<W>, W, H>;
 
-/// A fair semaphore: requests are granted in the order in which they came to wait, of which at most `N` do at a time.
+/// A fair semaphore. Requests are granted in the order in which they came to wait, and at most `N` wait at a time.
 pub type FairSemaphore<W, H, const N: usize> = SharedSemaphore<FairState<W, N>, W, H>;
 
-/// A semaphore that tasks on several threads share by reference. Each call takes the call of its name on the state.
+/// A semaphore that tasks on several threads share by reference. Each call makes the call of its name on the state.
 #[derive(Drop)]
 pub struct SharedSemaphore<S, W, H> {
     inner: Shared<S, W, H>,
@@ -163,14 +167,14 @@ impl<S: PermitState<Waker = W>, W: Copy + Eq, H: Hand<W> + Default> Default
 }
 
 impl<S: PermitState<Waker = W>, W: Copy + Eq, H: Hand<W>> SharedSemaphore<S, W, H> {
-    /// This number of permits, and nobody who waits.
+    /// Returns a semaphore with the number of permits, for which no request waits.
     pub fn new(permits: usize, hand: H) -> Self {
         SharedSemaphore {
             inner: Shared::new(S::new(permits), hand),
         }
     }
 
-    /// How many permits are there to be taken now.
+    /// Returns how many permits are there to be taken now.
     pub fn permits(&self) -> usize {
         self.inner.guard().permits()
     }
@@ -185,7 +189,7 @@ impl<S: PermitState<Waker = W>, W: Copy + Eq, H: Hand<W>> SharedSemaphore<S, W, 
         })
     }
 
-    /// Takes this number of permits, when they are granted.
+    /// Returns a future that takes `permits` permits when they are granted.
     pub fn acquire(&self, permits: usize) -> Acquire<'_, S, W, H>
         ensures { S.wanted result ≡ Some (Amount.Exactly permits) }
     {
@@ -195,16 +199,17 @@ impl<S: PermitState<Waker = W>, W: Copy + Eq, H: Hand<W>> SharedSemaphore<S, W, 
         }
     }
 
-    /// Takes this number of permits, if they are granted now.
+    /// Takes `permits` permits if they are granted now, and returns a releaser of them. Otherwise returns `None`.
     ///
-    /// Match on the answer, and `end` the releaser: `Option::map` over it, and a `drop` of the whole `Option`, get no proof.
+    /// Match on the answer, and `end` the releaser: `Option::map` over it, and a `drop` of the whole `Option`, get no
+    /// proof.
     pub fn try_acquire(&self, permits: usize) -> Option<SemaphoreReleaser<&Self>>
         ensures { IfSome result (λ releaser. granted releaser ≡ permits) }
     {
         self.try_take(Amount::Exactly(permits))
     }
 
-    /// Takes all permits, when at least `min` are granted.
+    /// Returns a future that takes all permits when at least `min` are granted.
     pub fn acquire_all(&self, min: usize) -> Acquire<'_, S, W, H>
         ensures { S.wanted result ≡ Some (Amount.AllFrom min) }
     {
@@ -214,14 +219,15 @@ impl<S: PermitState<Waker = W>, W: Copy + Eq, H: Hand<W>> SharedSemaphore<S, W, 
         }
     }
 
-    /// Takes all permits, if at least `min` are granted now.
+    /// Takes all permits if at least `min` are granted now, and returns a releaser of them. Otherwise returns `None`.
     pub fn try_acquire_all(&self, min: usize) -> Option<SemaphoreReleaser<&Self>>
         ensures { IfSome result (λ releaser. min ≤ granted releaser) }
     {
         self.try_take(Amount::AllFrom(min))
     }
 
-    /// Gives permits back, up to `usize::MAX`, and wakes who waits for some.
+    /// Gives `permits` permits back, up to `usize::MAX` in all. If that is more than 0, wakes the task that waits, or
+    /// in a fair semaphore the one in front.
     pub fn release(&self, permits: usize) {
         step!(
             self.inner,
@@ -229,7 +235,8 @@ impl<S: PermitState<Waker = W>, W: Copy + Eq, H: Hand<W>> SharedSemaphore<S, W, 
         )
     }
 
-    /// Makes this the number of permits that are there. Wakes who waits, if it is more than before.
+    /// Sets the number of permits that are there. If it is more than before, wakes the task that waits, or in a fair
+    /// semaphore the one in front.
     pub fn set(&self, permits: usize) {
         step!(self.inner, |state, wakes| state.set(permits, &mut wakes))
     }
@@ -268,19 +275,19 @@ impl<'a, S: PermitState<Waker = W>, W: Copy + Eq, H: Hand<W>> Semaphore
     }
 }
 
-/// A request for permits of a greedy semaphore: what `acquire` gives.
+/// A future for permits of a greedy semaphore. `acquire` returns it.
 pub type GreedyAcquire<'a, W, H> = Acquire<'a, GreedyState<W>, W, H>;
 
-/// A request for all permits of a greedy semaphore: what `acquire_all` gives.
+/// A future for all permits of a greedy semaphore. `acquire_all` returns it.
 pub type GreedyAcquireAll<'a, W, H> = Acquire<'a, GreedyState<W>, W, H>;
 
-/// A request for permits of a fair semaphore: what `acquire` gives.
+/// A future for permits of a fair semaphore. `acquire` returns it.
 pub type FairAcquire<'a, W, H, const N: usize> = Acquire<'a, FairState<W, N>, W, H>;
 
-/// A request for all permits of a fair semaphore: what `acquire_all` gives.
+/// A future for all permits of a fair semaphore. `acquire_all` returns it.
 pub type FairAcquireAll<'a, W, H, const N: usize> = Acquire<'a, FairState<W, N>, W, H>;
 
-/// A request for permits. Where it ends while it waits, it leaves the queue of a fair semaphore.
+/// A future for permits. If it ends while it waits, its request leaves the queue of a fair semaphore.
 #[must_use]
 pub struct Acquire<'a, S: PermitState<Waker = W>, W: Copy + Eq, H: Hand<W>> {
     semaphore: &'a SharedSemaphore<S, W, H>,
@@ -296,16 +303,18 @@ impl<'a, S: PermitState<Waker = W>, W: Copy + Eq, H: Hand<W>> Model for Acquire<
 }
 
 impl<'a, S: PermitState<Waker = W>, W: Copy + Eq, H: Hand<W>> Acquire<'a, S, W, H> {
-    /// It heard its answer.
+    /// Returns whether the request was answered.
     pub fn is_finished(&self) -> bool
         ensures { result ≡ is_none (S.wanted self.now) }
     {
         S::is_finished(&self.request)
     }
 
-    /// Takes the permits, if they are granted now. If not, the context's waker waits for them.
+    /// Takes the permits if they are granted now, and returns a releaser of them. Otherwise registers the context's
+    /// waker and returns Pending.
     ///
-    /// The error of a fair semaphore is that its queue is full; a greedy one has none. A future that is finished isn't polled.
+    /// An error means that the queue of a fair semaphore is full; a greedy semaphore has no error. A finished future
+    /// may not be polled.
     pub fn poll(
         &mut self,
         cx: &Context<W>,
@@ -441,7 +450,8 @@ impl<Q: WaitQueue> PermitState for FairOver<Q> {
         request.is_finished()
     }
 
-    // A request has its ticket of this state, so it always belongs here. Should it not, it is over, as at a full queue.
+    // A request has a ticket of this state, so it always belongs here. If it doesn't, it is answered as at a full
+    // queue.
     fn poll(
         &mut self,
         request: &mut FairRequest,

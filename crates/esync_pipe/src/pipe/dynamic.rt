@@ -1,4 +1,4 @@
-//! The ends of a pipe whose type doesn't say how many bytes it can hold, and their futures.
+//! The ends of a pipe whose type doesn't say its capacity, and their futures.
 ghost use Rattle.std.specs.Prelude.{ℕ, ◌≡◌, ◌≤◌, IfOk, OnErr, length, drop};
 ghost use Rattle.esync_pipe.specs.Polls.{IfReady, KeepsCopy};
 
@@ -8,32 +8,33 @@ use esync_base::waitqueue::{Context, Hand, Poll, TaskId};
 use std::alloc::{AllocError, Global};
 use std::marker::Model;
 
-/// What the ends of a pipe need of it, whatever its capacity. Who has a pipe makes the reference to its `dyn`.
+/// The calls of a pipe that its ends need, whatever its capacity. The owner of a pipe makes the reference to its `dyn`.
 pub trait DynamicPipe {
-    /// How many bytes the pipe can hold.
+    /// How many bytes the pipe has room for in all.
     ghost places: { Self → ℕ };
 
-    /// How many bytes can be held.
+    /// Returns how many bytes the pipe has room for in all.
     fn capacity(&self) -> usize
         ensures { result ≡ places self.now };
 
-    /// Puts as many of the bytes in as there is room for, and tells how many. Where there is none, the waker, if it is given one, waits
-    /// for it.
+    /// Writes as many of the bytes as there is room for, and returns how many. If the pipe is full, returns an error,
+    /// and registers the waker, if there is one, for room.
     fn try_write(&self, waker: Option<TaskId>, from: &[u8]) -> Result<usize, TryWriteError>
         ensures { IfOk result (λ n. n ≤ length from.now) };
 
-    /// Takes the oldest bytes out, as many as there are and as the slice has places, and tells how many. Where there are none, the waker,
-    /// if it is given one, waits for them.
+    /// Takes the oldest bytes out into the slice, as many as there are and as it has room for, and returns how many. If
+    /// the pipe is empty, returns an error, and registers the waker, if there is one, for bytes.
     fn try_read(&self, waker: Option<TaskId>, to: &mut [u8]) -> Result<usize, TryReadError>
         ensures { IfOk result (λ n. n ≤ length to.old) };
 
-    /// Copies the oldest bytes that stand one behind the other, as many as the slice has places, and tells how many. They stay. Where
-    /// there are none nothing is written, and the waker, if it is given one, waits for them.
+    /// Copies the oldest bytes, up to the wrap of the ring and as many as the slice has room for, and returns how many.
+    /// They stay. If the pipe is empty, returns an error, writes nothing, and registers the waker, if there is one, for
+    /// bytes.
     fn fill(&self, waker: Option<TaskId>, to: &mut [u8]) -> Result<usize, TryReadError>
         ensures count { IfOk result (λ n. n ≤ length to.old) }
         ensures kept { OnErr result (to.new ≡ to.old) };
 
-    /// Drops so many of the oldest bytes, where so many stand one behind the other.
+    /// Drops the `amt` oldest bytes, if as many stand before the wrap of the ring.
     fn consume(&self, amt: usize);
 }
 
@@ -106,12 +107,12 @@ pub struct DynamicWriter<P> {
 }
 
 impl<P: DynamicPipe> DynamicWriter<P> {
-    /// The end of this pipe.
+    /// Returns an end of the pipe that writes.
     pub fn new(pipe: P) -> Self {
         DynamicWriter { pipe }
     }
 
-    /// Puts some of the bytes in, when there is room.
+    /// Returns a future that writes some of the bytes when there is room.
     pub fn write<'a>(&'a self, from: &'a [u8]) -> DynamicWriteFuture<'a, P>
         ensures { result ≡ from.now }
     {
@@ -121,7 +122,7 @@ impl<P: DynamicPipe> DynamicWriter<P> {
         }
     }
 
-    /// Puts as many of the bytes in as there is room for, and tells how many.
+    /// Writes as many of the bytes as there is room for, and returns how many. An error means that the pipe is full.
     pub fn try_write(&self, from: &[u8]) -> Result<usize, TryWriteError>
         ensures { IfOk result (λ n. n ≤ length from.now) }
     {
@@ -129,7 +130,7 @@ impl<P: DynamicPipe> DynamicWriter<P> {
     }
 }
 
-// A row of bytes, of which some were filled and not consumed since.
+// A row of bytes that were filled, without those that were consumed since.
 #[derive(Drop)]
 struct CopiedBytes {
     bytes: Vec<u8>,
@@ -151,7 +152,7 @@ impl Model for CopiedBytes {
 }
 
 impl CopiedBytes {
-    // So many places, of which none is filled.
+    // A row of `places` places, of which none is filled.
     fn new(alloc: Global, places: usize) -> Result<Self, AllocError>
         ensures { IfOk result (λ row. length row ≡ 0) }
     {
@@ -193,7 +194,7 @@ impl CopiedBytes {
     }
 }
 
-/// The end of any pipe that reads. It keeps a copy of the bytes that it filled, until they are consumed.
+/// The end of any pipe that reads. It keeps a copy of the bytes that it filled until they are consumed.
 #[derive(Drop)]
 pub struct DynamicReader<P> {
     pipe: P,
@@ -212,11 +213,12 @@ impl<P> Model for DynamicReader<P> {
 }
 
 impl<P: DynamicPipe + Drop> DynamicReader<P> {
-    /// Returns an end of this pipe that reads, with places for as many bytes as the pipe can hold. No other call takes memory.
+    /// Returns an end of the pipe that reads, with places for as many bytes as the pipe has room for. An error means
+    /// that there was no memory for them. No other call takes memory.
     ///
-    /// One pipe should have one such end: `consume` takes as many bytes out of the pipe as it is told. So if another end reads, or the
-    /// pipe is cleared, between a fill and its `consume`, that takes bytes which nobody has read. Where the pipe shows fewer by then, it
-    /// takes none, and the next fill shows the same bytes again.
+    /// A pipe should have one such end, since `consume` takes as many bytes out of the pipe as it is told. If another
+    /// end reads, or the pipe is cleared, between a fill and its `consume`, that takes bytes which no task has read. If
+    /// fewer bytes stand before the wrap by then, it takes none, and the next fill copies the same bytes again.
     pub fn new(alloc: Global, pipe: P) -> Result<Self, AllocError>
         ensures { IfOk result (λ reader. length reader ≡ 0) }
     {
@@ -224,7 +226,8 @@ impl<P: DynamicPipe + Drop> DynamicReader<P> {
         Ok(DynamicReader { pipe, row })
     }
 
-    /// Takes the oldest bytes out, as many as there are and as the slice has places, and tells how many. What was filled is forgotten.
+    /// Takes the oldest bytes out into the slice, as many as there are and as it has room for, and returns how many. An
+    /// error means that the pipe is empty. The reader's copy is empty afterwards.
     pub fn try_read(&mut self, to: &mut [u8]) -> Result<usize, TryReadError>
         ensures count { IfOk result (λ n. n ≤ length to.old) }
         ensures filled { length self.new ≡ 0 }
@@ -233,7 +236,7 @@ impl<P: DynamicPipe + Drop> DynamicReader<P> {
         self.pipe.try_read(None, to)
     }
 
-    /// Takes some bytes out, when there are any. What was filled is forgotten.
+    /// Returns a future that takes some bytes out when there are any. The reader's copy is empty afterwards.
     pub fn read<'a, 'b>(&'a mut self, to: &'b mut [u8]) -> DynamicReadFuture<'a, 'b, P>
         ensures { length result ≡ length to.old }
     {
@@ -244,26 +247,29 @@ impl<P: DynamicPipe + Drop> DynamicReader<P> {
         }
     }
 
-    /// Copies the oldest bytes that stand one behind the other. They stay in the pipe, until `consume` drops them.
+    /// Copies the oldest bytes, up to the wrap of the ring. They stay in the pipe until `consume` drops them. An error
+    /// means that the pipe is empty, and the reader's copy stays as it was.
     pub fn try_fill_buf(&mut self) -> Result<(), TryReadError>
         ensures kept { OnErr result (self.new ≡ self.old) }
     {
         self.row.fill(&self.pipe, None)
     }
 
-    /// The same, when there are any.
+    /// Returns a future that copies the oldest bytes, up to the wrap of the ring, when there are any. They stay in the
+    /// pipe until `consume` drops them.
     pub fn fill_buf<'r>(&'r mut self) -> DynamicFillBufFuture<'r, P> {
         DynamicFillBufFuture { reader: self }
     }
 
-    /// The bytes that were filled and not consumed since.
+    /// Returns the bytes that were filled and not consumed since.
     pub fn filled(&self) -> &[u8]
         ensures { result.now ≡ self.now }
     {
         self.row.filled()
     }
 
-    /// Drops so many of the bytes that were filled, here and in the pipe.
+    /// Drops the first `amt` bytes of the reader's copy, which has to have as many. Drops as many of the pipe's oldest
+    /// bytes, if as many stand before the wrap of the ring.
     pub fn consume(&mut self, amt: usize)
         requires { amt ≤ length self.old }
         ensures { self.new ≡ drop amt self.old }
@@ -273,7 +279,7 @@ impl<P: DynamicPipe + Drop> DynamicReader<P> {
     }
 }
 
-/// Bytes on their way into any pipe. It acts anew after it was ready.
+/// A future that writes some bytes into any pipe. After it was ready, a poll writes again.
 #[must_use]
 #[derive(Drop)]
 pub struct DynamicWriteFuture<'a, P> {
@@ -293,7 +299,8 @@ impl<'a, P> Model for DynamicWriteFuture<'a, P> {
 }
 
 impl<'a, P: DynamicPipe> DynamicWriteFuture<'a, P> {
-    /// Puts as many of the bytes in as there is room for, and tells how many. Where there is none, the context's waker waits for it.
+    /// Writes as many of the bytes as there is room for, and returns how many. If the pipe is full, registers the
+    /// context's waker for room and returns Pending.
     pub fn poll(&mut self, cx: &Context<TaskId>) -> Poll<usize>
         ensures count { IfReady result (λ n. n ≤ length self.old) }
         ensures from { self.new ≡ self.old }
@@ -305,7 +312,7 @@ impl<'a, P: DynamicPipe> DynamicWriteFuture<'a, P> {
     }
 }
 
-/// Bytes on their way out of any pipe. It acts anew after it was ready.
+/// A future that takes bytes from any pipe. After it was ready, a poll takes the next bytes.
 #[must_use]
 #[derive(Drop)]
 pub struct DynamicReadFuture<'a, 'b, P> {
@@ -325,8 +332,8 @@ impl<'a, 'b, P> Model for DynamicReadFuture<'a, 'b, P> {
 }
 
 impl<'a, 'b, P: DynamicPipe> DynamicReadFuture<'a, 'b, P> {
-    /// Takes the oldest bytes out, as many as there are and as the slice has places, and tells how many. Where there are none, the
-    /// context's waker waits for them.
+    /// Takes the oldest bytes out into the slice, as many as there are and as it has room for, and returns how many. If
+    /// the pipe is empty, registers the context's waker for bytes and returns Pending.
     pub fn poll(&mut self, cx: &Context<TaskId>) -> Poll<usize>
         ensures count { IfReady result (λ n. n ≤ length self.old) }
         ensures slice { length self.new ≡ length self.old }
@@ -340,7 +347,8 @@ impl<'a, 'b, P: DynamicPipe> DynamicReadFuture<'a, 'b, P> {
     }
 }
 
-/// A copy on its way to the reader of any pipe. It acts anew after it was ready, and the reader shows the copy by `filled`.
+/// A future that copies bytes of any pipe for its reader. After it was ready, a poll copies again, and the reader
+/// returns the copy by `filled`.
 #[must_use]
 #[derive(Drop)]
 pub struct DynamicFillBufFuture<'r, P> {
@@ -359,7 +367,8 @@ impl<'r, P> Model for DynamicFillBufFuture<'r, P> {
 }
 
 impl<'r, P: DynamicPipe> DynamicFillBufFuture<'r, P> {
-    /// Copies the oldest bytes that stand one behind the other. Where there is none, the context's waker waits for one.
+    /// Copies the oldest bytes, up to the wrap of the ring. If the pipe is empty, registers the context's waker for
+    /// bytes and returns Pending. The reader's copy then stays as it was.
     pub fn poll(&mut self, cx: &Context<TaskId>) -> Poll<()>
         ensures kept { KeepsCopy result self.old self.new }
     {

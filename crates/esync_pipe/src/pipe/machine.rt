@@ -19,20 +19,20 @@ use esync_machine::run::{Reply, run};
 use std::alloc::{AllocError, Global};
 use std::marker::Model;
 
-/// What a request on a pipe waits for. `B` are the rows of bytes that commands and answers carry.
+/// What a request on a pipe waits for. `B` is the type of the rows of bytes that commands and answers carry.
 #[derive(Clone, Copy, Debug, PartialEq, Eq)]
 pub enum PipeAsk<B> {
-    /// To put some of the bytes in.
+    /// Room for some of these bytes, to put them in.
     Write(B),
-    /// To put all of the bytes in, in as many polls as it takes.
+    /// Room for all of these bytes, to put them in, in as many polls as it takes.
     WriteAll(B),
-    /// To take out so many bytes, or fewer.
+    /// Bytes, to take at most this many out.
     Read(usize),
-    /// For bytes, without taking them out.
+    /// Bytes, without taking them out.
     Fill,
 }
 
-/// The other calls of a pipe.
+/// The calls of a pipe that are no start, poll or end.
 #[derive(Clone, Copy, Debug, PartialEq, Eq)]
 pub enum PipeCall<B> {
     TryWrite(B),
@@ -44,16 +44,16 @@ pub enum PipeCall<B> {
     FreeCapacity,
 }
 
-/// What a pipe answers.
+/// The answers of a pipe.
 #[derive(Clone, Copy, Debug, PartialEq, Eq)]
 pub enum PipeHeard<B> {
-    /// So many bytes of the request are written.
+    /// How many bytes of the request were written.
     Wrote(usize),
-    /// All bytes of the request are written.
+    /// All bytes of the request were written.
     WroteAll,
     /// The bytes that the request took out.
     HasRead(B),
-    /// The bytes that are there.
+    /// The bytes that the request waited for. They stay in the pipe.
     Filled(B),
     TryWrote(Result<usize, TryWriteError>),
     HasTriedRead(Result<B, TryReadError>),
@@ -61,7 +61,7 @@ pub enum PipeHeard<B> {
     Number(usize),
 }
 
-// What a poll does, of each request.
+// What a poll of each request does.
 impl<R: ByteStore, W: Copy + Eq> PipeOver<R, W> {
     fn turn_write<const L: usize, const K: usize>(
         &mut self,
@@ -133,7 +133,7 @@ impl<R: ByteStore, W: Copy + Eq> PipeOver<R, W> {
         }
     }
 
-    // Takes so many bytes out, or all where more are asked for.
+    // Takes `count` bytes out, or all bytes if there are fewer.
     fn read_row<const L: usize, const K: usize>(
         &mut self,
         count: usize,
@@ -185,7 +185,7 @@ impl<R: ByteStore, W: Copy + Eq> PipeOver<R, W> {
         }
     }
 
-    // Shows the bytes that `try_fill_buf` shows.
+    // The bytes that `try_fill_buf` returns, as a row.
     fn shown_row<const L: usize>(&self) -> Result<Bytes<L>, TryReadError>
         requires { R.capacity ≤ L }
         ensures { Fills R.capacity self.now.ring result self.now.ring }
@@ -196,7 +196,7 @@ impl<R: ByteStore, W: Copy + Eq> PipeOver<R, W> {
         }
     }
 
-    // Drops so many of the bytes that `try_fill_buf` shows, where there are so many.
+    // Drops `count` of the bytes that `try_fill_buf` returns, if it returns as many.
     fn consume_row<const L: usize, const K: usize>(
         &mut self,
         count: usize,
@@ -239,8 +239,8 @@ fn turn<R: ByteStore, W: Copy + Eq, const L: usize, const K: usize>(
 /// The state of a pipe of at most `N` bytes as its machine has it.
 pub type PipeRows<W, const N: usize, const L: usize> = PipeRowsOver<ByteRing<N>, W, L>;
 
-/// The state of a pipe as its machine has it: commands and answers carry rows of at most `L` bytes. `L` is at least the pipe's capacity,
-/// so that an answer has room for all bytes that the pipe holds.
+/// The state of a pipe as its machine has it. Commands and answers carry rows of at most `L` bytes. `L` is at least the
+/// pipe's capacity, so that an answer has room for all bytes in the pipe.
 #[derive(Debug, Drop)]
 pub struct PipeRowsOver<R: ByteStore, W, const L: usize> {
     state: PipeOver<R, W>,
@@ -265,7 +265,7 @@ impl<R: ByteStore + Kept, W: Copy, const L: usize> Kept for PipeRowsOver<R, W, L
     }
 }
 
-/// Shows at place 0 the waker of the task that waits for bytes, and at place 1 that of the task that waits for room.
+/// Place 0 is the readers' slot, for bytes. Place 1 is the writers' slot, for room.
 impl<R: ByteStore, W: Copy + Eq, const L: usize> Registered for PipeRowsOver<R, W, L> {
     type Waker = W;
 
@@ -279,7 +279,7 @@ impl<R: ByteStore, W: Copy + Eq, const L: usize> Registered for PipeRowsOver<R, 
 }
 
 impl<R: ByteStore, W: Copy + Eq, const L: usize> PipeRowsOver<R, W, L> {
-    /// Returns an empty pipe that no task waits on, with rows of at most `L` bytes.
+    /// Returns an empty pipe without a registered waker, with rows of at most `L` bytes.
     ///
     /// `L` has to be at least the pipe's capacity. A caller compares the two numbers of the type, as by `N <= L`.
     pub fn new() -> Self
@@ -292,8 +292,8 @@ impl<R: ByteStore, W: Copy + Eq, const L: usize> PipeRowsOver<R, W, L> {
         PipeRowsOver::from_state(PipeOver::new())
     }
 
-    /// Returns a pipe of this state, with its bytes and its wakers, and with rows of at most `L` bytes. So a run can begin at any
-    /// state.
+    /// Returns a pipe with this state, its bytes and its wakers, and with rows of at most `L` bytes. So a run can begin
+    /// at any state.
     ///
     /// `L` has to be at least the pipe's capacity. A caller compares the two numbers of the type, as by `N <= L`.
     pub fn from_state(state: PipeOver<R, W>) -> Self
@@ -303,7 +303,7 @@ impl<R: ByteStore, W: Copy + Eq, const L: usize> PipeRowsOver<R, W, L> {
         PipeRowsOver { state }
     }
 
-    /// Lends the state.
+    /// Returns the state by reference.
     pub fn state(&self) -> &PipeOver<R, W>
         ensures { result.now ≡ self.now }
     {
@@ -389,7 +389,8 @@ impl<R: ByteStore, W: Copy + Eq, const L: usize, const K: usize> Primitive<K>
     ghost no_requests = { all_requests (pipe_rules R.capacity) (λ h. tt) (λ o o2 call p p2 a c. c.1) };
 }
 
-/// A pipe of at most `N` bytes as a machine, with rows of at most `L` bytes, at least `N`, and requests at the numbers below `REQS`.
+/// A pipe of at most `N` bytes as a machine, with requests at the numbers below `REQS`. Its rows have at most `L`
+/// bytes, and `L` is at least `N`.
 pub type PipeRun<W, const N: usize, const L: usize, const REQS: usize, const K: usize> = Requests<
     PipeRows<W, N, L>,
     REQS,
@@ -399,16 +400,21 @@ pub type PipeRun<W, const N: usize, const L: usize, const REQS: usize, const K: 
 /// The commands of a pipe.
 pub type PipeCommand<W, const L: usize> = Command<PipeAsk<Bytes<L>>, W, PipeCall<Bytes<L>>>;
 
-/// What a pipe answers to a command, with the wakers that it hands out.
+/// The reply of a pipe to a command, with the wakers that it hands out.
 pub type PipeReply<W, const L: usize, const K: usize> = Reply<Answer<PipeHeard<Bytes<L>>>, W, K>;
 
-/// Gives the commands to the pipe, one after another, as `run` does.
+/// Gives the commands to the pipe, one after another, as `run` does, and returns the replies in order. After an error
+/// no command was taken.
 ///
-/// Each answer is one that a list of at most `N` bytes with a place allows. No live request that last heard Pending would now be
-/// answered Ready, or write any byte, unless its waker was handed out in that poll or since. No Pending poll that changes nothing
-/// hands out its own waker. What is written comes out in order: the bytes that the run read, consumed or cleared, and then those that
-/// are held, are those held at first and those that it wrote, in order. And its sizes add up: the length is the number of bytes that
-/// were written and not taken, and the free capacity what it lacks to `N`.
+/// Each answer is one that a list of at most `N` bytes with a place allows. No live request that last heard Pending
+/// would now be answered Ready, or write any byte, unless its waker was handed out in that poll or since. No Pending
+/// poll that changes nothing hands out its own waker.
+///
+/// What is written comes out in order. Take the bytes that the run read, consumed or cleared, and behind them those
+/// that are held after it: they are the bytes held at first and behind them those that the run wrote, in order.
+///
+/// The sizes add up. The length is the number of bytes that were held at first or written since, and not taken. With
+/// the free capacity it makes `N`.
 pub fn run_pipe<W: Copy + Eq, const N: usize, const L: usize, const REQS: usize, const K: usize>(
     alloc: Global,
     machine: &mut PipeRun<W, N, L, REQS, K>,

@@ -13,7 +13,7 @@ use esync_base::waitqueue::{Context, Hand, Poll, Wakes};
 use std::marker::Model;
 use std::sync::MutexGuard;
 
-/// A copy of the bytes that a reader filled, of which the first ones may be consumed since. It stands in a ring, from its first place on.
+/// A reader's copy of bytes of the pipe, without those that were consumed since. It stands in a ring of its own.
 #[derive(Drop)]
 pub struct CopiedIn<R: ByteStore> {
     bytes: R,
@@ -39,14 +39,14 @@ impl<R: ByteStore> CopiedIn<R> {
         CopiedIn { bytes: R::new() }
     }
 
-    // The bytes that aren't consumed.
+    // The bytes of the copy that weren't consumed.
     fn filled(&self) -> &[u8]
         ensures { result.now ≡ self.now }
     {
         self.bytes.filled()
     }
 
-    // Copies as many of the bytes as it has places.
+    // Copies as many of the bytes as the ring has places.
     fn fill(&mut self, from: &[u8])
         ensures { self.new ≡ take R.capacity from.now }
     {
@@ -68,7 +68,7 @@ impl<R: ByteStore> CopiedIn<R> {
     }
 }
 
-// Copies as many of the bytes as there are places, and tells how many.
+// Copies as many bytes as both slices have, and returns how many.
 fn copy_front(from: &[u8], to: &mut [u8]) -> usize
     ensures within { result ≤ length to.old }
     ensures count { result ≡ min (length to.old) (length from.now) }
@@ -83,9 +83,10 @@ fn copy_front(from: &[u8], to: &mut [u8]) -> usize
     n
 }
 
-/// What a shared pipe does of its state beside the state's own calls: it copies what it shows.
+/// The steps of a shared pipe beside the state's own calls: they copy the bytes that `try_fill_buf` returns.
 impl<R: ByteStore, W: Copy + Eq> PipeOver<R, W> {
-    // Copies the oldest bytes that stand one behind the other. Where there are none, the waker, if there is one, waits for them.
+    // Copies the oldest bytes, up to the wrap of the ring. If the pipe is empty, registers the waker, if there is one,
+    // for bytes.
     fn fill(
         &mut self,
         waker: Option<W>,
@@ -105,8 +106,8 @@ impl<R: ByteStore, W: Copy + Eq> PipeOver<R, W> {
         Ok(())
     }
 
-    // Copies the oldest bytes that stand one behind the other, as many as the slice has places, and tells how many. They stay. Where
-    // there are none nothing is written, and the waker, if there is one, waits for them.
+    // Copies the oldest bytes, up to the wrap of the ring and as many as the slice has room for, and returns how many.
+    // They stay. If the pipe is empty, writes nothing, and registers the waker, if there is one, for bytes.
     fn show(
         &mut self,
         waker: Option<W>,
@@ -126,7 +127,7 @@ impl<R: ByteStore, W: Copy + Eq> PipeOver<R, W> {
         Ok(copy_front(self.shown(), to))
     }
 
-    // Drops so many of the oldest bytes, where so many stand one behind the other.
+    // Drops the `amt` oldest bytes, if as many stand before the wrap of the ring.
     fn drop_shown(&mut self, amt: usize, wakes: &mut Wakes<W, 1>)
         requires { wakes.old ≡ [] }
         ensures { Dropping R.capacity self.old amt (shows R.capacity self.old.ring amt) self.new wakes.new }
@@ -142,22 +143,22 @@ pub type Pipe<W, H, const N: usize> = SharedPipe<ByteRing<N>, W, H>;
 
 /// A pipe that tasks on several threads share by reference, with backpressure.
 ///
-/// Each call takes the lock, takes the call of its name on the state, releases the lock, and then gives each waker that the step
-/// handed out to the hand, in order.
+/// Each call takes the lock, makes the call of its name on the state, and releases the lock. Then it gives each waker
+/// that the step handed out to the hand, in order.
 #[derive(Drop)]
 pub struct SharedPipe<R: ByteStore, W, H> {
     inner: Shared<PipeOver<R, W>, W, H>,
 }
 
 impl<R: ByteStore, W: Copy + Eq, H: Hand<W>> SharedPipe<R, W, H> {
-    /// No byte, and nobody who waits.
+    /// Returns an empty pipe without a registered waker.
     pub fn new(hand: H) -> Self {
         SharedPipe {
             inner: Shared::new(PipeOver::new(), hand),
         }
     }
 
-    /// The two ends of the pipe. There is one reader, which fills a copy of the oldest bytes.
+    /// Returns the two ends of the pipe. There is one reader, which keeps a copy of the oldest bytes when it fills.
     pub fn split(&mut self) -> (PipeReader<'_, R, W, H>, PipeWriter<'_, R, W, H>)
         ensures { length result.0 ≡ 0 }
     {
@@ -165,28 +166,29 @@ impl<R: ByteStore, W: Copy + Eq, H: Hand<W>> SharedPipe<R, W, H> {
         (PipeReader::new(pipe), PipeWriter { pipe })
     }
 
-    /// Puts some of the bytes in, when there is room.
+    /// Returns a future that writes some of the bytes when there is room.
     pub fn write<'a>(&'a self, from: &'a [u8]) -> WriteFuture<'a, R, W, H>
         ensures { result ≡ from.now }
     {
         WriteFuture { pipe: self, from }
     }
 
-    /// Puts all of the bytes in, as there is room.
+    /// Returns a future that writes all of the bytes as there is room.
     pub fn write_all<'a>(&'a self, from: &'a [u8]) -> WriteAllFuture<'a, R, W, H>
         ensures { result ≡ Some from.now }
     {
         WriteAllFuture::new(self, from)
     }
 
-    /// Takes some bytes out, when there are any.
+    /// Returns a future that takes some bytes out when there are any.
     pub fn read<'a, 'b>(&'a self, to: &'b mut [u8]) -> ReadFuture<'a, 'b, R, W, H>
         ensures { length result ≡ length to.old }
     {
         ReadFuture { pipe: self, to }
     }
 
-    // Takes the lock, until the guard is dropped. That the lists of wakers of all steps fit in memory is said here, once.
+    // Takes the lock, until the guard is dropped. Its contract says once, for all steps, that their lists of wakers fit
+    // in memory.
     #[inline]
     fn guard(&self) -> MutexGuard<'_, PipeOver<R, W>>
         ensures one { WakesFit W.row 1 }
@@ -240,14 +242,15 @@ impl<R: ByteStore, W: Copy + Eq, H: Hand<W>> SharedPipe<R, W, H> {
         )
     }
 
-    /// Puts as many of the bytes in as there is room for, and tells how many.
+    /// Writes as many of the bytes as there is room for, and returns how many. If the pipe was empty, wakes the task
+    /// that is registered for bytes. An error means that the pipe is full.
     pub fn try_write(&self, from: &[u8]) -> Result<usize, TryWriteError>
         ensures { IfOk result (λ n. n ≤ length from.now) }
     {
         self.step_write(None, from)
     }
 
-    /// The same. Where there is no room, the context's waker waits for it.
+    /// Like `try_write`, but if the pipe is full, registers the waker of the context, if there is one, for room.
     pub fn try_write_with_context(
         &self,
         cx: Option<&Context<W>>,
@@ -258,14 +261,15 @@ impl<R: ByteStore, W: Copy + Eq, H: Hand<W>> SharedPipe<R, W, H> {
         self.step_write(waker_of(cx), from)
     }
 
-    /// Takes the oldest bytes out, as many as there are and as the slice has places, and tells how many.
+    /// Takes the oldest bytes out into the slice, as many as there are and as it has room for, and returns how many. If
+    /// the pipe was full, wakes the task that is registered for room. An error means that the pipe is empty.
     pub fn try_read(&self, to: &mut [u8]) -> Result<usize, TryReadError>
         ensures { IfOk result (λ n. n ≤ length to.old) }
     {
         self.step_read(None, to)
     }
 
-    /// The same. Where there is no byte, the context's waker waits for one.
+    /// Like `try_read`, but if the pipe is empty, registers the waker of the context, if there is one, for bytes.
     pub fn try_read_with_context(
         &self,
         cx: Option<&Context<W>>,
@@ -276,38 +280,38 @@ impl<R: ByteStore, W: Copy + Eq, H: Hand<W>> SharedPipe<R, W, H> {
         self.step_read(waker_of(cx), to)
     }
 
-    /// Drops all bytes, and wakes who waits for room.
+    /// Drops all bytes, and wakes the task that is registered for room.
     pub fn clear(&self) {
         step!(self, |state, wakes| state.clear(&mut wakes))
     }
 
-    /// How many bytes can be held. It takes no lock.
+    /// Returns how many bytes the pipe has room for in all. Takes no lock.
     pub fn capacity(&self) -> usize
         ensures { result ≡ R.capacity }
     {
         R::capacity()
     }
 
-    /// How many bytes are held now.
+    /// Returns how many bytes are in the pipe now.
     pub fn len(&self) -> usize
         ensures { result ≤ R.capacity }
     {
         self.guard().len()
     }
 
-    /// How many bytes there is room for now.
+    /// Returns how many more bytes the pipe has room for now.
     pub fn free_capacity(&self) -> usize
         ensures { result ≤ R.capacity }
     {
         self.guard().free_capacity()
     }
 
-    /// No byte is held now.
+    /// Returns whether the pipe is empty now.
     pub fn is_empty(&self) -> bool {
         self.guard().is_empty()
     }
 
-    /// As many bytes are held now as there is room for.
+    /// Returns whether the pipe is full now.
     pub fn is_full(&self) -> bool {
         self.guard().is_full()
     }
@@ -323,14 +327,15 @@ pub struct PipeWriter<'p, R: ByteStore, W, H> {
 }
 
 impl<'p, R: ByteStore, W: Copy + Eq, H: Hand<W>> PipeWriter<'p, R, W, H> {
-    /// Puts some of the bytes in, when there is room.
+    /// Returns a future that writes some of the bytes when there is room.
     pub fn write<'a>(&'a self, from: &'a [u8]) -> WriteFuture<'a, R, W, H>
         ensures { result ≡ from.now }
     {
         self.pipe.write(from)
     }
 
-    /// Puts as many of the bytes in as there is room for, and tells how many.
+    /// Writes as many of the bytes as there is room for, and returns how many. If the pipe was empty, wakes the task
+    /// that is registered for bytes. An error means that the pipe is full.
     pub fn try_write(&self, from: &[u8]) -> Result<usize, TryWriteError>
         ensures { IfOk result (λ n. n ≤ length from.now) }
     {
@@ -341,7 +346,7 @@ impl<'p, R: ByteStore, W: Copy + Eq, H: Hand<W>> PipeWriter<'p, R, W, H> {
 /// The end of a pipe of at most `N` bytes that reads.
 pub type Reader<'p, W, H, const N: usize> = PipeReader<'p, ByteRing<N>, W, H>;
 
-/// The end of a pipe that reads. It keeps a copy of the bytes that it filled, until they are consumed.
+/// The end of a pipe that reads. It keeps a copy of the bytes that it filled until they are consumed.
 #[derive(Drop)]
 pub struct PipeReader<'p, R: ByteStore, W, H> {
     pipe: &'p SharedPipe<R, W, H>,
@@ -369,7 +374,9 @@ impl<'p, R: ByteStore, W: Copy + Eq, H: Hand<W>> PipeReader<'p, R, W, H> {
         }
     }
 
-    /// Takes the oldest bytes out, as many as there are and as the slice has places, and tells how many. What was filled is forgotten.
+    /// Takes the oldest bytes out into the slice, as many as there are and as it has room for, and returns how many. If
+    /// the pipe was full, wakes the task that is registered for room. An error means that the pipe is empty. The
+    /// reader's copy is empty afterwards.
     pub fn try_read(&mut self, to: &mut [u8]) -> Result<usize, TryReadError>
         ensures count { IfOk result (λ n. n ≤ length to.old) }
         ensures filled { length self.new ≡ 0 }
@@ -378,7 +385,7 @@ impl<'p, R: ByteStore, W: Copy + Eq, H: Hand<W>> PipeReader<'p, R, W, H> {
         self.pipe.try_read(to)
     }
 
-    /// Takes some bytes out, when there are any. What was filled is forgotten.
+    /// Returns a future that takes some bytes out when there are any. The reader's copy is empty afterwards.
     pub fn read<'a, 'b>(&'a mut self, to: &'b mut [u8]) -> ReadFuture<'a, 'b, R, W, H>
         ensures { length result ≡ length to.old }
     {
@@ -386,19 +393,22 @@ impl<'p, R: ByteStore, W: Copy + Eq, H: Hand<W>> PipeReader<'p, R, W, H> {
         self.pipe.read(to)
     }
 
-    /// Copies the oldest bytes that stand one behind the other. They stay in the pipe, until `consume` drops them.
+    /// Copies the oldest bytes, up to the wrap of the ring. They stay in the pipe until `consume` drops them. An error
+    /// means that the pipe is empty, and the reader's copy stays as it was.
     pub fn try_fill_buf(&mut self) -> Result<(), TryReadError>
         ensures kept { OnErr result (self.new ≡ self.old) }
     {
         self.pipe.step_fill(None, &mut self.row)
     }
 
-    /// Copies the oldest bytes that stand one behind the other, when there are any. They stay in the pipe, until `consume` drops them.
+    /// Returns a future that copies the oldest bytes, up to the wrap of the ring, when there are any. They stay in the
+    /// pipe until `consume` drops them.
     pub fn fill_buf<'r>(&'r mut self) -> FillBufFuture<'r, 'p, R, W, H> {
         FillBufFuture { reader: self }
     }
 
-    /// Copies the oldest bytes that stand one behind the other. Where there is none, the context's waker waits for one.
+    /// Copies the oldest bytes, up to the wrap of the ring. If the pipe is empty, registers the context's waker for
+    /// bytes and returns Pending. The reader's copy then stays as it was.
     pub fn poll_fill_buf(&mut self, cx: &Context<W>) -> Poll<()>
         ensures kept { KeepsCopy result self.old self.new }
     {
@@ -408,14 +418,14 @@ impl<'p, R: ByteStore, W: Copy + Eq, H: Hand<W>> PipeReader<'p, R, W, H> {
         }
     }
 
-    /// The bytes that were filled and not consumed since.
+    /// Returns the bytes that were filled and not consumed since.
     pub fn filled(&self) -> &[u8]
         ensures { result.now ≡ self.now }
     {
         self.row.filled()
     }
 
-    /// Drops so many of the bytes that were filled, here and in the pipe.
+    /// Drops the first `amt` bytes of the reader's copy, and as many bytes of the pipe. The copy has to have as many.
     pub fn consume(&mut self, amt: usize)
         requires { amt ≤ length self.old }
         ensures { self.new ≡ drop amt self.old }
@@ -425,7 +435,7 @@ impl<'p, R: ByteStore, W: Copy + Eq, H: Hand<W>> PipeReader<'p, R, W, H> {
     }
 }
 
-/// Bytes on their way into a pipe: what `write` gives. It acts anew after it was ready.
+/// A future that writes some bytes into a pipe. `write` returns it. After it was ready, a poll writes again.
 #[must_use]
 #[derive(Drop)]
 pub struct WriteFuture<'p, R: ByteStore, W, H> {
@@ -445,7 +455,8 @@ impl<'p, R: ByteStore, W, H> Model for WriteFuture<'p, R, W, H> {
 }
 
 impl<'p, R: ByteStore, W: Copy + Eq, H: Hand<W>> WriteFuture<'p, R, W, H> {
-    /// Puts as many of the bytes in as there is room for, and tells how many. Where there is none, the context's waker waits for it.
+    /// Writes as many of the bytes as there is room for, and returns how many. If the pipe was empty, wakes the task
+    /// that is registered for bytes. If the pipe is full, registers the context's waker for room and returns Pending.
     pub fn poll(&mut self, cx: &Context<W>) -> Poll<usize>
         ensures count { IfReady result (λ n. n ≤ length self.old) }
         ensures from { self.new ≡ self.old }
@@ -457,7 +468,7 @@ impl<'p, R: ByteStore, W: Copy + Eq, H: Hand<W>> WriteFuture<'p, R, W, H> {
     }
 }
 
-/// Bytes on their way into a pipe, all of them: what `write_all` gives.
+/// A future that writes all of its bytes into a pipe. `write_all` returns it.
 #[must_use]
 #[derive(Drop)]
 pub struct WriteAllFuture<'p, R: ByteStore, W, H> {
@@ -477,7 +488,7 @@ impl<'p, R: ByteStore, W, H> Model for WriteAllFuture<'p, R, W, H> {
 }
 
 impl<'p, R: ByteStore, W: Copy + Eq, H: Hand<W>> WriteAllFuture<'p, R, W, H> {
-    /// The bytes are still to be written.
+    /// Returns a future whose bytes are still to be written.
     pub(crate) fn new(pipe: &'p SharedPipe<R, W, H>, from: &'p [u8]) -> Self
         ensures { result ≡ Some from.now }
     {
@@ -487,15 +498,15 @@ impl<'p, R: ByteStore, W: Copy + Eq, H: Hand<W>> WriteAllFuture<'p, R, W, H> {
         }
     }
 
-    /// All bytes were written.
+    /// Returns whether all bytes were written.
     pub fn is_finished(&self) -> bool
         ensures { result ≡ is_none self.now }
     {
         self.request.is_finished()
     }
 
-    /// Writes as many of the bytes as there is room for. Where some are left, the context's waker waits for room. A future that is
-    /// finished isn't polled.
+    /// Writes as many of the bytes as there is room for. If some are left, registers the context's waker for room and
+    /// returns Pending. A finished future may not be polled.
     pub fn poll(&mut self, cx: &Context<W>) -> Poll<()>
         requires { IsSome self.old }
         ensures { LeavesBytes result self.old self.new }
@@ -504,7 +515,7 @@ impl<'p, R: ByteStore, W: Copy + Eq, H: Hand<W>> WriteAllFuture<'p, R, W, H> {
     }
 }
 
-/// Bytes on their way out of a pipe: what `read` gives. It acts anew after it was ready.
+/// A future that takes bytes from a pipe. `read` returns it. After it was ready, a poll takes the next bytes.
 #[must_use]
 #[derive(Drop)]
 pub struct ReadFuture<'p, 'b, R: ByteStore, W, H> {
@@ -524,8 +535,9 @@ impl<'p, 'b, R: ByteStore, W, H> Model for ReadFuture<'p, 'b, R, W, H> {
 }
 
 impl<'p, 'b, R: ByteStore, W: Copy + Eq, H: Hand<W>> ReadFuture<'p, 'b, R, W, H> {
-    /// Takes the oldest bytes out, as many as there are and as the slice has places, and tells how many. Where there are none, the
-    /// context's waker waits for them.
+    /// Takes the oldest bytes out into the slice, as many as there are and as it has room for, and returns how many. If
+    /// the pipe was full, wakes the task that is registered for room. If it is empty, registers the context's waker for
+    /// bytes and returns Pending.
     pub fn poll(&mut self, cx: &Context<W>) -> Poll<usize>
         ensures count { IfReady result (λ n. n ≤ length self.old) }
         ensures slice { length self.new ≡ length self.old }
@@ -539,7 +551,8 @@ impl<'p, 'b, R: ByteStore, W: Copy + Eq, H: Hand<W>> ReadFuture<'p, 'b, R, W, H>
     }
 }
 
-/// A copy on its way to a reader: what `fill_buf` gives. It acts anew after it was ready, and the reader shows the copy by `filled`.
+/// A future that copies bytes of a pipe for its reader. `fill_buf` returns it. After it was ready, a poll copies again,
+/// and the reader returns the copy by `filled`.
 #[must_use]
 #[derive(Drop)]
 pub struct FillBufFuture<'r, 'p, R: ByteStore, W, H> {
@@ -558,7 +571,8 @@ impl<'r, 'p, R: ByteStore, W, H> Model for FillBufFuture<'r, 'p, R, W, H> {
 }
 
 impl<'r, 'p, R: ByteStore, W: Copy + Eq, H: Hand<W>> FillBufFuture<'r, 'p, R, W, H> {
-    /// Copies the oldest bytes that stand one behind the other. Where there is none, the context's waker waits for one.
+    /// Copies the oldest bytes, up to the wrap of the ring. If the pipe is empty, registers the context's waker for
+    /// bytes and returns Pending. The reader's copy then stays as it was.
     pub fn poll(&mut self, cx: &Context<W>) -> Poll<()>
         ensures kept { KeepsCopy result self.old self.new }
     {

@@ -4,7 +4,7 @@ ghost use Rattle.std.specs.Borrow.{ftrue};
 
 use std::marker::Model;
 
-// A number without bytes. That it owns nothing says that a contract may tell its number without the program keeping it.
+// A number without bytes. It owns nothing, so a contract may tell it while the program doesn't keep it.
 #[derive(Drop)]
 pub(crate) struct Count {
     seal: (),
@@ -42,7 +42,7 @@ impl Model for Comparisons {
 }
 
 impl Comparisons {
-    /// None so far.
+    /// Returns a count of 0.
     pub fn new() -> Self
         ensures { result ≡ 0 }
     {
@@ -51,7 +51,7 @@ impl Comparisons {
         }
     }
 
-    /// One more. `Kind::above` calls it once.
+    /// Counts one more comparison. `Kind::above` calls it once.
     pub fn tick(&mut self)
         ensures { self.new ≡ self.old + 1 }
     {

@@ -1,4 +1,4 @@
-//! The priority channel as a machine that takes commands: those of a channel.
+//! The priority channel as a machine that takes the commands of a channel.
 ghost use Rattle.std.specs.Prelude.{◌≡◌, IfOk, OnErr};
 ghost use Rattle.esync_priority.specs.Prio.{Bag};
 ghost use Rattle.esync_machine.specs.Runs.{GoodRun};
@@ -20,12 +20,15 @@ pub type PriorityRun<T, W, O, const N: usize, const REQS: usize, const K: usize>
     K,
 >;
 
-/// Gives the commands to the priority channel, one after another, as `run` does.
+/// Gives the commands to the priority channel, one after another, as `run` does, and returns the replies in order.
+/// After an error no command was taken.
 ///
-/// Each answer is one that a bag of at most `N` messages allows, from which one leaves that none of the held ones is above.
-/// No live request that last heard Pending would now be answered Ready, unless its waker was handed out in that poll or
-/// since. No Pending poll that changes nothing hands out its own waker. And its sizes add up: the length is the number of
-/// messages that were held at first or sent since, and not taken, and the free capacity what it lacks to `N`.
+/// Each answer is one that a bag of at most `N` messages allows. The message that leaves is one that no held message is
+/// above. No live request that last heard Pending would now be answered Ready, unless its waker was handed out in that
+/// poll or since. No Pending poll that changes nothing hands out its own waker.
+///
+/// The sizes add up. The length is the number of messages that were held at first or sent since, and not taken. With
+/// the free capacity it makes `N`.
 pub fn run_priority_channel<
     T: Drop,
     W: Copy + Eq,

@@ -18,13 +18,13 @@ use esync_machine::requests::Requests;
 use esync_machine::run::{Reply, run};
 use std::alloc::{AllocError, Global};
 
-/// What stands at a number of a fair semaphore: a request has its ticket once it waits.
+/// What stands at a number of a fair semaphore. A request has a ticket once it waits.
 pub type FairHeld = PermitHeld<Option<Ticket>>;
 
-/// What a fair semaphore answers: a request hears how many permits it was granted, or that there was no place for it.
+/// The answers of a fair semaphore. A request hears how many permits it was granted, or that there was no place for it.
 pub type FairHeard = PermitHeard<Result<usize, WaitQueueFull>>;
 
-// What is answered to a poll, and what stands at the number after it.
+// The answer to a poll, and what stands at the number afterwards.
 fn turn_of(amount: Amount, poll: FairPoll) -> Turn<FairHeard, FairHeld>
     ensures answer { result.answer ≡ answer_of poll }
     ensures place { result.place ≡ place_of amount poll }
@@ -41,7 +41,7 @@ fn turn_of(amount: Amount, poll: FairPoll) -> Turn<FairHeard, FairHeld>
     }
 }
 
-// Takes permits for a free number, if they are there and nobody waits.
+// Takes permits for a free number, if they are there and no request waits.
 fn try_at<Q: WaitQueue>(
     state: &mut FairOver<Q>,
     amount: Amount,
@@ -164,7 +164,7 @@ impl<Q: WaitQueue, const K: usize> Primitive<K> for FairOver<Q> {
     ghost no_requests = { permit_no_requests (fair Q.places) };
 }
 
-/// A fair semaphore as a machine, with requests at the numbers below `REQS`, of which at most `N` wait.
+/// A fair semaphore as a machine, with requests at the numbers below `REQS`. At most `N` of them wait.
 pub type FairRun<W, const N: usize, const REQS: usize, const K: usize> = Requests<
     FairState<W, N>,
     REQS,
@@ -174,17 +174,21 @@ pub type FairRun<W, const N: usize, const REQS: usize, const K: usize> = Request
 /// The commands of a fair semaphore.
 pub type FairCommand<W> = Command<Amount, W, PermitCall>;
 
-/// What a fair semaphore answers to a command, with the wakers that it hands out.
+/// The reply of a fair semaphore to a command, with the wakers that it hands out.
 pub type FairReply<W, const K: usize> = Reply<Answer<FairHeard>, W, K>;
 
-/// Gives the commands to the fair semaphore, one after another, as `run` does.
+/// Gives the commands to the fair semaphore, one after another, as `run` does, and returns the replies in order. After
+/// an error no command was taken.
 ///
 /// Each answer is one that the number of permits and the queue of at most `N` requests allow. No live request that last
-/// heard Pending would now be answered Ready, unless its waker was handed out in that poll or since. No Pending poll that
-/// changes nothing hands out its own waker. Permits are kept: as long as none of the commands sets, disarms or releases, the
-/// permits that are there and those of the live releasers add up to the same number. And nobody overtakes: where the machine has no
-/// requests and an empty queue at first, each request that is granted is the first of those who wait, in the order in which they first heard
-/// Pending, or nobody waits.
+/// heard Pending would now be answered Ready, unless its waker was handed out in that poll or since. No Pending poll
+/// that changes nothing hands out its own waker.
+///
+/// Permits are kept: as long as no command sets, disarms or releases, the permits that are there and those of the live
+/// releasers add up to the same number.
+///
+/// No request overtakes another, if the machine has no requests and an empty queue at first. Whenever a request is
+/// granted, no request waits, or it is the first of those that wait, in the order in which they first heard Pending.
 pub fn run_fair<W: Copy + Eq, const N: usize, const REQS: usize, const K: usize>(
     alloc: Global,
     machine: &mut FairRun<W, N, REQS, K>,

@@ -14,10 +14,10 @@ use esync_machine::requests::Requests;
 use esync_machine::run::{Reply, run};
 use std::alloc::{AllocError, Global};
 
-/// What stands at a number of a greedy semaphore: the semaphore knows nothing of a request that waits.
+/// What stands at a number of a greedy semaphore. The semaphore has no name for a request that waits.
 pub type GreedyHeld = PermitHeld<()>;
 
-/// What a greedy semaphore answers: a request hears how many permits it was granted.
+/// The answers of a greedy semaphore. A request hears how many permits it was granted.
 pub type GreedyHeard = PermitHeard<usize>;
 
 // Takes permits for a free number, if they are there.
@@ -151,15 +151,18 @@ pub type GreedyRun<W, const REQS: usize, const K: usize> = Requests<GreedyState<
 /// The commands of a greedy semaphore.
 pub type GreedyCommand<W> = Command<Amount, W, PermitCall>;
 
-/// What a greedy semaphore answers to a command, with the wakers that it hands out.
+/// The reply of a greedy semaphore to a command, with the wakers that it hands out.
 pub type GreedyReply<W, const K: usize> = Reply<Answer<GreedyHeard>, W, K>;
 
-/// Gives the commands to the greedy semaphore, one after another, as `run` does.
+/// Gives the commands to the greedy semaphore, one after another, as `run` does, and returns the replies in order.
+/// After an error no command was taken.
 ///
 /// Each answer is one that the number of permits allows. No live request that last heard Pending would now be answered
 /// Ready, unless its waker was handed out in that poll or since. No Pending poll that changes nothing hands out its own
-/// waker. And permits are kept: as long as none of the commands sets, disarms or releases, the permits that are there and those
-/// of the live releasers add up to the same number.
+/// waker.
+///
+/// Permits are kept: as long as no command sets, disarms or releases, the permits that are there and those of the live
+/// releasers add up to the same number.
 pub fn run_greedy<W: Copy + Eq, const REQS: usize, const K: usize>(
     alloc: Global,
     machine: &mut GreedyRun<W, REQS, K>,
