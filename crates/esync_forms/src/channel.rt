@@ -1,4 +1,5 @@
-//! The channel and the priority channel, by their own calls, by their handles, and by handles whose type doesn't say how messages are kept.
+//! The channel and the priority channel: called by their own calls, by their handles, and by handles whose type doesn't
+//! say how messages are kept.
 use crate::form::{Door, Doors, Form, Sizes, over, sizes};
 use esync_base::store::Store;
 use esync_base::waitqueue::{Context, Hand, Poll};
@@ -9,7 +10,8 @@ use esync_channel::channel::{
 };
 use esync_machine::primitive::{Answer, Turn};
 
-/// A channel, whose calls are made by each of its ways in turn: its own, its handles, and those whose type doesn't say how it keeps its messages.
+/// A channel whose calls are made in each way in turn: by its own calls, by its handles, and by those whose type
+/// doesn't say how it keeps its messages.
 #[derive(Drop)]
 pub struct Channel<'c, S, H> {
     channel: &'c SharedMailbox<S, u64, H>,
@@ -20,7 +22,7 @@ pub struct Channel<'c, S, H> {
     doors: Doors,
 }
 
-/// A future, or what is polled by calls that take a context.
+/// A future, or a request that is polled by calls that take a context.
 #[derive(Drop)]
 pub enum Held<'c, S: Store, H: Hand<u64>> {
     Send(SendFuture<'c, SharedMailbox<S, u64, H>>),
@@ -93,7 +95,7 @@ impl<'c, S: Store<Message = u32>, H: Hand<u64>> Form for Channel<'c, S, H> {
 }
 
 impl<'c, S: Store<Message = u32>, H: Hand<u64>> Channel<'c, S, H> {
-    /// This channel, which is called by these ways.
+    /// Returns this channel, called in these ways.
     pub fn new(channel: &'c SharedMailbox<S, u64, H>, doors: Doors) -> Self {
         let (sender, receiver) = (channel.sender(), channel.receiver());
         Channel {
@@ -237,7 +239,7 @@ fn dyn_receive<'c, S: Store<Message = u32>, H: Hand<u64>>(
     is_received(polled, Held::DynReceive(future))
 }
 
-// What a poll leaves of a request for a message.
+// Returns what a poll leaves of a request for a message.
 fn is_received<H: Drop>(polled: Poll<u32>, held: H) -> Turn<ChannelHeard<u32>, H> {
     match polled {
         Poll::Ready(message) => Turn::over(ChannelHeard::Received(message)),
@@ -245,7 +247,7 @@ fn is_received<H: Drop>(polled: Poll<u32>, held: H) -> Turn<ChannelHeard<u32>, H
     }
 }
 
-// What a poll leaves of a request that tells nothing but that it is over.
+// Returns what a poll leaves of a request that gives nothing.
 fn is_ready<H: Drop>(polled: Poll<()>, held: H) -> Turn<ChannelHeard<u32>, H> {
     match polled {
         Poll::Ready(()) => Turn::over(ChannelHeard::Ready),

@@ -1,4 +1,5 @@
-//! The watch, by its senders and receivers, and by those whose type doesn't say how many receivers it has room for.
+//! The watch: called by its senders and receivers, and by those whose type doesn't say how many receivers it has room
+//! for.
 use crate::form::{Door, Doors, Form, nobody, over};
 use esync_base::waitqueue::{Context, Hand, Poll, WakerList};
 use esync_cells::watch::machine::{Await, Reading, WatchCall, WatchHeard};
@@ -10,20 +11,20 @@ use esync_machine::primitive::{Answer, Turn};
 use std::alloc::{AllocError, Global};
 use std::marker::PhantomData;
 
-/// A watch of values, however many receivers it has room for: what it has that its senders and receivers don't have.
+/// A watch of values for any number of receivers: the calls that its senders and receivers don't have.
 pub trait Watches: WatchBehavior<Value = u32, Waker = u64> {
-    /// A receiver, if there is a place for it.
+    /// Adds a receiver, if there is a place for it.
     fn counted(&self, door: Door) -> Option<Rcv<'_, Self>>;
 
-    /// A receiver that never waits.
+    /// Returns a receiver that never waits.
     fn anon(&self, door: Door) -> AnonRcv<'_, Self>;
 
     fn version(&self) -> u64;
 
-    /// What a read finds.
+    /// Reads the value, if there is one.
     fn found(&self) -> Result<Option<u32>, AllocError>;
 
-    /// What a read of values that pass finds.
+    /// Reads the value, if there is one that passes the test.
     fn found_of<J: Judge<u32> + Copy>(&self, judge: J) -> Result<Option<u32>, AllocError>;
 }
 
@@ -56,7 +57,7 @@ impl<L: WakerList<Waker = u64>, H: Hand<u64>, const K: usize> Watches
     }
 }
 
-/// A watch with its receivers, whose calls are made by each of its ways in turn. It takes changes `C` and tests `J`.
+/// A watch with its receivers, whose calls are made in each way in turn. It takes changes `C` and tests `J`.
 #[derive(Drop)]
 pub struct Watching<'w, B: Watches, C, J> {
     watch: &'w B,
@@ -76,7 +77,8 @@ enum Receiver<'w, B: WatchBehavior> {
 }
 
 impl<'w, B: WatchBehavior<Value = u32, Waker = u64>> Receiver<'w, B> {
-    // The same receiver, which has seen what it had seen. Its type no longer says how many receivers there is room for.
+    // Returns this receiver, which has seen what it had seen, with a type that doesn't say how many receivers there is
+    // room for.
     fn by(self, door: Door) -> Self {
         match self {
             Receiver::Counted(receiver) => Receiver::Counted(counted_by(receiver, door)),
@@ -150,7 +152,7 @@ fn anon_reads<B: WatchBehavior<Value = u32>, J: Judge<u32> + Copy>(
     }
 }
 
-// A poll of what the receiver's call gives, which borrows the receiver and so is made anew for each poll.
+// Polls the future that a receiver's call returns. The future borrows the receiver, and so is made anew for each poll.
 fn polls<B: WatchBehavior<Value = u32, Waker = u64>, J: Judge<u32> + Copy>(
     receiver: &mut Rcv<'_, B>,
     read: Reading<J>,
@@ -164,7 +166,7 @@ fn polls<B: WatchBehavior<Value = u32, Waker = u64>, J: Judge<u32> + Copy>(
     }
 }
 
-// What a poll leaves of a request for a value.
+// Returns what a poll leaves of a request for a value.
 fn has_waited<J: Drop>(
     polled: Result<Poll<u32>, AllocError>,
     held: Await<J>,
@@ -179,7 +181,7 @@ fn has_waited<J: Drop>(
     }
 }
 
-// What was found, in the words of a watch.
+// Returns the answer to a read, in the words of a watch.
 fn has_found(found: Result<Option<u32>, AllocError>) -> Answer<WatchHeard<u32>> {
     match found {
         Ok(found) => Answer::Gives(WatchHeard::Found(found)),
@@ -251,7 +253,7 @@ where
     }
 }
 
-// The receiver that stands at a place, if one does, by this way.
+// Returns the receiver at a place, if there is one, with a type for this way.
 fn receiver_by<'p, 'w, B: WatchBehavior<Value = u32, Waker = u64>>(
     place: Option<&'p mut Option<Receiver<'w, B>>>,
     door: Door,
@@ -283,7 +285,7 @@ where
         }
     }
 
-    // A counted receiver comes.
+    // Adds a counted receiver.
     fn join(&mut self, h: usize) -> Answer<WatchHeard<u32>> {
         if !self.is_free(h) {
             return Answer::NoSuch;
@@ -297,7 +299,7 @@ where
         }
     }
 
-    // An anonymous receiver comes.
+    // Adds an anonymous receiver.
     fn join_anon(&mut self, h: usize) -> Answer<WatchHeard<u32>> {
         if !self.is_free(h) {
             return Answer::NoSuch;
@@ -313,7 +315,7 @@ where
         }
     }
 
-    // The receiver at the number leaves.
+    // Removes the receiver at the number.
     fn leave(&mut self, h: usize) -> Answer<WatchHeard<u32>> {
         let Some(place) = self.receivers.get_mut(h) else {
             return Answer::NoSuch;
@@ -325,7 +327,7 @@ where
         Answer::Done
     }
 
-    // A read for no receiver.
+    // Reads the value without a receiver.
     fn try_get(&mut self) -> Result<Option<u32>, AllocError> {
         match self.doors.next() {
             Door::Own => self.watch.found(),
@@ -334,7 +336,7 @@ where
         }
     }
 
-    // A read for the receiver at the number.
+    // Reads the value for the receiver at the number.
     fn read(&mut self, h: usize, read: Reading<J>) -> Answer<WatchHeard<u32>> {
         let door = self.doors.next();
         let Some(receiver) = receiver_by(self.receivers.get_mut(h), door) else {
@@ -347,7 +349,8 @@ where
         }
     }
 
-    // What a receiver found of values that pass, where who keeps no version finds it too.
+    // Returns the value that a receiver found by a test, if a read without a version finds it too. Otherwise returns
+    // NoSuch.
     fn finds_too(
         &mut self,
         judge: J,
@@ -373,7 +376,7 @@ where
         }
     }
 
-    // What the first receiver says, or the watch where there is none.
+    // Returns whether there is a value, as the first receiver says, or the watch if there is no receiver.
     fn first_contains_value(&self) -> bool {
         match self.receivers.iter().flatten().next() {
             Some(receiver) => receiver.contains_value(),
@@ -389,11 +392,11 @@ where
     C: Change<u32> + Drop,
     J: Judge<u32> + Copy,
 {
-    /// This watch, which has no receivers, and is called by these ways.
+    /// Returns this watch without receivers, called in these ways.
     ///
     /// # Errors
     ///
-    /// Where there is no memory.
+    /// Returns the error if there is no memory.
     pub fn new(
         alloc: Global,
         watch: &'w SharedWatch<u32, L, H, K>,
