@@ -32,7 +32,7 @@ pub trait Player<R: ByteSource, W: Write> {
     /// before and after.
     ghost plays: { Self → Self → (Q C A Reply : Type 0) (M : Meaning (CommandOf Q ℕ C) Reply ℕ) → (List ℕ → Option (CommandOf Q ℕ C)) → (A → List ℕ) → (Reply → AnswerOf A) → (Reply → List ℕ) → M.Object → M.Registered → ℕ → Option (List ℕ) → Option (List ℕ) → Option (List ℕ) → Result (Unit {0}) FaultOf → Type 0 };
 
-    /// Goes through the lines that are left.
+    /// Plays the lines that are left.
     ///
     /// # Errors
     ///
