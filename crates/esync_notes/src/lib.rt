@@ -29,14 +29,14 @@ impl<'a, R: Wait> Notes<'a, R> {
         }
     }
 
-    /// Returns the wakers that the hand was given since the last such call, in order: the first 8 of them. It then
-    /// forgets them.
+    /// Returns the wakers that the hand was given since the last call of `given` or `are`, in order: the first 8 of
+    /// them.
     pub fn given(&self) -> Wakes<u64, 8> {
         self.given.replace(Wakes::new())
     }
 
-    /// Returns whether the hand was given exactly these wakers, in this order, since the last such call. Returns
-    /// `false` if it was given more than it has room for.
+    /// Returns whether the hand was given exactly these wakers, in this order, since the last call of `given` or `are`.
+    /// Returns `false` if it was given more than it has room for.
     pub fn are(&self, wakers: &[u64]) -> bool {
         let given = self.given();
         if self.has_lost.replace(false) || given.len() != wakers.len() {
@@ -153,7 +153,7 @@ macro_rules! same {
     };
 }
 
-/// Asserts that the hand was given these wakers in this order since the last such call.
+/// Asserts that the hand was given these wakers in this order since it was last asked.
 #[macro_export]
 macro_rules! woken {
     ($rt:expr, $notes:expr, $wakers:expr) => {

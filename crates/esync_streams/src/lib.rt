@@ -44,7 +44,7 @@ impl Registration {
         };
     }
 
-    // Wakes the task that left its waker, and frees the place for the next one.
+    // Takes the waker that a task left, frees the place for the next one, and then wakes the task.
     fn wake(&self) {
         let waker = lock(&self.waker).map(|mut waker| waker.take());
         drop(waker);

@@ -173,7 +173,7 @@ impl<
         Ok(Sub::new(self, id))
     }
 
-    /// Adds a subscriber whose type doesn't name the capacities, as `subscriber` does.
+    /// Adds a subscriber, as `subscriber` does. Both calls return one type.
     pub fn dyn_subscriber(&self) -> Result<DynSubscriber<'_, Self>, Error> {
         self.subscriber()
     }
@@ -188,7 +188,7 @@ impl<
         Ok(Pub::new(self))
     }
 
-    /// Adds a publisher whose type doesn't name the capacities, as `publisher` does.
+    /// Adds a publisher, as `publisher` does. Both calls return one type.
     pub fn dyn_publisher(&self) -> Result<DynPublisher<'_, Self>, Error> {
         self.publisher()
     }
@@ -198,7 +198,7 @@ impl<
         ImmediatePub::new(self)
     }
 
-    /// Returns a publisher that never waits and isn't counted, whose type doesn't name the capacities.
+    /// Returns a publisher that never waits, as `immediate_publisher` does. Both calls return one type.
     pub fn dyn_immediate_publisher(&self) -> DynImmediatePublisher<'_, Self> {
         self.immediate_publisher()
     }
