@@ -18,7 +18,7 @@ module _ {T : Type 0} where
   abbrev pub IsHeld : Account T → ℕ → Type 0
   IsHeld k held = held ≡ length k.topic.log.held
 
-  -- the sizes that a run answers, over a channel of at most cap messages; the account by each subscriber s has that
-  -- channel
+  -- the sizes that a run answers, over a channel of at most cap messages; s is any subscriber, since the account of
+  -- each has the whole channel
   abbrev pub SizesAddUp : {W : Type 0} {K : ℕ} → ℕ → ℕ → List (Option (PubSubAsk T)) → Topic T → List (Command (PubSubAsk T) W (PubSubCall T)) → List (Reply (Answer (PubSubHeard T)) W K) → Type 0
   SizesAddUp cap s requests o commands replies = AddUpInRun Len FreeCapacity Number cap IsHeld (after cap s) (known_at_first requests o) commands replies

@@ -14,8 +14,8 @@ pub use selected::{Either, Select};
 
 /// A value that may come later, for which a task with a waker of type `W` polls.
 ///
-/// A poll that answers Pending must have registered the context's waker, or handed it out, so that the task is woken once
-/// another poll is worth it. A future that is dropped is cancelled.
+/// A poll that answers Pending must have registered the context's waker, or handed it out, so that the task is woken
+/// once another poll is worth it. A future that is dropped is cancelled.
 pub trait Future<W>: Drop {
     /// The value that the future gives once it is ready.
     type Output;
@@ -28,8 +28,8 @@ pub trait Future<W>: Drop {
     /// The outputs that the future may give. By default any.
     ghost gives: { Self → Self.Output → Type 0 } = { λ _ _. ⊤ };
 
-    /// Polls the future and returns its output if it is there. Otherwise the answer is Pending, the context's waker waits
-    /// for another poll to be worth it, and the future may be polled again.
+    /// Polls the future and returns its output if it is there. Otherwise the answer is Pending, the context's waker
+    /// waits for another poll to be worth it, and the future may be polled again.
     fn poll(&mut self, cx: &Context<W>) -> Poll<Self::Output>
         requires { can_poll self.old }
         ensures value { IfReady result (gives self.old) }
