@@ -1,7 +1,7 @@
-//! Synchronization primitives for tasks that are polled, under upstream's paths.
+//! Synchronization primitives for polled tasks, under upstream's paths.
 //!
-//! Each module is that of a crate below. `run` has the primitives as machines that take commands, and `executor` runs tasks over
-//! any such machine.
+//! Each module re-exports a module of a crate below. `run` has the primitives as machines that take commands, and
+//! `executor` runs tasks over any such machine.
 #![tactic(auto)]
 
 pub use esync_base::{blocking_mutex, deque, ring_buffer, shared, store, waitqueue};

@@ -1,4 +1,4 @@
--- What a recorded run is found to be.
+-- The verdict on a recorded run.
 use Rattle.std.specs.Prelude.{◌≡◌, ℕ, ◌+◌, ◌-◌, ◌^◌, min, Bool, true, false, ◌==◌, List, [], ◌∷◌, ◌++◌, Some, Result, Ok, codes, decimal, string_bytes}
 use Rattle.std.proofs.Common.{nat_eq, nat_cmp}
 use Rattle.esync_priority.specs.Prio.{greater, less}
@@ -14,25 +14,25 @@ use Rattle.esync_check.specs.declared.fault.Unchecked.TheVariants.{NoReply, Scri
 use Rattle.esync_check.specs.declared.Verdict.{Verdict}
 use Rattle.esync_check.specs.declared.Verdict.TheVariants.{Run, Another}
 
--- A script is played so, and this is the text of its replies: a line each, of the answer and of exactly the wakers that are handed out.
+-- A script is played with this outcome, and its replies have this text: a line each, of the answer and all its wakers.
 abbrev pub Replies : List ℕ → List ℕ → Result (Unit {0}) Fault → Type 0
 Replies script replies outcome =
     PlaysScript nat_eq (greater nat_cmp) (less nat_cmp) replies_story (Some script) (Some []) (Some replies) outcome
 
--- A text is the record of a run of so many commands, of the primitive that its line 1 names: its script is played to its end, and the replies are
--- those that were recorded.
+-- A text is the record of a run of so many commands, of the primitive that its line 1 names: its script is played to
+-- its end, and the replies are those that were recorded.
 pub record IsRun (text : List ℕ) (commands : ℕ) : Type 0 where
   pub script : List ℕ
   pub replies : List ℕ
   pub records : Records text script replies commands []
   pub played : Replies script replies (Ok tt)
 
--- a reply that was recorded is the first that is another than the one given, and has this line
+-- the recorded reply with this line is the first that differs from the given one
 abbrev pub DiffersAt : List ℕ → List ℕ → Difference → Type 0
 DiffersAt recorded given d =
     (before : ℕ) × Differs recorded given before (string_bytes d.recorded) (string_bytes d.given) × (d.line ≡ min (before + 2) (2 ^ 64 - 1))
 
--- Of the replies that a text records, up to its end or to its first line without one, this is the first that the primitive doesn't give.
+-- Among the replies that a text records up to its first line without one, this is the first the primitive doesn't give.
 pub record IsAnother (text : List ℕ) (d : Difference) : Type 0 where
   pub script : List ℕ
   pub recorded : List ℕ
@@ -49,17 +49,17 @@ abbrev pub Finds : List ℕ → Verdict → Type 0
 Finds text (Run commands) = IsRun text commands
 Finds text (Another d) = IsAnother text d
 
--- what so many recorded replies, all of them or not, are found to be beside those that were given, where the play ended so
+-- the verdict on so many recorded replies, the whole record or a part, beside those that a play with this outcome gave
 abbrev pub Judges : ℕ → Bool → List ℕ → List ℕ → Result (Unit {0}) Fault → Verdict → Type 0
 Judges count is_whole recorded given outcome (Run commands) = (commands ≡ count) × (is_whole ≡ true) × (outcome ≡ Ok tt) × (given ≡ recorded)
 Judges count is_whole recorded given outcome (Another d) = IsJudged outcome × DiffersAt recorded given d
 
--- what is written to the errors of a check that ends before its verdict
+-- the text of the error of a check that ends before its verdict
 abbrev pub message_of : Unchecked → List ℕ
 message_of (NoReply number) = codes "line " ++ decimal number ++ codes ": no reply"
 message_of (Script fault) = fault_message fault
 
--- what is written of a reply that differs: its line, what was recorded, and what the primitive gives
+-- the text of a reply that differs: its line, the recorded reply, and the one that the primitive gives
 abbrev pub heading_text : ℕ → List ℕ → List ℕ
 heading_text line name = codes "line " ++ decimal line ++ codes ": not a run of " ++ name ++ 10 ∷ []
 
@@ -72,12 +72,12 @@ given_text reply = codes "given: " ++ reply ++ 10 ∷ []
 abbrev pub difference_text : List ℕ → Difference → List ℕ
 difference_text name d = (heading_text d.line name ++ recorded_text (string_bytes d.recorded)) ++ given_text (string_bytes d.given)
 
--- what is written of a run of n commands; one is told apart
+-- the text of a run of n commands, in the singular or the plural
 abbrev pub run_text : Bool → List ℕ → ℕ → List ℕ
 run_text true name n = codes "1 command: a run of " ++ name ++ 10 ∷ []
 run_text false name n = decimal n ++ codes " commands: a run of " ++ name ++ 10 ∷ []
 
--- what is written of a text whose line 1 is this
+-- the text of a verdict on a record with this line 1
 abbrev pub verdict_text : List ℕ → Verdict → List ℕ
 verdict_text name (Run commands) = run_text (commands == 1) name commands
 verdict_text name (Another d) = difference_text name d

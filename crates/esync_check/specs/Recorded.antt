@@ -28,8 +28,8 @@ abbrev pub entry_lines : List Entry → List (List ℕ)
 entry_lines [] = []
 entry_lines (e ∷ es) = entry_line e ∷ entry_lines es
 
--- A text is line 1 and so many entries, a line each, and this is left behind them. The script is line 1 and their commands. Numbers stop at the
--- greatest.
+-- A text is line 1 and so many entries, a line each, and `rest` is left behind them. The script is line 1 and the
+-- entries' commands. Numbers stop at the greatest.
 pub record Records (text script replies : List ℕ) (count : ℕ) (rest : List ℕ) : Type 0 where
   pub first : List ℕ
   pub entries : List Entry
@@ -38,7 +38,7 @@ pub record Records (text script replies : List ℕ) (count : ℕ) (rest : List �
   pub replies_are : replies ≡ replies_text entries
   pub counted : count ≡ min (length entries) (2 ^ 64 - 1)
 
--- Both texts begin with the same n lines, and the next line of each is this.
+-- Both texts begin with the same n lines, and these are their next lines.
 pub record Differs (recorded given : List ℕ) (n : ℕ) (other own : List ℕ) : Type 0 where
   pub same : List (List ℕ)
   pub recorded_rest : List ℕ

@@ -1,4 +1,4 @@
-//! The first reply of a recorded run that is another than the object's.
+//! The first recorded reply that differs from the object's.
 ghost use Rattle.std.specs.Prelude.{◌≡◌, ℕ, ◌+◌, ◌-◌, ◌^◌, min, IfOk, IfErr, IfSome, string_bytes};
 ghost use Rattle.esync_check.specs.Recorded.{Differs};
 
@@ -6,20 +6,23 @@ use crate::recording::split_line;
 use esync_words::fault::Fault;
 use std::alloc::Global;
 
-/// A reply that was recorded, where the object gives another.
+/// A recorded reply that differs from the object's.
 #[derive(Drop)]
 pub struct Difference {
-    /// The number of its line in the recorded run.
+    /// The number of the reply's line in the recorded run.
     pub line: u64,
-    /// What was recorded.
+    /// The reply that was recorded.
     pub recorded: String,
-    /// What the object gives.
+    /// The reply that the object gives.
     pub given: String,
 }
 
-/// The first of the recorded replies that is another than the one given, where each has a line of its own.
+/// Returns the first recorded reply that differs from the given one, where each reply has a line of its own. Lines
+/// behind the end of one text are not compared.
 ///
-/// Behind the end of either nothing is compared. An error is want of memory.
+/// # Errors
+///
+/// Returns `OutOfMemory` if there is no memory for the difference.
 pub fn first_difference(
     alloc: Global,
     recorded: &str,

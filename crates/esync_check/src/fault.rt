@@ -1,10 +1,10 @@
-//! What ends a check before its verdict.
+//! The faults that end a check before its verdict.
 
 use esync_words::fault::Fault;
 use std::error::Error;
 use std::fmt;
 
-/// Why a recorded run wasn't judged.
+/// The reason why a recorded run wasn't judged.
 #[derive(Clone, Copy, Debug, PartialEq, Eq)]
 pub enum Unchecked {
     /// The line of this number has no reply.

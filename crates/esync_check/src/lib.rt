@@ -1,4 +1,5 @@
-//! Recorded runs: whether what was recorded elsewhere is a run of the object, with exactly the wakers that the table of wakes says.
+//! Recorded runs: whether a run that was recorded elsewhere is one of the object, with exactly the wakers that the
+//! table of wakes names.
 #![tactic(auto)]
 
 ghost use Rattle.std.specs.Prelude.{◌≡◌, ◌==◌, IfOk, OnOk, IfErr, string_bytes};
@@ -19,21 +20,24 @@ pub mod difference;
 pub mod fault;
 pub mod recording;
 
-/// What a recorded run is found to be.
+/// A verdict on a recorded run.
 #[derive(Drop)]
 pub enum Verdict {
-    /// A run of the primitive that line 1 names, of so many commands.
+    /// The record is a run of the primitive that line 1 names, of so many commands.
     Run(u64),
-    /// This reply is the first that is another than the primitive's.
+    /// This recorded reply is the first that isn't the primitive's.
     Another(Difference),
 }
 
 /// Checks a recorded run: line 1 as of a script, and behind it lines `COMMAND => REPLY`.
 ///
-/// It is `Run` only where each line behind line 1 is so made, and the replies are those of one good run of the primitive
-/// that line 1 names, with exactly those wakers. `Another` has the first reply that isn't the primitive's. An error names
-/// the line that is no command or has no reply, where the replies before it are the primitive's, or says that memory was
-/// refused. None says that a read or a write failed.
+/// The verdict is `Run` only if each line behind line 1 has this form, and the replies are those of one good run of the
+/// primitive that line 1 names, with exactly those wakers. `Another` has the first reply that isn't the primitive's.
+///
+/// # Errors
+///
+/// Returns the line that is no command or has no reply, if the replies before it are the primitive's, or that memory
+/// was refused. No read or write fails.
 pub fn check_script(alloc: Global, text: &str) -> Result<Verdict, Unchecked>
     ensures ok { IfOk result (λ verdict. Finds text.now verdict) }
     ensures err { IfErr result (λ unchecked. unchecked ≡ Unchecked.Script Fault.InputOutput → ⊥) }
@@ -44,7 +48,7 @@ pub fn check_script(alloc: Global, text: &str) -> Result<Verdict, Unchecked>
     judge(alloc, &recording, &given, outcome)
 }
 
-// Compares the recorded replies with those that the primitive gave, until the play ended so.
+// Compares the recorded replies with those that the primitive gave, up to the end of the play with this outcome.
 fn judge(
     alloc: Global,
     recording: &Recording,
@@ -74,7 +78,11 @@ fn judge(
     }
 }
 
-/// Writes what the text is found to be.
+/// Writes the verdict on the text.
+///
+/// # Errors
+///
+/// Returns the error if the write failed.
 pub fn print_verdict<W: Write>(text: &str, verdict: &Verdict, output: &mut W) -> io::Result<()>
     ensures { OnOk result (Appends (W.contents output.old) (W.contents output.new) (verdict_text (first_line text.now) verdict.now)) }
 {

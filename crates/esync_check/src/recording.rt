@@ -10,17 +10,17 @@ use std::alloc::Global;
 /// The script and the replies of a recorded run.
 #[derive(Drop)]
 pub struct Recording {
-    /// Line 1, and the commands.
+    /// Line 1, and the commands, a line each.
     pub script: String,
-    /// The replies.
+    /// The replies, a line each.
     pub replies: String,
-    /// How many commands there are.
+    /// The number of commands.
     pub commands: u64,
-    /// Each line has a reply. Where one has none, it and those behind it are left out.
+    /// Whether each line has a reply. A line without one is left out, with the lines behind it.
     pub is_whole: bool,
 }
 
-/// The first line of the text, without its line feed, and what stands behind it.
+/// Returns the first line of the text, without its line feed, and the text behind it.
 pub fn split_line(text: &str) -> (&str, &str)
     ensures line { result.0.now ≡ first_line text.now }
     ensures rest { result.1.now ≡ other_lines text.now }
@@ -42,9 +42,12 @@ fn append_line(text: &mut String, line: &str) -> Result<(), Fault>
 }
 
 impl Recording {
-    /// Takes a recorded run apart.
+    /// Takes a recorded run apart, and returns its script and its replies.
     ///
-    /// An empty text has no line 1, which is `NotACommand(1)`. Any other error is want of memory.
+    /// # Errors
+    ///
+    /// Returns `NotACommand(1)` for an empty text, which has no line 1, and otherwise `OutOfMemory` if memory was
+    /// refused.
     pub fn read(alloc: Global, text: &str) -> Result<Self, Fault>
         ensures ok { IfOk result (λ recording. (rest : List ℕ) × Records text.now (string_bytes recording.script) (string_bytes recording.replies) recording.commands rest × (recording.is_whole ≡ true → rest ≡ [])) }
         ensures err { IfErr result (λ fault. (fault ≡ Fault.OutOfMemory) ⊎ ((text.now ≡ []) × (fault ≡ Fault.NotACommand 1))) }
@@ -64,7 +67,7 @@ impl Recording {
         Ok(recording)
     }
 
-    // Reads the lines behind line 1, up to the first that has no reply, if there is one.
+    // Reads the lines behind line 1, up to the first that has no reply. Returns whether each line has one.
     fn read_entries(&mut self, lines: &str) -> Result<bool, Fault>
         requires { self.old.commands ≡ 0 }
         ensures ok { IfOk result (λ is_whole. (entries : List Entry) × (rest : List ℕ) × Reads lines.now (entry_lines entries) rest × (string_bytes self.new.script ≡ string_bytes self.old.script ++ commands_text entries) × (string_bytes self.new.replies ≡ string_bytes self.old.replies ++ replies_text entries) × (self.new.commands ≡ min (length entries) (2 ^ 64 - 1)) × (is_whole ≡ true → rest ≡ [])) }

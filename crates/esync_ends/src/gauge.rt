@@ -1,25 +1,26 @@
-//! How far a trial of ends has come, for somebody who waits at a terminal.
+//! A gauge of a trial of ends, for a reader at a terminal.
 use crate::Progress;
 use std::io::Write;
 use std::time::{Clock, Duration};
 
-// When it is said first, and how long each is left to stand, in milliseconds.
+// The time of the first line and the time between two lines, in milliseconds.
 const FIRST: u64 = 1000;
 
 const NEXT: u64 = 200;
 
-/// Says how far a trial has come, once it takes longer than a second, in one line of a terminal, and wipes the line in the end.
+/// A gauge: it tells in one line of a terminal how far a trial has come, once it takes longer than a second, and wipes
+/// the line at the end.
 #[derive(Drop)]
 pub struct Gauge<C: Clock + Drop, E: Write + Drop> {
     clock: C,
     errors: E,
-    // From when it is said again, where the errors are a terminal.
+    // The time of the next line, if the errors are a terminal.
     next: Option<Duration>,
     is_said: bool,
 }
 
 impl<C: Clock + Drop, E: Write + Drop> Gauge<C, E> {
-    /// Nothing is said where the errors are no terminal, or no time can be told.
+    /// Returns a gauge. It writes nothing if the errors are no terminal, or no time can be told.
     pub fn new(clock: C, errors: E, is_terminal: bool) -> Self {
         let next = if is_terminal {
             later(&clock, FIRST)
@@ -60,7 +61,7 @@ impl<C: Clock + Drop, E: Write + Drop> Progress for Gauge<C, E> {
     }
 }
 
-// The time after so many milliseconds, if there is one.
+// Returns the time after so many milliseconds, if there is one.
 fn later<C: Clock>(clock: &C, milliseconds: u64) -> Option<Duration> {
     let now = clock.monotonic().ok()?;
     now.checked_add(Duration::from_millis(milliseconds))

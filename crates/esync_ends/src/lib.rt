@@ -1,4 +1,4 @@
-//! Ends at every point: whether a script that drops a request sooner still tells everybody whose turn comes.
+//! Sooner ends: whether a script that drops a request at any earlier point still wakes every task whose turn comes.
 #![tactic(auto)]
 
 use crate::played::Played;
@@ -22,13 +22,14 @@ pub mod gauge;
 mod played;
 mod standing;
 
-/// How the wakers that are handed out reach their tasks.
+/// The way in which wakers that are handed out reach their tasks.
 pub trait Delivery: Drop {
-    /// The task of this waker hears of a step that hands out these, in a row that may have empty places behind them.
+    /// Returns whether the task of this waker hears of a step that hands out these wakers, in a row that may have empty
+    /// places behind them.
     fn arrives(&self, waker: u64, wakers: &[Option<u64>]) -> bool;
 }
 
-/// Each task hears of its waker.
+/// A delivery by which each task hears of its waker.
 #[derive(Drop)]
 pub struct Reaches {}
 
@@ -38,16 +39,16 @@ impl Delivery for Reaches {
     }
 }
 
-/// Hears how far a trial has come.
+/// A listener to the progress of a trial.
 pub trait Progress: Drop {
-    /// The ends after this line, of so many lines, were tried, and so many ends in all.
+    /// Hears that the ends after this line, of so many lines, were tried, and how many ends in all.
     fn hear(&mut self, line: u64, lines: u64, ends: u64);
 
-    /// The trial is over.
+    /// Hears that the trial is over.
     fn end(&mut self);
 }
 
-/// Nobody hears.
+/// A listener that does nothing.
 #[derive(Drop)]
 pub struct Unheard {}
 
@@ -57,16 +58,17 @@ impl Progress for Unheard {
     fn end(&mut self) {}
 }
 
-/// Tries what would be if one of the requests of a script was ended sooner, each request after each line: whether each request that
-/// waits then was told.
+/// Tries what would happen if one of the requests of a script was ended sooner, each request after each line: whether
+/// each request that then waits was told.
 ///
-/// The lines behind such an end are played too. Then each request that waits is polled with its last waker, on a copy of the
-/// machine. One that is answered Ready has to have been told: its waker reached its task in its last poll or since. Where it
-/// didn't, one line says so, as `after line 3, end 1: request 2 is Ready and was not told`. The last line says how many ends and
-/// polls were tried. One that is answered `NoSuch` doesn't count: a subscriber that leaves ends its requests.
+/// The lines behind such an end are played too. Then each request that waits is polled with its last waker, on a copy
+/// of the machine. A request that is answered Ready must have been told: its waker reached its task in its last poll or
+/// since. If it didn't, one line says so, as `after line 3, end 1: request 2 is Ready and was not told`. The last line
+/// says how many ends and polls were tried. A request that is answered `NoSuch` doesn't count: a subscriber that leaves
+/// ends its requests.
 ///
-/// It tries at most `limit` ends, those after the first lines. Where there are more, the last line says so. Each end plays the
-/// lines behind it, so the time grows as the square of the number of lines.
+/// It tries at most `limit` ends, those after the first lines. If there are more, the last line says so. Each end plays
+/// the lines behind it, so the time grows as the square of the number of lines.
 pub fn try_ends<D: Delivery, P: Progress, W: Write>(
     alloc: Global,
     delivery: D,
@@ -89,26 +91,26 @@ pub fn try_ends<D: Delivery, P: Progress, W: Write>(
     Ok(trial.tried.untold == 0)
 }
 
-// What was tried.
+// The counts of a trial.
 #[derive(Clone, Copy, Debug, Default)]
 struct Tried {
-    // How many ends.
+    // How many ends were tried.
     ends: u64,
-    // How many polls of requests that wait, behind the ends.
+    // How many polls of requests that wait were tried, behind the ends.
     polls: u64,
-    // How many of them were Ready, of a request that wasn't told.
+    // How many polls were Ready though the request wasn't told.
     untold: u64,
-    // There are more ends.
+    // Whether there are more ends than the limit.
     is_cut: bool,
 }
 
-// Goes through a script, and tries the sooner ends of its requests.
+// A trial: it goes through a script, and tries the sooner ends of its requests.
 #[derive(Drop)]
 struct Trial<D: Delivery, P: Progress> {
     alloc: Global,
     delivery: D,
     progress: P,
-    // How many ends are tried at most.
+    // The greatest number of ends that are tried.
     limit: u64,
     tried: Tried,
 }
@@ -145,7 +147,7 @@ impl<D: Delivery, P: Progress, R: ByteSource, W: Write> Player<R, W> for Trial<D
     }
 }
 
-// The commands of all lines that are left.
+// Returns the commands of all lines that are left.
 fn read_commands<V, R, W>(
     alloc: Global,
     lines: &mut Lines<R>,
@@ -206,7 +208,7 @@ impl<D: Delivery, P: Progress> Trial<D, P> {
         Ok(())
     }
 
-    // Ends each request that is there after this line, with the others behind it.
+    // Ends each request that is there after this line, and plays the lines behind it.
     fn try_line<Q, C, A, M, W>(
         &mut self,
         machine: &Played<Q, C, A, M>,

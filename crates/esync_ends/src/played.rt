@@ -1,4 +1,4 @@
-//! A machine that was given some lines of a script, and where its requests stand.
+//! A machine that was given some lines of a script, and the states of its requests.
 use crate::Delivery;
 use crate::standing::{Standing, Standings};
 use esync_machine::primitive::{Answer, Command};
@@ -8,7 +8,7 @@ use esync_words::play::Parts;
 use std::alloc::AllocError;
 use std::marker::PhantomData;
 
-/// A machine of commands `Command<Q, u64, C>`, whose replies tell `A`.
+/// A machine of commands `Command<Q, u64, C>`, whose replies tell `A`, and the states of its requests.
 #[derive(Drop)]
 pub struct Played<Q, C, A, M: Drop> {
     machine: M,
@@ -23,7 +23,7 @@ where
     M: Machine<Command = Command<Q, u64, C>, Waker = u64> + Copied + Drop,
     M::Reply: Parts<A> + Drop,
 {
-    // A machine that was given none.
+    // Returns the machine, given no line yet.
     pub fn new(machine: M) -> Self {
         Played {
             machine,
@@ -32,26 +32,26 @@ where
         }
     }
 
-    // Where the request stands.
+    // Returns the state of the request.
     pub fn standing(&self, request: usize) -> Standing {
         self.standings.of(request)
     }
 
-    // Gives it one more command.
+    // Gives the machine one more command.
     pub fn step<D: Delivery>(&mut self, delivery: &D, command: &Command<Q, u64, C>) {
         let reply = self.machine.step(*command);
         self.standings
             .hear(delivery, command, reply.answer(), reply.wakers());
     }
 
-    // Gives it these commands, one after another.
+    // Gives the machine these commands, one after another.
     pub fn go_on<D: Delivery>(&mut self, delivery: &D, commands: &[Command<Q, u64, C>]) {
         for command in commands {
             self.step(delivery, command);
         }
     }
 
-    // A copy in which the request was ended, if there is one.
+    // Returns a copy in which the request was ended, if there is such a request.
     pub fn with_end<D: Delivery>(
         &self,
         delivery: &D,
@@ -72,7 +72,7 @@ where
         }))
     }
 
-    // Whether the request, polled now, is answered Ready, if it is there.
+    // Returns whether a poll of the request now is answered Ready, or `None` if there is no such request.
     pub fn is_ready(&self, request: usize, waker: u64) -> Result<Option<bool>, AllocError> {
         let mut machine = self.machine.copied()?;
         let reply = machine.step(Command::Poll(request, waker));

@@ -1,21 +1,22 @@
-//! Where the requests of a script stand.
+//! The states of a script's requests.
 use crate::Delivery;
 use esync_machine::primitive::{Answer, Command};
 use esync_words::vocabulary::REQS;
 
-// Where a request stands.
+// The state of a request.
 #[derive(Clone, Copy, Debug, PartialEq, Eq)]
 pub enum Standing {
-    // It isn't started, or is over.
+    // The request isn't started, or is over.
     Free,
-    // It is started, and its last poll, if there was one, was not answered Pending.
+    // The request is started, and its last poll, if there was one, wasn't answered Pending.
     Started,
-    // Its last poll was answered Pending. Its waker was handed out in that poll or since, or it wasn't.
+    // The request's last poll was answered Pending. `is_told` says whether its waker was handed out in that poll or
+    // since.
     Waits { waker: u64, is_told: bool },
 }
 
 impl Standing {
-    // Hears which wakers were handed out.
+    // Notes the wakers that were handed out.
     fn hear<D: Delivery>(&mut self, delivery: &D, wakers: &[Option<u64>]) {
         if let Standing::Waits { waker, is_told } = self {
             *is_told |= delivery.arrives(*waker, wakers);
@@ -23,26 +24,26 @@ impl Standing {
     }
 }
 
-// Where the request of each number stands.
+// The state of the request of each number.
 #[derive(Clone, Copy)]
 pub struct Standings {
     places: [Standing; REQS],
 }
 
 impl Standings {
-    // No request was started.
+    // Returns the states before any request was started.
     pub fn new() -> Self {
         Standings {
             places: [Standing::Free; REQS],
         }
     }
 
-    // Where the request stands.
+    // Returns the state of the request.
     pub fn of(&self, request: usize) -> Standing {
         self.places.get(request).copied().unwrap_or(Standing::Free)
     }
 
-    // Where they stand after one more command, which got this answer and handed out these wakers.
+    // Notes one more command, with its answer and the wakers that it handed out.
     pub fn hear<Q, C, A, D: Delivery>(
         &mut self,
         delivery: &D,

@@ -1,4 +1,4 @@
-//! The channel and the priority channel, by their own calls and by their handles.
+//! The channel and the priority channel: called by their own calls and by their handles.
 use crate::form::{Door, Doors, Form, Sizes, over, sizes};
 use esync_base::store::Store;
 use esync_base::waitqueue::{Context, Hand, Poll};
@@ -8,7 +8,7 @@ use esync_channel::channel::{
 };
 use esync_machine::primitive::{Answer, Turn};
 
-/// A channel, whose calls are made by each of its ways in turn: its own and its handles.
+/// A channel whose calls are made in each way in turn: by its own calls and by its handles.
 #[derive(Drop)]
 pub struct Channel<'c, S, H> {
     channel: &'c SharedMailbox<S, u64, H>,
@@ -17,7 +17,7 @@ pub struct Channel<'c, S, H> {
     doors: Doors,
 }
 
-/// A future, or what is polled by calls that take a context.
+/// A future, or a request that is polled by calls that take a context.
 #[derive(Drop)]
 pub enum Held<'c, S: Store, H: Hand<u64>> {
     Send(SendFuture<'c, SharedMailbox<S, u64, H>>),
@@ -86,7 +86,7 @@ impl<'c, S: Store<Message = u32>, H: Hand<u64>> Form for Channel<'c, S, H> {
 }
 
 impl<'c, S: Store<Message = u32>, H: Hand<u64>> Channel<'c, S, H> {
-    /// This channel, which is called by these ways.
+    /// Returns this channel, called in these ways.
     pub fn new(channel: &'c SharedMailbox<S, u64, H>, doors: Doors) -> Self {
         Channel {
             channel,
@@ -201,7 +201,7 @@ fn receive<'c, S: Store<Message = u32>, H: Hand<u64>>(
     is_received(polled, Held::Receive(future))
 }
 
-// What a poll leaves of a request for a message.
+// Returns what a poll leaves of a request for a message.
 fn is_received<H: Drop>(polled: Poll<u32>, held: H) -> Turn<ChannelHeard<u32>, H> {
     match polled {
         Poll::Ready(message) => Turn::over(ChannelHeard::Received(message)),
@@ -209,7 +209,7 @@ fn is_received<H: Drop>(polled: Poll<u32>, held: H) -> Turn<ChannelHeard<u32>, H
     }
 }
 
-// What a poll leaves of a request that tells nothing but that it is over.
+// Returns what a poll leaves of a request that gives nothing.
 fn is_ready<H: Drop>(polled: Poll<()>, held: H) -> Turn<ChannelHeard<u32>, H> {
     match polled {
         Poll::Ready(()) => Turn::over(ChannelHeard::Ready),

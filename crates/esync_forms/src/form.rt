@@ -1,60 +1,60 @@
-//! What commands do to a shared form, and the table of what stands at the numbers of its requests.
+//! The commands of a shared form, and the table of the holders of its numbers.
 use esync_base::waitqueue::Context;
 use esync_machine::primitive::{Answer, Command, Turn};
 use std::alloc::{AllocError, Global};
 use std::fmt::{self, Display, Formatter};
 
-/// How many numbers there are for requests, and for whoever has a number besides.
+/// The number of numbers: of requests, and of receivers, subscribers or publishers.
 pub const NUMBERS: usize = 16;
 
-/// A shared form with its handles: what a command does to it is what its user would write.
+/// A shared form with its handles. What a command does to it is what its user would write.
 pub trait Form: Drop {
-    /// What a request asks for.
+    /// The ask of a request.
     type Ask: Drop;
 
     type Call: Drop;
 
-    /// What is answered.
+    /// The answer of a poll or a call.
     type Heard: Drop;
 
-    /// A future, or what it left at its number: a releaser, or a guard.
+    /// The holder of a number: a future, or the releaser or the guard that it left.
     type Held: Drop;
 
-    /// A future for this, if whom it names is there.
+    /// Returns a future for the ask, if the receiver, the subscriber or the publisher that it names is there.
     fn begin(&mut self, ask: Self::Ask) -> Option<Self::Held>;
 
-    /// Polls what stands at a number.
+    /// Polls the holder of a number.
     fn poll(&mut self, held: Self::Held, cx: &Context<u64>) -> Turn<Self::Heard, Self::Held>;
 
-    /// Makes a call, which is lent the place of the number that it concerns.
+    /// Makes a call. It is lent the place of the number that it concerns.
     fn call(&mut self, call: Self::Call, place: &mut Option<Self::Held>) -> Answer<Self::Heard>;
 
-    /// The number that the call concerns, if it does one.
+    /// Returns the number that the call concerns, if it concerns one.
     fn number(_call: &Self::Call) -> Option<usize> {
         None
     }
 
-    /// The call ends what stands at a number.
+    /// Returns whether the call ends the holder of a number.
     fn leaves(&self, _call: &Self::Call, _held: &Self::Held) -> bool {
         false
     }
 }
 
-/// What stands at the numbers.
+/// The table of the holders of the numbers.
 #[derive(Drop)]
 pub struct Places<H> {
     places: Vec<Option<H>>,
 }
 
 impl<H: Drop> Places<H> {
-    /// All numbers are free.
+    /// Returns a table in which all numbers are free.
     pub fn new(alloc: Global) -> Result<Self, AllocError> {
         let places = nobody(alloc)?;
         Ok(Places { places })
     }
 }
 
-/// A table of whoever is known by a number, in which all numbers are free.
+/// Returns a table of receivers, subscribers or publishers, in which all numbers are free.
 pub fn nobody<T: Drop>(alloc: Global) -> Result<Vec<Option<T>>, AllocError> {
     let mut places = Vec::with_capacity(alloc, NUMBERS)?;
     for _ in 0..NUMBERS {
@@ -63,7 +63,7 @@ pub fn nobody<T: Drop>(alloc: Global) -> Result<Vec<Option<T>>, AllocError> {
     Ok(places)
 }
 
-/// Does what the command says to the shared form.
+/// Gives the command to the shared form, and returns its answer.
 pub fn turn<F: Form>(
     form: &mut F,
     places: &mut Places<F::Held>,
@@ -137,7 +137,7 @@ fn make<F: Form>(form: &mut F, places: &mut Places<F::Held>, call: F::Call) -> A
     }
 }
 
-// Frees the number where the call ends what stands there.
+// Frees the number if the call ends its holder.
 fn sweep<F: Form>(form: &F, place: &mut Option<F::Held>, call: &F::Call) {
     if let Some(held) = place.take() {
         if !form.leaves(call, &held) {
@@ -146,14 +146,14 @@ fn sweep<F: Form>(form: &F, place: &mut Option<F::Held>, call: &F::Call) {
     }
 }
 
-/// By what a shared form is called.
+/// A way in which a shared form is called.
 #[derive(Clone, Copy)]
 pub enum Door {
-    /// Its own calls.
+    /// By its own calls.
     Own,
-    /// Its handles.
+    /// By its handles.
     Handle,
-    /// Handles whose type doesn't say what they are of.
+    /// By handles whose type doesn't name the form.
     Dynamic,
 }
 
@@ -167,7 +167,7 @@ impl Display for Door {
     }
 }
 
-/// The ways to a shared form, one after another.
+/// The ways of calling a shared form, one after another.
 #[derive(Clone, Copy)]
 pub struct Doors {
     next: Door,
@@ -175,7 +175,7 @@ pub struct Doors {
 }
 
 impl Doors {
-    /// This one first.
+    /// Returns the ways, beginning with this one.
     pub fn from(first: Door) -> Self {
         Doors {
             next: first,
@@ -183,13 +183,14 @@ impl Doors {
         }
     }
 
-    /// Whether the next request is a future, in turn with one that is polled by calls that take a context.
+    /// Returns whether the next request is a future. Every second one is; the rest is polled by calls that take a
+    /// context.
     pub fn is_future(&mut self) -> bool {
         self.by_future = !self.by_future;
         self.by_future
     }
 
-    /// The next one.
+    /// Returns the next way.
     pub fn next(&mut self) -> Door {
         let door = self.next;
         self.next = match door {
@@ -201,7 +202,7 @@ impl Doors {
     }
 }
 
-/// What a poll leaves of a future that was ready before.
+/// Returns what a poll leaves of a future that was ready before.
 pub fn over<A, H>() -> Turn<A, H> {
     Turn {
         answer: Answer::NoSuch,
@@ -209,7 +210,7 @@ pub fn over<A, H>() -> Turn<A, H> {
     }
 }
 
-/// What a shared form tells of its sizes.
+/// The sizes that a shared form tells.
 #[derive(Clone, Copy)]
 pub struct Sizes {
     pub capacity: usize,
@@ -220,7 +221,8 @@ pub struct Sizes {
 }
 
 impl Sizes {
-    /// What was asked for, where what is told goes together. No machine answers as it is answered otherwise.
+    /// Returns the size that was asked for, if all sizes agree. Otherwise returns NoSuch, which no machine answers to
+    /// such a call.
     pub fn checked<A: Drop>(&self, heard: A) -> Answer<A> {
         let adds_up = self.len.checked_add(self.free) == Some(self.capacity);
         if adds_up && self.is_empty == (self.len == 0) && self.is_full == (self.free == 0) {
@@ -231,7 +233,7 @@ impl Sizes {
     }
 }
 
-/// What is told by something that has the five calls of sizes.
+/// The sizes of a form that has the five calls of sizes.
 macro_rules! sizes {
     ($form:expr) => {
         $crate::form::Sizes {

@@ -1,4 +1,5 @@
-//! The shared forms with their handles, as commands call them: what a command does to one is what its user would write.
+//! The shared forms with their handles, as commands call them. What a command does to a form is what its user would
+//! write.
 #![tactic(auto)]
 
 pub mod channel;

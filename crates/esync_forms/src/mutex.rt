@@ -1,11 +1,11 @@
-//! The mutex, its guards, and its guards that are narrowed to the second of two values.
+//! The mutex with its guards, also those that are narrowed to the second of two values.
 use crate::form::Form;
 use esync_base::waitqueue::{Context, Hand, Poll};
 use esync_guards::mutex::machine::{Lock, MutexCall, MutexHeard};
 use esync_guards::mutex::{LockFuture, MappedMutexGuard, Mutex, MutexGuard, Second, TryLockError};
 use esync_machine::primitive::{Answer, Turn};
 
-/// What it guards.
+/// The value of the mutex.
 pub type Pair = (u32, u32);
 
 type Heard = MutexHeard<Pair, u32>;
@@ -71,12 +71,12 @@ impl<'m, H: Hand<u64>> Form for Guarded<'m, H> {
 }
 
 impl<'m, H: Hand<u64>> Guarded<'m, H> {
-    /// This mutex.
+    /// Returns this mutex as a form.
     pub fn new(mutex: &'m Mutex<Pair, u64, H>) -> Self {
         Guarded { mutex }
     }
 
-    // Locks for a free number.
+    // Locks the mutex for a free number.
     fn try_lock_at(&self, place: &mut Option<Held<'m, H>>) -> Answer<Heard> {
         if place.is_some() {
             return Answer::NoSuch;
@@ -99,7 +99,7 @@ fn lock<'m, H: Hand<u64>>(
     is_locked(polled, Held::Lock(future))
 }
 
-// What a poll leaves of a request for the lock.
+// Returns what a poll leaves of a request for the lock.
 fn is_locked<'m, H: Hand<u64>>(
     polled: Poll<MutexGuard<'m, Pair, u64, H>>,
     held: Held<'m, H>,
@@ -113,7 +113,7 @@ fn is_locked<'m, H: Hand<u64>>(
     }
 }
 
-// A poll of what is no request.
+// Answers a poll of a holder that is no request.
 fn is_no_request<'m, H: Hand<u64>>(held: Held<'m, H>) -> Turn<Heard, Held<'m, H>> {
     Turn {
         answer: Answer::NoSuch,
@@ -121,7 +121,7 @@ fn is_no_request<'m, H: Hand<u64>>(held: Held<'m, H>) -> Turn<Heard, Held<'m, H>
     }
 }
 
-// What a guard reads.
+// Reads through a guard.
 fn read_at<H: Hand<u64>>(place: &Option<Held<'_, H>>) -> Answer<Heard> {
     match place {
         Some(Held::Guard(guard)) => Answer::Gives(MutexHeard::Value(*guard.get())),
@@ -158,7 +158,7 @@ fn map_at<H: Hand<u64>>(place: &mut Option<Held<'_, H>>) -> Answer<Heard> {
     answer
 }
 
-// What the narrowing leaves, and what it answers.
+// Narrows a guard, and returns the answer and the mapped guard.
 fn mapped<'m, H: Hand<u64>>(held: Held<'m, H>) -> (Answer<Heard>, Held<'m, H>) {
     match held {
         Held::Guard(guard) => (Answer::Done, Held::Mapped(guard.map(Second {}))),

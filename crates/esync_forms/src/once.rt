@@ -6,7 +6,8 @@ use esync_cells::once_lock::machine::{Get, OnceCall, OnceHeard};
 use esync_machine::primitive::{Answer, Turn};
 use std::mem;
 
-/// A value that is set once. Who waits for it borrows nothing between two polls, since a value is taken from the lock itself.
+/// A value that is set once. A request for it borrows nothing between two polls, since a call takes the value from the
+/// lock itself.
 #[derive(Drop)]
 pub struct Once<H> {
     lock: OnceLock<u32, u64, H>,
@@ -46,7 +47,7 @@ impl<H: Hand<u64> + Copy> Form for Once<H> {
 }
 
 impl<H: Hand<u64> + Copy> Once<H> {
-    /// No value, with this hand, and called by these ways.
+    /// Returns a lock without a value, with this hand, called in these ways.
     pub fn new(hand: H, doors: Doors) -> Self {
         Once {
             lock: OnceLock::new(hand),
@@ -63,7 +64,7 @@ impl<H: Hand<u64> + Copy> Once<H> {
         }
     }
 
-    // A get acts anew after it was ready.
+    // Gets the value once more: a future acts anew after it was ready.
     fn get_again(&self, cx: &Context<u64>) -> Poll<u32> {
         let mut get = self.lock.get();
         match get.poll(cx) {
@@ -72,7 +73,7 @@ impl<H: Hand<u64> + Copy> Once<H> {
         }
     }
 
-    // A lock that was taken apart leaves another one without a value.
+    // Takes the value. A lock that was taken apart leaves a lock without a value.
     fn take(&mut self) -> Option<u32> {
         match self.doors.next() {
             Door::Own | Door::Handle => self.lock.take(),
@@ -81,7 +82,7 @@ impl<H: Hand<u64> + Copy> Once<H> {
     }
 }
 
-// The value that is shown.
+// Returns a copy of the value that a poll lends.
 fn copied(polled: Poll<&u32>) -> Poll<u32> {
     match polled {
         Poll::Ready(value) => Poll::Ready(*value),

@@ -1,4 +1,5 @@
-//! The pipe: by its own calls and by ends that are made anew for each call, or by futures that last and the ends of any pipe.
+//! The pipe: called by its own calls and by ends that are made anew for each call, or by futures that last and the ends
+//! of any pipe.
 ghost use Rattle.std.specs.Prelude.{◌≡◌, ◌≤◌, IfOk, OnErr, length};
 
 use crate::form::{Door, Doors, Form, over, sizes};
@@ -13,7 +14,7 @@ use esync_pipe::pipe::{
     TryWriteError, WriteAllFuture, WriteFuture,
 };
 
-// A row for the bytes of an answer.
+// The row for the bytes of an answer.
 type Row = [u8; 16];
 
 // The bytes of a command or of an answer.
@@ -83,7 +84,7 @@ impl<R: ByteStore, H: Hand<u64> + Drop> Form for Split<R, H> {
 }
 
 impl<R: ByteStore, H: Hand<u64> + Drop> Split<R, H> {
-    /// This pipe, which is called by these ways.
+    /// Returns this pipe, called in these ways.
     pub fn new(pipe: SharedPipe<R, u64, H>, doors: Doors) -> Self {
         Split { pipe, doors }
     }
@@ -106,7 +107,7 @@ impl<R: ByteStore, H: Hand<u64> + Drop> Split<R, H> {
         }
     }
 
-    // Writes some bytes after others, until all are written or one has to wait.
+    // Writes some bytes after others, until all are written or a write must wait.
     fn write_all(&mut self, bytes: Few, cx: &Context<u64>) -> Turn<PipeHeard<Few>, PipeAsk<Few>> {
         let mut bytes = bytes;
         for _ in 0..Few::CAPACITY {
@@ -191,14 +192,14 @@ impl<R: ByteStore, H: Hand<u64> + Drop> Split<R, H> {
     }
 }
 
-/// A pipe of tasks, as the ends of any pipe take it.
+/// A pipe of tasks, in the form that the ends of any pipe take.
 #[derive_where(Clone, Copy)]
 pub struct Lent<'c, R: ByteStore, H> {
     pipe: &'c SharedPipe<R, TaskId, H>,
 }
 
 impl<'c, R: ByteStore, H: Hand<TaskId>> Lent<'c, R, H> {
-    /// This pipe.
+    /// Returns this pipe in that form.
     pub fn new(pipe: &'c SharedPipe<R, TaskId, H>) -> Self {
         Lent { pipe }
     }
@@ -235,7 +236,8 @@ impl<R: ByteStore, H: Hand<TaskId>> DynamicPipe for Lent<'_, R, H> {
     }
 }
 
-/// A pipe whose futures that write stand at their numbers from poll to poll, and whose bytes are read by an end of any pipe.
+/// A pipe whose writing futures stay at their numbers from poll to poll, and whose bytes are read by an end of any
+/// pipe.
 #[derive(Drop)]
 pub struct Lasting<'c, R: ByteStore, H> {
     pipe: &'c SharedPipe<R, TaskId, H>,
@@ -246,7 +248,7 @@ pub struct Lasting<'c, R: ByteStore, H> {
     doors: Doors,
 }
 
-/// A future that writes, or what is read by a future that is made anew for each poll.
+/// A future that writes, or the ask of a read, whose future is made anew for each poll.
 #[derive(Drop)]
 pub enum Held<'c, R: ByteStore, H> {
     Write(WriteFuture<'c, R, TaskId, H>),
@@ -320,7 +322,8 @@ impl<'c, R: ByteStore, H: Hand<TaskId>> Form for Lasting<'c, R, H> {
 }
 
 impl<'c, R: ByteStore, H: Hand<TaskId>> Lasting<'c, R, H> {
-    /// This pipe with these ends of it, which is called by these ways. The bytes that are to be written are kept here.
+    /// Returns this pipe with these ends of it, called in these ways. Bytes that are to be written are stored in
+    /// `written`.
     pub fn new(
         pipe: &'c SharedPipe<R, TaskId, H>,
         written: &'c Bump,
@@ -392,7 +395,8 @@ impl<'c, R: ByteStore, H: Hand<TaskId>> Lasting<'c, R, H> {
         }
     }
 
-    // What was filled before may be gone since, by a call of the pipe's own, and a fill that finds nothing leaves it.
+    // Fills the buffer again, and consumes. The bytes that a fill showed earlier may be gone since, by a call of the
+    // pipe's own; a fill that finds no byte leaves the pipe as it is.
     fn consume(&mut self, count: usize) -> Answer<PipeHeard<Few>> {
         let is_empty = self.reader.try_fill_buf().is_err();
         if is_empty && count > 0 {
@@ -433,7 +437,7 @@ fn write_all<'c, R: ByteStore, H: Hand<TaskId>>(
     are_all_written(polled, Held::WriteAll(future))
 }
 
-// What a poll leaves of a request that writes some bytes.
+// Returns what a poll leaves of a request that writes some bytes.
 fn is_written<H: Drop>(polled: Poll<usize>, held: H) -> Turn<PipeHeard<Few>, H> {
     match polled {
         Poll::Ready(count) => Turn::over(PipeHeard::Wrote(count)),
@@ -441,7 +445,7 @@ fn is_written<H: Drop>(polled: Poll<usize>, held: H) -> Turn<PipeHeard<Few>, H> 
     }
 }
 
-// What a poll leaves of a request that writes all of its bytes.
+// Returns what a poll leaves of a request that writes all of its bytes.
 fn are_all_written<H: Drop>(polled: Poll<()>, held: H) -> Turn<PipeHeard<Few>, H> {
     match polled {
         Poll::Ready(()) => Turn::over(PipeHeard::WroteAll),
@@ -449,7 +453,7 @@ fn are_all_written<H: Drop>(polled: Poll<()>, held: H) -> Turn<PipeHeard<Few>, H
     }
 }
 
-// What a poll leaves of a request that reads bytes to the front of a row.
+// Returns what a poll leaves of a request that reads bytes to the front of a row.
 fn is_read<H: Drop>(polled: Poll<usize>, row: &Row, held: H) -> Turn<PipeHeard<Few>, H> {
     match polled {
         Poll::Ready(count) => Turn::over(PipeHeard::HasRead(front(row, count))),
@@ -457,7 +461,7 @@ fn is_read<H: Drop>(polled: Poll<usize>, row: &Row, held: H) -> Turn<PipeHeard<F
     }
 }
 
-// What a poll leaves of a request for bytes that stay.
+// Returns what a poll leaves of a request for bytes that stay in the pipe.
 fn is_filled<H: Drop>(polled: Poll<Few>, held: H) -> Turn<PipeHeard<Few>, H> {
     match polled {
         Poll::Ready(bytes) => Turn::over(PipeHeard::Filled(bytes)),
@@ -465,7 +469,7 @@ fn is_filled<H: Drop>(polled: Poll<Few>, held: H) -> Turn<PipeHeard<Few>, H> {
     }
 }
 
-// What is answered of a read to the front of a row.
+// Returns the answer of a read to the front of a row.
 fn is_tried(tried: Result<usize, TryReadError>, row: &Row) -> Answer<PipeHeard<Few>> {
     Answer::Gives(PipeHeard::HasTriedRead(match tried {
         Ok(count) => Ok(front(row, count)),
@@ -473,23 +477,23 @@ fn is_tried(tried: Result<usize, TryReadError>, row: &Row) -> Answer<PipeHeard<F
     }))
 }
 
-// So many places of a row, or all.
+// Lends the first `count` places of a row, or all of them.
 fn places(row: &mut Row, count: usize) -> &mut [u8] {
     &mut row[..count.min(16)]
 }
 
-// The bytes in so many places of a row.
+// Returns the bytes in the first `count` places of a row.
 fn front(row: &Row, count: usize) -> Few {
     Bytes::from_slice(&row[..count.min(16)])
 }
 
-// The bytes behind the first ones.
+// Returns the bytes behind the first `count` ones.
 fn behind(bytes: Few, count: usize) -> Few {
     let from = bytes.as_slice();
     Bytes::from_slice(&from[count.min(from.len())..])
 }
 
-// The bytes, where they outlive what is to write them.
+// Returns a copy of the bytes that outlives the future that writes them.
 fn kept(written: &Bump, bytes: Few) -> Option<&[u8]> {
     match written.try_alloc_slice_copy(bytes.as_slice()) {
         Ok(kept) => Some(kept),
@@ -497,7 +501,7 @@ fn kept(written: &Bump, bytes: Few) -> Option<&[u8]> {
     }
 }
 
-// How many bytes are held.
+// Returns the number of bytes in the pipe.
 fn len<R: ByteStore, W: Copy + Eq, H: Hand<W>>(
     pipe: &SharedPipe<R, W, H>,
 ) -> Answer<PipeHeard<Few>> {
@@ -505,14 +509,14 @@ fn len<R: ByteStore, W: Copy + Eq, H: Hand<W>>(
     sizes.checked(PipeHeard::Number(sizes.len))
 }
 
-/// Gives the wakers of tasks to the hand of all shared forms.
+/// A hand that gives the wakers of tasks to the hand of all shared forms.
 #[derive(Drop)]
 pub struct Tasks<H> {
     hand: H,
 }
 
 impl<H: Hand<u64>> Tasks<H> {
-    /// With this hand.
+    /// Returns a hand over this one.
     pub fn new(hand: H) -> Self {
         Tasks { hand }
     }

@@ -1,4 +1,5 @@
-//! Publishers and subscribers, by the channel's own calls and by those of its handles. Whoever has a number stands in a table.
+//! Publishers and subscribers: called by the channel's own calls and by those of its handles. Those that have a number
+//! stand in a table.
 use crate::form::{Door, Doors, Form, Sizes, nobody, over, sizes};
 use esync_base::waitqueue::{Context, Hand, Poll, WakerList};
 use esync_machine::primitive::{Answer, Turn};
@@ -9,12 +10,12 @@ use esync_pubsub::pubsub::{
 };
 use std::alloc::{AllocError, Global};
 
-/// A pub-sub channel, however much it holds: who comes to it.
+/// A pub-sub channel of any capacity that subscribers and publishers join.
 pub trait Topic: PubSubBehavior<Message = u32, Waker = u64> {
-    /// A subscriber, if there is a place for it.
+    /// Adds a subscriber, if there is a place for it.
     fn join(&self, door: Door) -> Result<Sub<'_, Self>, Error>;
 
-    /// A publisher, if there is a place for it.
+    /// Adds a publisher, if there is a place for it.
     fn add(&self, door: Door) -> Result<Pub<'_, Self>, Error>;
 }
 
@@ -40,7 +41,7 @@ impl<
     }
 }
 
-/// A pub-sub channel, with who has a number.
+/// A pub-sub channel, with the subscribers and publishers that have numbers.
 #[derive(Drop)]
 pub struct PubSub<'c, B: Topic> {
     channel: &'c B,
@@ -51,7 +52,8 @@ pub struct PubSub<'c, B: Topic> {
     doors: Doors,
 }
 
-// What stands at a number is what is asked for: its future borrows whom it is asked of, and is made anew at each poll.
+// A number's holder is the ask of its request: the request's future borrows its subscriber or publisher, and so is made
+// anew at each poll.
 impl<'c, B: Topic> Form for PubSub<'c, B> {
     type Ask = PubSubAsk<u32>;
 
@@ -119,7 +121,7 @@ impl<'c, B: Topic> Form for PubSub<'c, B> {
     }
 }
 
-// The subscriber that asks.
+// Returns the number of the subscriber that asks.
 fn subscriber_of(ask: &PubSubAsk<u32>) -> Option<usize> {
     match ask {
         PubSubAsk::Publish(..) => None,
@@ -127,7 +129,7 @@ fn subscriber_of(ask: &PubSubAsk<u32>) -> Option<usize> {
     }
 }
 
-// The publisher that asks.
+// Returns the number of the publisher that asks.
 fn publisher_of(ask: &PubSubAsk<u32>) -> Option<usize> {
     match ask {
         PubSubAsk::Publish(p, _) => Some(*p),
@@ -135,7 +137,7 @@ fn publisher_of(ask: &PubSubAsk<u32>) -> Option<usize> {
     }
 }
 
-// Who stands there leaves, and the number is free.
+// Removes the subscriber or publisher at a place, and frees the number.
 fn ends<T: Drop>(place: Option<&mut Option<T>>) -> Answer<PubSubHeard<u32>> {
     let Some(place) = place else {
         return Answer::NoSuch;
@@ -147,7 +149,7 @@ fn ends<T: Drop>(place: Option<&mut Option<T>>) -> Answer<PubSubHeard<u32>> {
     Answer::Done
 }
 
-// The first who stands in a table.
+// Returns the first subscriber or publisher in a table.
 fn first<T>(places: &Vec<Option<T>>) -> Option<&T> {
     places.iter().find_map(|place| place.as_ref())
 }
@@ -338,7 +340,7 @@ impl<'c, B: Topic> PubSub<'c, B> {
     }
 }
 
-// What a poll for what the subscriber reads next leaves.
+// Returns what a poll for the subscriber's next message or lag leaves.
 fn message<B: Topic>(
     subscriber: &mut Sub<'_, B>,
     s: usize,
@@ -351,7 +353,7 @@ fn message<B: Topic>(
     }
 }
 
-// What a poll for the message that the subscriber reads next leaves.
+// Returns what a poll for the subscriber's next message leaves.
 fn message_pure<B: Topic>(
     subscriber: &mut Sub<'_, B>,
     s: usize,
@@ -364,7 +366,7 @@ fn message_pure<B: Topic>(
     }
 }
 
-// The request stays: there was no memory for a clone.
+// Keeps the request: there was no memory for a clone.
 fn refused(ask: PubSubAsk<u32>) -> Turn<PubSubHeard<u32>, PubSubAsk<u32>> {
     Turn {
         answer: Answer::NoMemory,
@@ -372,7 +374,7 @@ fn refused(ask: PubSubAsk<u32>) -> Turn<PubSubHeard<u32>, PubSubAsk<u32>> {
     }
 }
 
-// Publishes the message by a future, which is finished where it is ready.
+// Publishes the message by a future, which is finished once it is ready.
 fn publishes<B: Topic>(
     publisher: &Pub<'_, B>,
     message: u32,
@@ -406,11 +408,11 @@ impl<
     H: Hand<u64>,
     const K: usize,
 > PubSub<'c, SharedPubSub<G, S, P, H, K>> {
-    /// This channel, at which nobody is, called by these ways.
+    /// Returns this channel as a form without subscribers and publishers, called in these ways.
     ///
     /// # Errors
     ///
-    /// Where there is no memory.
+    /// Returns the error if there is no memory.
     pub fn new(
         alloc: Global,
         channel: &'c SharedPubSub<G, S, P, H, K>,

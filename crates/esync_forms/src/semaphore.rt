@@ -1,4 +1,4 @@
-//! The greedy and the fair semaphore, by their own calls, and as what implements `Semaphore`.
+//! The greedy and the fair semaphore: called by their own calls, and as an implementation of `Semaphore`.
 use crate::form::{Door, Doors, Form, over};
 use esync_base::waitqueue::{Context, Hand, Poll};
 use esync_machine::primitive::{Answer, Turn};
@@ -9,9 +9,9 @@ use esync_permits::semaphore::{
 use std::convert::Infallible;
 use std::marker::PhantomData;
 
-/// What a request for permits hears.
+/// The answer to a request for permits.
 pub trait Granted: Drop {
-    /// Why a request is refused.
+    /// The reason why a request is refused.
     type Error: Drop;
 
     fn granted(heard: Result<usize, Self::Error>) -> Self;
@@ -38,7 +38,7 @@ impl Granted for Result<usize, WaitQueueFull> {
 
 type Releaser<'s, S, H> = SemaphoreReleaser<&'s SharedSemaphore<S, u64, H>>;
 
-/// A semaphore, whose calls are made in turn by its own name and by that of the trait. A request hears a `G`.
+/// A semaphore whose calls are made in turn by its own name and by that of the trait. A request hears a `G`.
 #[derive(Drop)]
 pub struct Permits<'s, S, H, G> {
     semaphore: &'s SharedSemaphore<S, u64, H>,
@@ -114,7 +114,7 @@ where
     H: Hand<u64>,
     G: Granted<Error = S::Error>,
 {
-    /// This semaphore, which is called by these ways.
+    /// Returns this semaphore, called in these ways.
     pub fn new(semaphore: &'s SharedSemaphore<S, u64, H>, doors: Doors) -> Self {
         Permits {
             semaphore,
@@ -165,7 +165,7 @@ where
         }
     }
 
-    // Takes permits for a free number.
+    // Tries to take permits for a free number.
     fn try_at(
         &mut self,
         amount: Amount,
@@ -222,7 +222,7 @@ where
     is_granted::<G, Held<'s, S, H>>(polled, Held::Acquire(future))
 }
 
-// The answer to a poll, whose releaser is to stand at the number, with the number of its permits.
+// Returns the answer to a poll, with the number of permits and the releaser as the new holder of the number.
 fn held_by<'s, S: PermitState<Waker = u64>, H: Hand<u64>>(
     polled: Poll<Result<Releaser<'s, S, H>, S::Error>>,
 ) -> Poll<Result<(usize, Held<'s, S, H>), S::Error>> {
@@ -236,7 +236,7 @@ fn held_by<'s, S: PermitState<Waker = u64>, H: Hand<u64>>(
     }
 }
 
-// What a poll leaves of a request for permits.
+// Returns what a poll leaves of a request for permits.
 fn is_granted<G: Granted, P: Drop>(
     polled: Poll<Result<(usize, P), G::Error>>,
     held: P,

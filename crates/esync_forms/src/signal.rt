@@ -1,27 +1,28 @@
-//! The signal, by its own calls, by futures that are made for each wait, and by one that waits again and again.
+//! The signal: called by its own calls, by futures that are made for each wait, and by one future that waits again and
+//! again.
 use crate::form::{Door, Doors, Form};
 use esync_base::waitqueue::{Context, Hand, Poll};
 use esync_cells::signal::machine::{SignalCall, SignalHeard, Wait};
 use esync_cells::signal::{Signal, SignalWait};
 use esync_machine::primitive::{Answer, Turn};
 
-/// A signal, whose waits go each of its ways in turn.
+/// A signal whose waits are polled in each way in turn.
 #[derive(Drop)]
 pub struct Signaling<'s, H> {
     signal: &'s Signal<u32, u64, H>,
-    // A future acts anew after it was ready.
+    // Polls once more: a future acts anew after it was ready.
     again: SignalWait<'s, u32, u64, H>,
     doors: Doors,
 }
 
-/// By which way a wait is polled.
+/// The way in which a wait is polled.
 #[derive(Drop)]
 pub enum Held<'s, H> {
-    /// The signal itself is polled.
+    /// By the signal itself.
     Own,
-    /// A future of its own is polled.
+    /// By a future of its own.
     Future(SignalWait<'s, u32, u64, H>),
-    /// The future that waits again and again is polled.
+    /// By the future that waits again and again.
     Again,
 }
 
@@ -71,7 +72,7 @@ impl<'s, H: Hand<u64>> Form for Signaling<'s, H> {
 }
 
 impl<'s, H: Hand<u64>> Signaling<'s, H> {
-    /// This signal, which is called by these ways.
+    /// Returns this signal, called in these ways.
     pub fn new(signal: &'s Signal<u32, u64, H>, doors: Doors) -> Self {
         Signaling {
             signal,
@@ -89,7 +90,7 @@ fn wait<'s, H: Hand<u64>>(
     has_waited(polled, Held::Future(future))
 }
 
-// What a poll leaves of a wait for the value.
+// Returns what a poll leaves of a wait for the value.
 fn has_waited<H: Drop>(polled: Poll<u32>, held: H) -> Turn<SignalHeard<u32>, H> {
     match polled {
         Poll::Ready(value) => Turn::over(SignalHeard::Waited(value)),

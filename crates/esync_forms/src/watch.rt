@@ -1,4 +1,4 @@
-//! The watch, by its own calls and by its senders and receivers, which are had in several ways.
+//! The watch: called by its own calls, and by its senders and receivers, which are made in several ways.
 use crate::form::{Door, Doors, Form, nobody, over};
 use esync_base::waitqueue::{Context, Hand, Poll, WakerList};
 use esync_cells::watch::machine::{Await, Reading, WatchCall, WatchHeard};
@@ -7,23 +7,23 @@ use esync_machine::primitive::{Answer, Turn};
 use std::alloc::{AllocError, Global};
 use std::marker::PhantomData;
 
-/// A watch of values, however many receivers it has room for: what it has that its senders and receivers don't have.
+/// A watch of values for any number of receivers: the calls that its senders and receivers don't have.
 pub trait Watches: WatchBehavior<Value = u32, Waker = u64> {
-    /// A sender.
+    /// Returns a sender.
     fn sending(&self, door: Door) -> Snd<'_, Self>;
 
-    /// A receiver, if there is a place for it.
+    /// Adds a receiver, if there is a place for it.
     fn counted(&self, door: Door) -> Option<Rcv<'_, Self>>;
 
-    /// A receiver that never waits.
+    /// Returns a receiver that never waits.
     fn anon(&self, door: Door) -> AnonRcv<'_, Self>;
 
     fn version(&self) -> u64;
 
-    /// What a read finds.
+    /// Reads the value, if there is one.
     fn found(&self) -> Result<Option<u32>, AllocError>;
 
-    /// What a read of values that pass finds.
+    /// Reads the value, if there is one that passes the test.
     fn found_of<J: Judge<u32> + Copy>(&self, judge: J) -> Result<Option<u32>, AllocError>;
 }
 
@@ -66,7 +66,7 @@ impl<L: WakerList<Waker = u64>, H: Hand<u64>, const K: usize> Watches
     }
 }
 
-/// A watch with its receivers, whose calls are made by each of its ways in turn. It takes changes `C` and tests `J`.
+/// A watch with its receivers, whose calls are made in each way in turn. It takes changes `C` and tests `J`.
 #[derive(Drop)]
 pub struct Watching<'w, B: Watches, C, J> {
     watch: &'w B,
@@ -133,7 +133,7 @@ fn anon_reads<B: WatchBehavior<Value = u32>, J: Judge<u32> + Copy>(
     }
 }
 
-// A poll of what the receiver's call gives, which borrows the receiver and so is made anew for each poll.
+// Polls the future that a receiver's call returns. The future borrows the receiver, and so is made anew for each poll.
 fn polls<B: WatchBehavior<Value = u32, Waker = u64>, J: Judge<u32> + Copy>(
     receiver: &mut Rcv<'_, B>,
     read: Reading<J>,
@@ -147,7 +147,7 @@ fn polls<B: WatchBehavior<Value = u32, Waker = u64>, J: Judge<u32> + Copy>(
     }
 }
 
-// What a poll leaves of a request for a value.
+// Returns what a poll leaves of a request for a value.
 fn has_waited<J: Drop>(
     polled: Result<Poll<u32>, AllocError>,
     held: Await<J>,
@@ -162,7 +162,7 @@ fn has_waited<J: Drop>(
     }
 }
 
-// What was found, in the words of a watch.
+// Returns the answer to a read, in the words of a watch.
 fn has_found(found: Result<Option<u32>, AllocError>) -> Answer<WatchHeard<u32>> {
     match found {
         Ok(found) => Answer::Gives(WatchHeard::Found(found)),
@@ -251,7 +251,7 @@ where
         }
     }
 
-    // A counted receiver comes.
+    // Adds a counted receiver.
     fn join(&mut self, h: usize) -> Answer<WatchHeard<u32>> {
         if !self.is_free(h) {
             return Answer::NoSuch;
@@ -265,7 +265,7 @@ where
         }
     }
 
-    // An anonymous receiver comes.
+    // Adds an anonymous receiver.
     fn join_anon(&mut self, h: usize) -> Answer<WatchHeard<u32>> {
         if !self.is_free(h) {
             return Answer::NoSuch;
@@ -281,7 +281,7 @@ where
         }
     }
 
-    // The receiver at the number leaves.
+    // Removes the receiver at the number.
     fn leave(&mut self, h: usize) -> Answer<WatchHeard<u32>> {
         let Some(place) = self.receivers.get_mut(h) else {
             return Answer::NoSuch;
@@ -293,7 +293,7 @@ where
         Answer::Done
     }
 
-    // A read for no receiver.
+    // Reads the value without a receiver.
     fn try_get(&mut self) -> Result<Option<u32>, AllocError> {
         match self.doors.next() {
             Door::Own => self.watch.found(),
@@ -301,7 +301,7 @@ where
         }
     }
 
-    // A read for the receiver at the number.
+    // Reads the value for the receiver at the number.
     fn read(&mut self, h: usize, read: Reading<J>) -> Answer<WatchHeard<u32>> {
         let Some(Some(receiver)) = self.receivers.get_mut(h) else {
             return Answer::NoSuch;
@@ -313,7 +313,8 @@ where
         }
     }
 
-    // What a receiver found of values that pass, where who keeps no version finds it too.
+    // Returns the value that a receiver found by a test, if a read without a version finds it too. Otherwise returns
+    // NoSuch.
     fn finds_too(
         &mut self,
         judge: J,
@@ -340,7 +341,7 @@ where
         }
     }
 
-    // What the first receiver says, or the watch where there is none.
+    // Returns whether there is a value, as the first receiver says, or the watch if there is no receiver.
     fn first_contains_value(&self) -> bool {
         match self.receivers.iter().flatten().next() {
             Some(receiver) => receiver.contains_value(),
@@ -356,11 +357,11 @@ where
     C: Change<u32> + Drop,
     J: Judge<u32> + Copy,
 {
-    /// This watch, which has no receivers, and is called by these ways.
+    /// Returns this watch without receivers, called in these ways.
     ///
     /// # Errors
     ///
-    /// Where there is no memory.
+    /// Returns the error if there is no memory.
     pub fn new(
         alloc: Global,
         watch: &'w SharedWatch<u32, L, H, K>,

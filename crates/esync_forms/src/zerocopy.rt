@@ -1,7 +1,8 @@
-//! The zero-copy channel, by its two sides.
+//! The zero-copy channel, called by its two sides.
 //!
-//! A loan borrows its side, so that none can be kept while the script makes further calls of that side. It is ended with each line, which leaves
-//! the slot the side's next one, and made anew where it matters: while the other side does something, and where it is written or done with.
+//! A loan borrows its side, so no loan can be kept while the script makes further calls of that side. Each line ends
+//! its loan, which leaves the slot the side's next one. The loan is made anew where it matters: while the opposite side
+//! makes a call, and when the slot is written or done with.
 use crate::form::{Door, Doors, Form, Sizes, sizes};
 use esync_base::waitqueue::{Context, Hand, Poll};
 use esync_machine::primitive::{Answer, Turn};
@@ -10,14 +11,14 @@ use esync_zerocopy::zerocopy_channel::{
     ReceiveSlot, Receiver, SendSlot, Sender, Side, SlotLent, SlotLoan,
 };
 
-/// What a slot has: its number, which a loan doesn't tell, and a value.
+/// The contents of a slot: its number, which a loan doesn't tell, and a value.
 #[derive(Clone, Copy)]
 pub struct Numbered {
     pub number: usize,
     pub value: u32,
 }
 
-/// The two sides of a channel, and whether each is lent its slot.
+/// The two sides of a channel, and for each side whether its slot is lent.
 #[derive(Drop)]
 pub struct Zerocopy<'c, H: Hand<u64>> {
     sender: Sender<'c, Numbered, u64, H>,
@@ -70,7 +71,7 @@ impl<'c, H: Hand<u64>> Form for Zerocopy<'c, H> {
     }
 }
 
-// The sender's slot once more, if it is lent.
+// Lends the sender's slot once more, if it is lent.
 fn sends_again<'s, H: Hand<u64>>(
     sender: &'s mut Sender<'_, Numbered, u64, H>,
     is_lent: bool,
@@ -78,7 +79,7 @@ fn sends_again<'s, H: Hand<u64>>(
     if is_lent { sender.try_send() } else { None }
 }
 
-// The receiver's slot once more, if it is lent.
+// Lends the receiver's slot once more, if it is lent.
 fn receives_again<'s, H: Hand<u64>>(
     receiver: &'s mut Receiver<'_, Numbered, u64, H>,
     is_lent: bool,
@@ -112,7 +113,7 @@ fn gives_back<H: Hand<u64>>(receiver: &mut Receiver<'_, Numbered, u64, H>, is_le
     }
 }
 
-// What is in the slot that is lent, if there is one.
+// Returns the contents of the slot that is lent, if one is.
 fn shown<H: Hand<u64>>(loan: Option<SlotLoan<'_, Numbered, u64, H>>) -> Option<Numbered> {
     match loan {
         Some(loan) => Some(*loan.get()),
@@ -120,7 +121,7 @@ fn shown<H: Hand<u64>>(loan: Option<SlotLoan<'_, Numbered, u64, H>>) -> Option<N
     }
 }
 
-// The same of a poll.
+// Returns the contents of the slot that a poll lends, if it lends one.
 fn polled<H: Hand<u64>>(loan: Poll<SlotLoan<'_, Numbered, u64, H>>) -> Option<Numbered> {
     match loan {
         Poll::Ready(loan) => Some(*loan.get()),
@@ -128,18 +129,18 @@ fn polled<H: Hand<u64>>(loan: Poll<SlotLoan<'_, Numbered, u64, H>>) -> Option<Nu
     }
 }
 
-// What the sender hears of a slot.
+// Returns what the sender hears of a slot.
 fn spare(slot: Option<Numbered>) -> Option<Lent<u32>> {
     slot.map(|slot| Lent::Spare(slot.number))
 }
 
-// What the receiver hears of a slot.
+// Returns what the receiver hears of a slot.
 fn held(slot: Option<Numbered>) -> Option<Lent<u32>> {
     slot.map(|slot| Lent::Held(slot.number, slot.value))
 }
 
 impl<'c, H: Hand<u64>> Zerocopy<'c, H> {
-    /// These two sides, to which no slot is lent, called by these ways.
+    /// Returns these two sides without a loan, called in these ways.
     pub fn new(
         sender: Sender<'c, Numbered, u64, H>,
         receiver: Receiver<'c, Numbered, u64, H>,

@@ -1,4 +1,4 @@
--- A lock: whether it is held, and who waits for it.
+-- A lock: whether it is held, and the waker of the task that waits for it.
 use Rattle.std.specs.Prelude.{◌≡◌, Bool, true, false, List, [], ◌∷◌, Option, Some, None, Result, Ok, Err, refl}
 use Rattle.std.specs.Coded.{Coded, code_by, coded×, coded_list, coded_bool}
 use Rattle.esync_base.specs.Registration.{displaced}
@@ -25,7 +25,7 @@ abbrev pub polled : Bool → Poll (Unit {0})
 polled true = Pending
 polled false = Ready tt
 
--- the waker of a poll registers where the lock is held
+-- the waker of a poll registers if the lock is held
 abbrev pub waiter_where_held : {W : Type 0} → Bool → W → Option W
 waiter_where_held true w = Some w
 waiter_where_held false w = None
@@ -39,12 +39,12 @@ abbrev pub guarding_code : {T W : Type 0} → Coded T → Coded W → Coded (Gua
 guarding_code {T} {W} t w =
     code_by (Locking W × T) (coded× (locking_code w) t) (λ s. (s.lock, s.value)) (λ p. record { lock = p.0; value = p.1 }) (λ _. refl)
 
--- who takes the value locks, and else the lock stays
+-- a task that takes the value locks; without the value the lock stays as it is
 abbrev pub Wins : {W : Type 0} → Bool → Locking W → Locking W → Type 0
 Wins true old new = (old.held ≡ false) × (new ≡ record old { held = true })
 Wins false old new = new ≡ old
 
--- what a poll hands out, by whether the lock was held and whether it took the value: its own waker where neither was so
+-- what a poll hands out, by whether the lock was held and whether the value was taken: its own waker if neither
 abbrev pub wakes_of_turn : {W : Type 0} → (W → W → Bool) → W → Bool → Bool → List W → List W
 wakes_of_turn eq w true won waiter = displaced eq 1 waiter w
 wakes_of_turn eq w false true waiter = []

@@ -17,12 +17,12 @@ use Rattle.esync_guards.specs.declared.mutex.machine.MutexCall.TheVariants.{TryL
 use Rattle.esync_guards.specs.declared.mutex.machine.MutexHeard.{MutexHeard}
 use Rattle.esync_guards.specs.declared.mutex.machine.MutexHeard.TheVariants.{Locked, Tried, Value, Part}
 
--- the object: whether it is held, and the value, which only who holds it changes
+-- the object: whether the lock is held, and the value, which only the lock's holder changes
 pub record Lock (T : Type 0) : Type 0 where
   pub held : Bool
   pub value : T
 
--- which number a call concerns
+-- which number each call concerns
 abbrev pub reach : {T U : Type 0} → MutexCall T U → Reach
 reach (TryLock r) = Number r
 reach (Read r) = Number r
@@ -37,11 +37,11 @@ Ends o Guard o2 = o2 ≡ record o { held = false }
 Ends o Mapped o2 = o2 ≡ record o { held = false }
 
 module _ {T U : Type 0} where
-  -- the number is of another kind, and nothing changes
+  -- a number of another kind: nothing changes
   abbrev pub IsOther : Lock T → Option MutexHeld → Answer (MutexHeard T U) → Lock T → Option MutexHeld → Type 0
   IsOther o p a o2 p2 = (a ≡ NoSuch) × (o2 ≡ o) × (p2 ≡ p)
 
-  -- a request polled, by whether the lock is held: where it is free, the request becomes its guard
+  -- a poll of a request, by whether the lock is held: with a free lock, the request becomes its guard
   abbrev pub PollsWaiting : Bool → Lock T → Answer (MutexHeard T U) → Lock T → Option MutexHeld → Type 0
   PollsWaiting true o a o2 p = (a ≡ Pending) × (o2 ≡ o) × (p ≡ Some Waiting)
   PollsWaiting false o a o2 p = (a ≡ Gives Locked) × (o2 ≡ record o { held = true }) × (p ≡ Some Guard)
@@ -60,7 +60,7 @@ module _ {T U : Type 0} where
   Tries o None a o2 p2 = TriesFree o.held o a o2 p2
   Tries o (Some h) a o2 p2 = IsOther o (Some h) a o2 p2
 
-  -- a guard reads the value, and a mapped one its part
+  -- a guard reads the value, and a mapped guard reads its part
   abbrev pub Reads : (T → U) → Lock T → Option MutexHeld → Answer (MutexHeard T U) → Lock T → Option MutexHeld → Type 0
   Reads get o (Some Guard) a o2 p2 = (a ≡ Gives (Value o.value)) × (o2 ≡ o) × (p2 ≡ Some Guard)
   Reads get o (Some Mapped) a o2 p2 = (a ≡ Gives (Part (get o.value))) × (o2 ≡ o) × (p2 ≡ Some Mapped)
@@ -95,19 +95,19 @@ module _ {T U : Type 0} where
   Calls get set o (Map r) p a o2 p2 = Maps o p a o2 p2
   Calls get set o (WritePart r u) p a o2 p2 = WritesPart set u o p a o2 p2
 
--- it waits for the lock
+-- the number's holder waits for the lock
 abbrev pub IsRequest : MutexHeld → Type 0
 IsRequest Waiting = Unit {0}
 IsRequest Guard = ⊥
 IsRequest Mapped = ⊥
 
--- it has the lock
+-- the number's holder has the lock
 abbrev pub IsGuard : MutexHeld → Type 0
 IsGuard Waiting = ⊥
 IsGuard Guard = Unit {0}
 IsGuard Mapped = Unit {0}
 
--- the two don't both have the lock
+-- at most one of two numbers has the lock
 abbrev pub NotBoth : MutexHeld → MutexHeld → Type 0
 NotBoth h k = IsGuard h → IsGuard k → ⊥
 
@@ -115,7 +115,7 @@ NotBoth h k = IsGuard h → IsGuard k → ⊥
 abbrev pub OneGuard : List (Option MutexHeld) → Type 0
 OneGuard q = AllPairs NotBoth q
 
--- of a value with this part
+-- the rules of a mutex whose value has this part
 abbrev pub mutex_rules : {T U : Type 0} → (T → U) → (T → U → T) → Rules Ask MutexHeld (MutexCall T U) (MutexHeard T U)
 mutex_rules {T} get set = record {
   Core = Lock T;
@@ -129,7 +129,7 @@ mutex_rules {T} get set = record {
   WakesItself = ⊥;
 }
 
--- a poll that isn't granted registers, and the end of a guard hands out who waits
+-- a poll that isn't granted registers its waker, and the end of a guard hands out the waker that is registered
 module _ {W : Type 0} (eq : W → W → Bool) where
   abbrev pub poll_hands : List W → W → Bool → Handed (List W) W
   poll_hands waiter w true = registers eq waiter w
@@ -140,7 +140,7 @@ module _ {W : Type 0} (eq : W → W → Bool) where
   end_hands waiter Guard = hands_out waiter
   end_hands waiter Mapped = hands_out waiter
 
-  -- one waker at most is registered
+  -- at most one waker is registered
   abbrev pub mutex_wakings : {T U : Type 0} → Wakings (Lock T) MutexHeld (MutexCall T U) (MutexHeard T U) W
   mutex_wakings = record {
     Registered = List W;
@@ -155,6 +155,6 @@ module _ {W : Type 0} (eq : W → W → Bool) where
   OwesLock lock Guard w = ⊥
   OwesLock lock Mapped w = ⊥
 
--- whoever has a guard holds the lock
+-- a guard at a number holds the lock
 abbrev pub FitsLock : {W : Type 0} → Locking W → MutexHeld → Type 0
 FitsLock lock h = IsGuard h → lock.held ≡ true

@@ -1,4 +1,4 @@
-//! A value that one task at a time may use: whoever locks it gets a guard, whose end unlocks it.
+//! A value that one task at a time may use. A task that locks it gets a guard, whose end unlocks it.
 ghost use Rattle.std.specs.Prelude.{◌≡◌, ◌<◌, ◌++◌, [], length, true, false};
 ghost use Rattle.esync_base.specs.Registration.{registered_if, displaced_if};
 ghost use Rattle.esync_guards.specs.Mutex.{tried, polled, waiter_where_held};
@@ -15,12 +15,12 @@ pub mod machine;
 mod projection;
 mod shared;
 
-/// The mutex is locked.
+/// The error of a try: the mutex is locked.
 #[derive(Clone, Copy, Debug, PartialEq, Eq, Error)]
 #[error("the mutex is locked")]
 pub struct TryLockError;
 
-/// The state of a mutex: whether it is locked, and the waker of who waits for it.
+/// The state of a mutex: whether it is locked, and the waker of a task that waits for it.
 #[derive(Debug, Drop)]
 pub struct MutexState<W> {
     locked: bool,
@@ -55,7 +55,7 @@ impl<W: Copy + Eq> Default for MutexState<W> {
     }
 }
 
-/// Who waits for the lock.
+/// The waker of the task that waits for the lock.
 impl<W: Copy + Eq> Registered for MutexState<W> {
     type Waker = W;
 
@@ -72,7 +72,7 @@ impl<W: Copy + Eq> Registered for MutexState<W> {
 }
 
 impl<W: Copy + Eq> MutexState<W> {
-    /// Unlocked, and nobody who waits.
+    /// Returns the state of an unlocked mutex, without a waker.
     pub fn new() -> Self
         ensures held { result.held ≡ false }
         ensures waiter { result.waiter ≡ [] }
@@ -83,7 +83,11 @@ impl<W: Copy + Eq> MutexState<W> {
         }
     }
 
-    /// Locks, if it is not locked. Otherwise nothing changes.
+    /// Locks the mutex if it is free.
+    ///
+    /// # Errors
+    ///
+    /// Returns `TryLockError` if the mutex is locked. Nothing is changed.
     pub fn try_lock(&mut self) -> Result<(), TryLockError>
         ensures answer { result ≡ tried self.old.held }
         ensures state { self.new ≡ record self.old { held = true } }
@@ -95,7 +99,8 @@ impl<W: Copy + Eq> MutexState<W> {
         Ok(())
     }
 
-    /// Locks, if it is not locked. Otherwise the context's waker waits for that.
+    /// Locks the mutex if it is free. Otherwise registers the context's waker and returns Pending. A waker that it
+    /// displaces is handed out.
     pub fn poll_lock<const K: usize>(
         &mut self,
         cx: &Context<W>,
@@ -115,7 +120,7 @@ impl<W: Copy + Eq> MutexState<W> {
         }
     }
 
-    /// Unlocks, and wakes who waits.
+    /// Unlocks the mutex and hands out the waker that is registered.
     pub fn unlock<const K: usize>(&mut self, wakes: &mut Wakes<W, K>)
         requires { length wakes.old < K }
         ensures state { self.new ≡ record { held = false; waiter = [] } }
@@ -125,7 +130,7 @@ impl<W: Copy + Eq> MutexState<W> {
         self.waker.wake(wakes);
     }
 
-    /// It is locked.
+    /// Returns whether the mutex is locked.
     pub fn is_locked(&self) -> bool
         ensures { result ≡ self.now.held }
     {

@@ -1,4 +1,4 @@
--- What is kept of the calls that a machine took, and of the seats that made them.
+-- What a recording keeps of the calls that a machine took, and of the seats that made them.
 use Rattle.std.specs.Prelude.{◌≡◌, ◌==◌, ◌&&◌, ◌+◌, ◌≤◌, ℕ, Bool, true, List, [], ◌∷◌, ◌++◌, Some, length, map, slice_get, refl}
 use Rattle.std.specs.Coded.{Coded, code_by, coded×, coded_list}
 use Rattle.std.specs.List.{count_by}
@@ -39,25 +39,25 @@ replies_of journal = map (λ e. e.reply) journal
 abbrev pub count_of : {C A : Type 0} → ℕ → List (Entry C A) → ℕ
 count_of seat journal = count_by (λ e. e.seat == seat) journal
 
--- one entry more of the seat, and as many as before of each other
+-- one more entry of the seat, and as many as before of every other seat
 abbrev pub CountsOne : {C A : Type 0} → ℕ → List (Entry C A) → List (Entry C A) → Type 0
 CountsOne seat old new = (count_of seat new ≡ count_of seat old + 1) × ((k : ℕ) → (k ≡ seat → ⊥) → count_of k new ≡ count_of k old)
 
--- whether two entries are equal, where commands and replies are told apart like this
+-- whether two entries are equal, by an equality of commands and one of replies
 abbrev pub same_entry : {C A : Type 0} → (C → C → Bool) → (A → A → Bool) → Entry C A → Entry C A → Bool
 same_entry same_command same_reply x y = x.seat == y.seat && (same_command x.command y.command && same_reply x.reply y.reply)
 
 module _ {C A : Type 0} (same : Entry C A → Entry C A → Bool) (journal : List (Entry C A)) where
-  -- the receipt is that of the journal's entry at its number
+  -- the receipt matches the journal's entry at its number
   abbrev pub IsEntry : Receipt C A → Type 0
   IsEntry receipt = (e : Entry C A) × (slice_get journal receipt.number ≡ Some e) × (same e receipt.entry ≡ true)
 
-  -- each of the receipts is that of an entry, and no number occurs twice
+  -- each receipt matches an entry, and no number occurs twice
   abbrev pub AreEntries : List (Receipt C A) → Type 0
   AreEntries receipts = Each IsEntry receipts × AreDistinct (λ receipt. receipt.number) receipts
 
 module _ {S C A W : Type 0} (X : Semantics S C A W) where
-  -- the journal is the steps of a run, from a machine like the opening to this one
+  -- the journal has the steps of a run, from a machine like the opening to this machine
   abbrev pub IsKept : S → List (Entry C A) → S → Type 0
   IsKept opening journal machine = (start : S) × IsLike X start opening × History X start (commands_of journal) (replies_of journal) machine
 
@@ -81,7 +81,7 @@ module _ {S C A W : Type 0} (X : Semantics S C A W) where
     pub seat : after.number ≡ before.number
     pub calls : after.calls ≡ before.calls + 1
 
-  -- The same of a journal that nobody else can name: it replays, and has at least as many entries as the seat has calls.
+  -- One call on a journal that nobody else can name: it replays, and has no fewer entries than the seat calls.
   abbrev pub WasRecorded : Seated → C → Receipt C A → Seated → Type 0
   WasRecorded before command receipt after =
       (old : Recording S C A) × (new : Recording S C A) × IsRecorded old before command receipt new after × Replays new × (after.calls ≤ length new.journal)

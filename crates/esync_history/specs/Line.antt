@@ -2,7 +2,7 @@
 use Rattle.std.specs.Prelude.{◌≡◌, ℕ, suc, ◌<◌, ◌≤◌, Bool, true, false, List, [], ◌∷◌, ◌++◌, length, slice_index_or, if◌then◌else◌}
 use Rattle.esync_base.specs.Listed.{is_in, NoTwice}
 
--- the queue with the number at its back, unless it is queued already
+-- the queue with the number at its back, or as it is if the number is queued already
 abbrev pub put_last : List ℕ → ℕ → List ℕ
 put_last ns k = if is_in k ns then ns else ns ++ k ∷ []
 

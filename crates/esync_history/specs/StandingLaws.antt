@@ -1,4 +1,4 @@
--- What acts make of the tasks that wait for no turn, under any order of turns.
+-- What acts make of the tasks without a turn, under any order of turns.
 use Rattle.std.proofs.Common.{◌≡◌, ℕ, zero, suc, Bool, true, false, ◌||◌, List, [], ◌∷◌, ◌++◌, map, Option, Some, None, ◌⊎◌, inl, inr, refl, sym, ap, subst, ◌∙◌, ◌==◌}
 use Rattle.std.specs.Prelude.{slice_get, slice_set}
 use Rattle.std.specs.List.{list_any}
@@ -31,7 +31,7 @@ get_set_other (z ∷ xs) zero (suc j) y ne = refl
 get_set_other (z ∷ xs) (suc i) zero y ne = refl
 get_set_other (z ∷ xs) (suc i) (suc j) y ne = get_set_other xs i j y (λ e. ne (ap suc e))
 
--- a task after the turn is the one whose turn it was, or as before
+-- after the turn, a task is the one whose turn it was, or is unchanged
 task_after : {A : Type 0} (tasks after : List A) (k : ℕ) (task left : A) (j : ℕ) (t : A) → slice_get tasks k ≡ Some task → after ≡ slice_set tasks k left → slice_get after j ≡ Some t → ((j ≡ k) × (t ≡ left)) ⊎ ((j ≡ k → ⊥) × (slice_get tasks j ≡ Some t))
 task_after tasks after k task left j t there e h =
     let g = subst (λ xs. slice_get xs j ≡ Some t) e h in
@@ -63,7 +63,7 @@ module _ {S Ask Command Reply : Type 0} (X : Semantics S Command Reply TaskId) (
     (λ q. let n = ap X.meaning.starts e in absurd cc),
   )
 
-  -- a step that neither polls nor starts the request
+  -- a step that neither polls nor starts the request leaves it standing, or hands its waker out
   stands_step : (old mid : S) (s : Step X.meaning.Object Command Reply) (r : ℕ) (w : TaskId) → Turn X old s.command s.reply mid → Avoids r s → IsStanding X old r w → HandsOut X.meaning s.reply w ⊎ IsStanding X mid r w
   stands_step old mid s r w t v (inl dead) =
       inr (inl (λ live. elim (L.made (X.object old) (X.object mid) s.command s.reply r t.allowed live) [ inl starts ↦ v.1 starts | inr was ↦ dead was ]))
@@ -88,7 +88,7 @@ module _ {S Ask Command Reply : Type 0} (X : Semantics S Command Reply TaskId) (
   awaits_later : (r : ℕ) (act : Act Ask Command) (acts : List (Act Ask Command)) → list_any (awaits_at r) acts ≡ true → list_any (awaits_at r) (act ∷ acts) ≡ true
   awaits_later r act acts e = elim (true_or_false (awaits_at r act)) [ inl h ↦ rw h refl | inr h ↦ rw h e ]
 
-  -- the steps of an act neither poll nor start a request that the task doesn't use
+  -- the steps of an act neither poll nor start a request that the act's task doesn't use
   acts_avoid : (w : TaskId) (request : Option ℕ) (acts : List (Act Ask Command)) (steps : List (Step X.meaning.Object Command Reply)) (back : Bool) (left : Todo Ask Command) (r : ℕ) → Acts X.meaning starting w request acts steps back left → (Uses r (record { request = request; acts = acts }) → ⊥) → ArePlain X.meaning acts → Each (Avoids r) steps
   acts_avoid w (Some t) acts steps back left r h unused p =
       subst (λ xs. Each (Avoids r) xs) (sym h.1) (avoids_poll r t w h.0 h.2.0 (λ e. unused (inl (ap Some e))), tt)
@@ -110,7 +110,7 @@ module _ {S Ask Command Reply : Type 0} (X : Semantics S Command Reply TaskId) (
   acts_plain w None (Await t ask ∷ acts) steps back left h p = subst (λ xs. ArePlain X.meaning xs) (sym h.1) p
   acts_plain w None (Call c ∷ acts) steps back left h p = subst (λ xs. ArePlain X.meaning xs) (sym h.5) p.2
 
-  -- what a task uses after an act it used before
+  -- a request that a task uses after an act, it used before the act
   acts_use : (w : TaskId) (request : Option ℕ) (acts : List (Act Ask Command)) (steps : List (Step X.meaning.Object Command Reply)) (back : Bool) (left : Todo Ask Command) (r : ℕ) → Acts X.meaning starting w request acts steps back left → Uses r left → Uses r (record { request = request; acts = acts })
   acts_use w (Some t) acts steps back left r h (inl e) = inl (ap Some (poll_uses w t h.0 back left.request r h.2 e))
   acts_use w (Some t) acts steps back left r h (inr e) = inr (subst (λ xs. list_any (awaits_at r) xs ≡ true) h.3 e)
@@ -157,12 +157,12 @@ module _ {S Ask Command Reply : Type 0} (X : Semantics S Command Reply TaskId) (
   ]
   act_waits w None (Call c ∷ acts) steps back left old new h e run = (let n = h.3 in absurd cc)
 
-  -- An act of the task k. The others keep their turn, a task whose waker is handed out has one, and so has the task itself, if it goes back.
+  -- An act of the task k. All tasks but k keep their turns, each woken task gets one, and so does k if it goes back.
   module _ (Had Has : ℕ → Type 0) (k : ℕ) (old new : S) (tasks after : List (Todo Ask Command)) (task left : Todo Ask Command) (steps : List (Step X.meaning.Object Command Reply)) (back : Bool) (act : Acts X.meaning starting (record { 0 = k }) task.request task.acts steps back left) (run : Through X old steps new) (there : slice_get tasks k ≡ Some task) (set : after ≡ slice_set tasks k left) (o : AreStandingBut X Had old tasks) (keeps : (j : ℕ) → (j ≡ k → ⊥) → Had j → Has j) (hands : (j : ℕ) (t : Todo Ask Command) → slice_get after j ≡ Some t → has_ended t ≡ false → AtSome (λ s. HandsOut X.meaning s.reply (record { 0 = j })) steps → Has j) (goes : has_ended left ≡ false → back ≡ true → Has k) where
     abbrev waker : TaskId
     waker = record { 0 = k }
 
-    -- what a task uses after the turn it used before
+    -- a request that a task uses after the turn, it used before the turn
     used_before : (j : ℕ) (a : Todo Ask Command) (r : ℕ) → slice_get after j ≡ Some a → Uses r a → (b : Todo Ask Command) × (slice_get tasks j ≡ Some b) × Uses r b
     used_before j a r h u = elim (task_after tasks after k task left j a there set h) [
       | inl s ↦ (task, subst (λ x. slice_get tasks x ≡ Some task) (sym s.0) there, acts_use waker task.request task.acts steps back left r act (subst (λ x. Uses r x) s.1 u))
@@ -181,7 +181,7 @@ module _ {S Ask Command Reply : Type 0} (X : Semantics S Command Reply TaskId) (
       | inr s ↦ o.plain j a s.1
     ]
 
-    -- the task whose turn it was
+    -- the task whose turn it was stands at a request, unless it ended or has another turn
     own_after : has_ended left ≡ false → (Has k → ⊥) → (r : ℕ) × (left.request ≡ Some r) × IsStanding X new r waker
     own_after h q =
         let here : slice_get after k ≡ Some left = subst (λ xs. slice_get xs k ≡ Some left) (sym set) (get_set_here tasks k task left there) in
@@ -192,7 +192,7 @@ module _ {S Ask Command Reply : Type 0} (X : Semantics S Command Reply TaskId) (
               (p.0, p.1, elim p.2 [ inl out ↦ absurd (q (hands k left here h out)) | inr owes ↦ inr owes ]))
         ]
 
-    -- another task that has no turn
+    -- any further task without a turn stands at a request, as before
     other_after : (j : ℕ) (a : Todo Ask Command) → (j ≡ k → ⊥) → slice_get tasks j ≡ Some a → slice_get after j ≡ Some a → has_ended a ≡ false → (Has j → ⊥) → (r : ℕ) × (a.request ≡ Some r) × IsStanding X new r (record { 0 = j })
     other_after j a ne was is h q =
         let p = o.idle j a was h (λ e. q (keeps j ne e)) in
@@ -220,7 +220,7 @@ module _ {S Command Reply : Type 0} (X : Semantics S Command Reply TaskId) (idle
       let i = idle m r w owes in
       inr (i, λ c v a o2 polls allowed. (let p = i c v polls in pending (X.object m) o2 c r v p.0 a polls p.1 p.2 allowed))
 
-  -- where none has a turn
+  -- if no task has a turn, all tasks are stalled
   pub all_stalled : {Ask : Type 0} (HasTurn : ℕ → Type 0) (m : S) (tasks : List (Todo Ask Command)) → AreStandingBut X HasTurn m tasks → ((k : ℕ) → HasTurn k → ⊥) → AreStalled X.meaning (X.object m) tasks
   all_stalled HasTurn m tasks standing none k t there unended =
       let p = standing.idle k t there unended (none k) in
@@ -248,7 +248,7 @@ module _ {Command Reply : Type 0} (M : Meaning Command Reply TaskId) (numbers : 
   suited_plain (Await r ask ∷ xs) zs h = suited_plain xs zs h.1
   suited_plain (Call c ∷ xs) zs h = (h.0.0, h.0.1, suited_plain xs zs h.1)
 
-  -- what a task awaits no later task awaits
+  -- a request that an act awaits is awaited by no later act
   suited_apart : (r : ℕ) (xs zs : List (Act Ask Command)) → AreSuited M numbers (xs ++ zs) → list_any (awaits_at r) xs ≡ true → list_any (awaits_at r) zs ≡ false
   suited_apart r [] zs h e = absurd cc
   suited_apart r (Call c ∷ xs) zs h e = suited_apart r xs zs h.1 e
@@ -295,7 +295,7 @@ module _ {Command Reply : Type 0} (M : Meaning Command Reply TaskId) (numbers : 
   fresh_uses r t xs e (inr h) = subst (λ x. list_any (awaits_at r) x.acts ≡ true) e h
 
 module _ {S Command Reply : Type 0} (X : Semantics S Command Reply TaskId) (numbers : ℕ) {Ask : Type 0} where
-  -- before the first turn
+  -- before the first turn, if each task that hasn't ended has a turn
   pub standing_first : (HasTurn : ℕ → Type 0) (m : S) (lists : List (List (Act Ask Command))) → AreSuited X.meaning numbers (all_acts lists) → ((k : ℕ) (t : Todo Ask Command) → slice_get (map fresh lists) k ≡ Some t → has_ended t ≡ false → HasTurn k) → AreStandingBut X HasTurn m (map fresh lists)
   standing_first HasTurn m lists h turns = record {
     apart = λ j k a b r ha hb ua ub.

@@ -23,7 +23,7 @@ module _ {Command Reply : Type 0} (M : Meaning Command Reply TaskId) (numbers : 
   IsSuited (Await r ask) later = (r < numbers) × (list_any (awaits_at r) later ≡ false)
   IsSuited (Call c) later = (M.starts c ≡ None) × (M.polls c ≡ None)
 
-  -- the same of each act of the list
+  -- each act of the list is suited to those behind it
   abbrev pub AreSuited : List (Act Ask Command) → Type 0
   AreSuited [] = Unit {0}
   AreSuited (act ∷ acts) = IsSuited act acts × AreSuited acts

@@ -9,20 +9,20 @@ use Rattle.esync_history.specs.Line.{Line, put_last}
 
 -- What a task has still to do.
 pub record Todo (Ask Command : Type 0) : Type 0 where
-  -- the number of the request at whose Await it stands, once that request was started
+  -- the number of the request at whose Await the task stands, once that request was started
   pub request : Option ℕ
-  -- the acts that come after it
+  -- the acts behind that Await
   pub acts : List (Act Ask Command)
 
--- A machine with its tasks, the numbers of those that wait for a turn, the next one first, and what the acts of each task
--- that are over answered, in order.
+-- A machine with its tasks, the numbers of the tasks that wait for a turn, the next one first, and the answers of each
+-- task's acts that are over, in order.
 pub record Executing (S Ask Command Reply : Type 0) : Type 0 where
   pub machine : S
   pub tasks : List (Todo Ask Command)
   pub queue : List ℕ
   pub heard : List (List Reply)
 
--- a task that was handed in
+-- a task before its first act
 abbrev pub fresh : {Ask Command : Type 0} → List (Act Ask Command) → Todo Ask Command
 fresh acts = record { request = None; acts = acts }
 
@@ -59,13 +59,13 @@ put_back_task (Some task) queue k = if has_ended task then queue else put_last q
 abbrev pub put_back : {Ask Command : Type 0} → List (Todo Ask Command) → List ℕ → ℕ → List ℕ
 put_back tasks queue k = put_back_task (slice_get tasks k) queue k
 
--- the same of the tasks that these wakers name, in order
+-- the queue after the tasks that these wakers name were put at its back, in order
 abbrev pub woken : {Ask Command : Type 0} → List (Todo Ask Command) → List ℕ → List TaskId → List ℕ
 woken tasks queue [] = queue
 woken tasks queue (w ∷ ws) = woken tasks (put_back tasks queue w.0) ws
 
--- the queue after a turn of the task with this number: first the tasks that were woken, in order, and last the task itself,
--- if it goes to the back
+-- the queue after a turn of the task with this number: the tasks that were woken go to the back, in order, and then the
+-- task itself, if it goes back
 abbrev pub requeued : {Ask Command : Type 0} → List (Todo Ask Command) → List ℕ → List TaskId → Bool → ℕ → List ℕ
 requeued tasks queue wakers true number = put_back tasks (woken tasks queue wakers) number
 requeued tasks queue wakers false number = woken tasks queue wakers

@@ -13,14 +13,14 @@ use Rattle.esync_history.specs.declared.executor.Outcome.TheVariants.{Done, Stal
 use Rattle.esync_history.specs.Answered.{noted}
 use Rattle.esync_history.specs.Todo.{Todo, Executing, has_ended, requeued}
 
--- What each outcome tells. In the queue are tasks that haven't ended alone, so it is empty where all have.
+-- What each outcome tells. Only tasks that haven't ended are queued, so the queue is empty once all have.
 abbrev pub Tells : {S Ask Command Reply : Type 0} → Outcome → Executing S Ask Command Reply → Type 0
 Tells Done e = (list_all has_ended e.tasks ≡ true) × (e.queue ≡ [])
 Tells Stalled e = (list_all has_ended e.tasks ≡ false) × (e.queue ≡ [])
 Tells Limit e = (list_all has_ended e.tasks ≡ false) × (e.queue ≡ [] → ⊥)
 
 module _ {Command Reply : Type 0} (M : Meaning Command Reply TaskId) where
-  -- where a task stands after this answer to a poll of the request: still at it with Pending and with want of memory, else its act is over
+  -- where a task stands after a poll with this answer: still at the request with Pending and NoMemory, else at none
   abbrev pub StandsAt : ℕ → Reply → Option ℕ → Type 0
   StandsAt r a request = ((request ≡ Some r) × (M.IsPending a ⊎ M.IsRefused a)) ⊎ ((request ≡ None) × (M.IsPending a → ⊥) × (M.IsRefused a → ⊥))
 
@@ -31,13 +31,13 @@ module _ {Command Reply : Type 0} (M : Meaning Command Reply TaskId) where
       × StandsAt r s.reply request
       × ((M.IsPending s.reply × (back ≡ false)) ⊎ ((M.IsPending s.reply → ⊥) × (back ≡ true)))
 
-  -- The start of a request by this command. Where it answers NoSuch the act is over, and else a poll follows.
+  -- The start of a request by this command. If it is answered NoSuch the act is over, and otherwise a poll follows.
   abbrev pub IsAwait : TaskId → ℕ → Command → List (Step M.Object Command Reply) → Bool → Option ℕ → Type 0
   IsAwait w r start steps back request =
       (s : Step M.Object Command Reply) × (s.command ≡ start)
       × ((M.IsNoSuch s.reply × (steps ≡ s ∷ []) × (back ≡ true) × (request ≡ None)) ⊎ ((M.IsNoSuch s.reply → ⊥) × ((p : Step M.Object Command Reply) × (steps ≡ s ∷ p ∷ []) × IsPoll w r p back request)))
 
-  -- The current act of a task, by these steps: whether the task goes to the back of the queue after them, and what it has still to do.
+  -- The current act of a task, by these steps: whether the task goes to the back of the queue, and what it has to do.
   abbrev pub Acts : {Ask : Type 0} → (ℕ → Ask → Command) → TaskId → Option ℕ → List (Act Ask Command) → List (Step M.Object Command Reply) → Bool → Todo Ask Command → Type 0
   Acts starting w (Some r) acts steps back left = (s : Step M.Object Command Reply) × (steps ≡ s ∷ []) × IsPoll w r s back left.request × (left.acts ≡ acts)
   Acts starting w None [] steps back left = ⊥
@@ -52,10 +52,10 @@ module _ {Command Reply : Type 0} (M : Meaning Command Reply TaskId) where
   abbrev pub wakes_in : List Reply → List TaskId
   wakes_in replies = flat_map M.wakes replies
 
--- of a machine, and the commands that start what is asked for at a number
+-- statements over a machine, with the commands that start a request at a number
 module _ {S Ask Command Reply : Type 0} (X : Semantics S Command Reply TaskId) (starting : ℕ → Ask → Command) where
-  -- The current act of a task, by some steps of the machine from the one state to the other: what was answered in them, and what the task has
-  -- still to do after it.
+  -- The current act of a task, by steps of the machine between two states: what they were answered, and what the task
+  -- has still to do.
   abbrev pub DoesAct : TaskId → Todo Ask Command → S → Heard Reply → S → Todo Ask Command → Type 0
   DoesAct w task old heard new left =
       (steps : List (Step X.meaning.Object Command Reply))
@@ -63,16 +63,16 @@ module _ {S Ask Command Reply : Type 0} (X : Semantics S Command Reply TaskId) (
       × Gave X.meaning steps heard.first heard.second
       × Acts X.meaning starting w task.request task.acts steps heard.back left
 
-  -- the same of a task that stands at an Await of this request, whatever acts come after it
+  -- the current act of a task that stands at an Await of this request, whatever acts stand behind it
   abbrev pub GoesOn : TaskId → ℕ → S → Heard Reply → S → Type 0
   GoesOn w r old heard new = (acts : List (Act Ask Command)) → DoesAct w (record { request = Some r; acts = acts }) old heard new (record { request = heard.request; acts = acts })
 
-  -- the same of a task that begins this act, whatever acts come after it
+  -- the current act of a task that begins this act, whatever acts stand behind it
   abbrev pub Begins : TaskId → Act Ask Command → S → Heard Reply → S → Type 0
   Begins w act old heard new = (acts : List (Act Ask Command)) → DoesAct w (record { request = None; acts = act ∷ acts }) old heard new (record { request = heard.request; acts = acts })
 
-  -- A turn of the task at the front of the queue: it does its current act, by these steps of the machine. If the act is over then,
-  -- the last answer is what it answered.
+  -- A turn of the task at the front of the queue: it does its current act, by these steps of the machine. If the act is
+  -- over after them, the act's answer is the last step's.
   pub record IsTurn (old new : Executing S Ask Command Reply) : Type 0 where
     pub number : ℕ
     pub behind : List ℕ
@@ -90,7 +90,7 @@ module _ {S Ask Command Reply : Type 0} (X : Semantics S Command Reply TaskId) (
     pub last : (earlier : List Reply) × (map (λ s. s.reply) steps ≡ earlier ++ answer ∷ [])
     pub heard : new.heard ≡ noted old.heard number (is_none left.request) answer
 
-  -- as many turns, one after another, and all their steps
+  -- n turns, one after another, with all their steps
   abbrev pub Turns : ℕ → Executing S Ask Command Reply → List (Step X.meaning.Object Command Reply) → Executing S Ask Command Reply → Type 0
   Turns zero old steps new = (new ≡ old) × (steps ≡ [])
   Turns (suc t) old steps new =

@@ -16,36 +16,36 @@ use std::alloc::{AllocError, Global};
 use std::marker::Model;
 use thiserror::Error;
 
-/// What a task does, an act after another.
+/// An act of a task: a task does one act after another.
 #[derive(Clone, Copy, Debug, PartialEq, Eq)]
 pub enum Act<A, C> {
-    /// Starts a request at the number, and polls it until it answers something other than Pending and want of memory. It is over at once where
-    /// the start names what isn't there.
+    /// Starts a request at the number, and polls it until the answer is neither Pending nor NoMemory. The act is over
+    /// at once if the start is answered NoSuch.
     Await(usize, A),
-    /// Makes a call. It is over with any answer.
+    /// Makes a call. The act is over with any answer.
     Call(C),
 }
 
-/// Why there is no executor. The machine and the tasks that were handed in are dropped.
+/// The reason why an executor was refused. The machine and the tasks that were handed in are dropped.
 #[derive(Clone, Copy, Debug, PartialEq, Eq, Error)]
 pub enum NewError {
-    /// Two Awaits use one number, an Await uses one that the machine hasn't, or a Call starts or polls. No memory was asked
-    /// for.
+    /// Two Awaits use one number, an Await uses a number that the machine doesn't have, or a Call starts or polls. No
+    /// memory was asked for.
     #[error("a request is used twice or isn't the machine's, or a call starts or polls")]
     NoSuch,
-    /// There was no memory for the tasks, or for what their acts will answer.
+    /// There was no memory for the tasks, or for the answers of their acts.
     #[error("there was no memory for the tasks")]
     NoMemory,
 }
 
-/// How a run ended.
+/// The outcome of a run.
 #[derive(Clone, Copy, Debug, PartialEq, Eq)]
 pub enum Outcome {
     /// All tasks have ended.
     Done,
-    /// Some task hasn't ended, and none is in the queue.
+    /// Some task hasn't ended, and no task is in the queue.
     Stalled,
-    /// As many turns were taken as were allowed, and a task is in the queue.
+    /// The greatest number of turns was taken, and a task is in the queue.
     Limit,
 }
 
@@ -62,13 +62,13 @@ impl From<AllocError> for NewError {
 
 /// Tasks over a machine, and the queue in which they wait for their turn.
 ///
-/// A task is known by its place in the list that was handed in, and polls with the `TaskId` of that number. A turn takes the
-/// task at the front of the queue and does its current act. Then the tasks that the machine woke go to the back of the queue,
-/// in order, and last the task itself, if its act is over or its poll had no memory. No task is queued twice, none is that has
-/// ended, and a waker that names no task is passed over.
+/// A task is known by its place in the list that was handed in, and polls with the `TaskId` of that number. A turn
+/// takes the task at the front of the queue and does its current act. Then the tasks that the machine woke go to the
+/// back of the queue, in order. The task itself goes there last, if its act is over or its poll had no memory. No task
+/// is queued twice, and no ended task is queued. A waker that names no task is ignored.
 ///
-/// What an act answered is kept once it is over: of an Await the answer of its last poll, or of its start where that named what
-/// isn't there, and of a Call its answer. `new` makes room for all of it.
+/// An act's answer is kept once the act is over. For an Await it is the answer of its last poll, or of its start if
+/// that was NoSuch. For a Call it is the call's answer. `new` makes room for all answers.
 #[derive(Drop)]
 pub struct Executor<M: Awaits<Waker = TaskId>> {
     machine: M,
@@ -98,7 +98,12 @@ where
     ghost use Rattle.esync_history.specs.Turns.{IsTurn, Ran, Tells};
     ghost use Rattle.esync_history.specs.Standing.{AreStanding, AreStalled};
 
-    /// An executor of these tasks. Those that have acts stand in the queue, in order.
+    /// Returns an executor of these tasks over the machine. The tasks that have acts stand in the queue, in order.
+    ///
+    /// # Errors
+    ///
+    /// Returns `NoSuch` if the tasks don't suit the machine, and `NoMemory` if there is no memory. The machine and the
+    /// tasks are dropped.
     pub fn new(
         alloc: Global,
         machine: M,
@@ -126,7 +131,7 @@ where
         })
     }
 
-    // The turn of the task at the front of the queue, if there is one.
+    // Takes the turn of the task at the front of the queue. Returns whether there was one.
     fn take_turn(&mut self) -> bool
         ensures turn { OnTrue result (IsTurn M.semantics M.starting self.old self.new) }
         ensures none { OnFalse result (self.old.queue ≡ []) }
@@ -143,7 +148,7 @@ where
         true
     }
 
-    // What a run answers that stops here.
+    // Returns the outcome of a run that stops here.
     fn outcome(&self) -> Outcome
         ensures tells { Tells result self.now }
         ensures standing { AreStanding M.semantics self.now.machine self.now.tasks self.now.queue }
@@ -158,9 +163,10 @@ where
         }
     }
 
-    /// Takes turns until all tasks have ended, no task is in the queue, or `limit` turns are taken.
+    /// Takes turns until all tasks have ended, no task is in the queue, or `limit` turns are taken. Returns which of
+    /// these it was.
     ///
-    /// It takes no memory beyond what the machine's steps take. A later run goes on where this one stopped.
+    /// A run takes no memory beyond what the machine's steps take. A later run goes on where this one stopped.
     pub fn run(&mut self, limit: usize) -> Outcome
         ensures run { Ran M.semantics M.starting limit self.old result self.new }
         ensures outcome { Tells result self.new }
@@ -176,7 +182,7 @@ where
         self.outcome()
     }
 
-    /// What the acts of the task that are over answered, in order. `None` where there is no task of this number.
+    /// Returns the answers of the task's acts that are over, in order, or `None` if there is no task of this number.
     pub fn heard(&self, task: usize) -> Option<&[M::Reply]>
         ensures heard { option_copied result ≡ slice_get self.now.heard task }
         ensures none { IfNone result (length self.now.tasks ≤ task) }
@@ -184,21 +190,21 @@ where
         self.replies.get(task)
     }
 
-    /// The machine.
+    /// Returns the machine.
     pub fn machine(&self) -> &M
         ensures { result.now ≡ self.now.machine }
     {
         &self.machine
     }
 
-    /// The machine, without the tasks.
+    /// Returns the machine, without the tasks.
     pub fn into_machine(self) -> M
         ensures { result ≡ self.machine }
     {
         self.machine
     }
 
-    /// The machine, and what each task heard, in the tasks' order.
+    /// Returns the machine, and the answers that each task heard, in the tasks' order.
     pub fn into_parts(self) -> (M, Vec<Vec<M::Reply>>)
         ensures machine { result.0 ≡ self.machine }
         ensures heard { map (λ v. v.items) result.1.items ≡ self.heard }

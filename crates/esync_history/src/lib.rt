@@ -1,4 +1,4 @@
-//! What is kept of a machine's calls, and an executor of tasks over any machine.
+//! Recordings of a machine's calls, and an executor of tasks over any machine.
 #![tactic(auto)]
 
 pub mod act;

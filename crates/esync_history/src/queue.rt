@@ -7,7 +7,7 @@ use std::alloc::{AllocError, Global};
 use std::collections::VecDeque;
 use std::marker::Model;
 
-/// Numbers below a bound, oldest first, each at most once. All that it can hold has room from the start.
+/// A queue of numbers below a bound, oldest first, each at most once. Its room is made at the start.
 #[derive(Drop)]
 pub struct Queue {
     numbers: VecDeque<usize>,
@@ -27,7 +27,11 @@ impl Model for Queue {
 }
 
 impl Queue {
-    /// An empty queue for the numbers below `room`.
+    /// Returns an empty queue for the numbers below `room`.
+    ///
+    /// # Errors
+    ///
+    /// Returns the error if there is no memory for them.
     pub fn new(alloc: Global, room: usize) -> Result<Self, AllocError>
         ensures { IfOk result (λ queue. queue ≡ record { room = room; numbers = [] }) }
     {
@@ -37,14 +41,14 @@ impl Queue {
         })
     }
 
-    /// No number is queued.
+    /// Returns whether no number is queued.
     pub fn is_empty(&self) -> bool
         ensures { IsTrue result ↔ (self.now.numbers ≡ []) }
     {
         self.numbers.is_empty()
     }
 
-    /// Puts a number at the back, unless it is queued.
+    /// Puts a number at the back, unless it is queued already.
     pub fn push(&mut self, number: usize)
         requires { number < self.old.room }
         ensures { self.new ≡ record { room = self.old.room; numbers = put_last self.old.numbers number } }
@@ -55,7 +59,7 @@ impl Queue {
         }
     }
 
-    /// Takes the number at the front.
+    /// Takes the number at the front. Returns `None` if the queue is empty.
     pub fn pop(&mut self) -> Option<usize>
         ensures front { IfSome result (λ number. self.old.numbers ≡ number ∷ self.new.numbers) }
         ensures below { IfSome result (λ number. number < self.old.room) }

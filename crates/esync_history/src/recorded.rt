@@ -15,7 +15,7 @@ use std::sync::{Wait, ledger};
 
 mod seating;
 
-/// A call that a machine took: from which seat, what it was asked, and what it answered, with the wakers that it handed out.
+/// A call that a machine took: the seat that made it, its command, and its reply with the wakers that it handed out.
 #[derive(Clone, Copy, Debug, PartialEq, Eq)]
 pub struct Entry<C, A> {
     pub seat: usize,
@@ -23,15 +23,15 @@ pub struct Entry<C, A> {
     pub reply: A,
 }
 
-/// What a call gets: the number of its entry in the journal, and the entry.
+/// The receipt of a call: the number of its entry in the journal, and the entry.
 #[derive(Clone, Copy, Debug, PartialEq, Eq)]
 pub struct Receipt<C, A> {
     pub number: usize,
     pub entry: Entry<C, A>,
 }
 
-/// A machine with the journal of its calls, and a machine as it was when the journal began. Played again from there, the journal's
-/// commands may get the journal's replies.
+/// A machine with the journal of its calls, and a machine as it was when the journal began. Played again from there,
+/// the journal's commands may get the journal's replies.
 #[derive(Drop)]
 pub struct Book<M: Keep, L: Ledger> {
     opening: M,
@@ -56,7 +56,12 @@ where
     M::Command: Copy,
     M::Reply: Copy,
 {
-    /// A book of this machine, with an empty journal, and so many seats for those who call it. The ledger has to have more parts.
+    /// Returns a book of this machine, with an empty journal, and `seats` seats for its callers. The ledger must have
+    /// more parts than that.
+    ///
+    /// # Errors
+    ///
+    /// Returns the error if there is no memory for the opening.
     pub fn new(
         alloc: Global,
         blank: Blank,
@@ -82,8 +87,11 @@ where
         Ok((book, Seats::new(all, seats)))
     }
 
-    /// Makes the call, for this seat, and appends what it was answered to the journal. Room for the entry is made first: where there
-    /// is none, no call was made.
+    /// Makes the call for this seat, and appends it with its reply to the journal. Returns its receipt.
+    ///
+    /// # Errors
+    ///
+    /// Returns the error if there is no memory for the entry. Room is made first, so no call was made.
     pub fn record(
         &mut self,
         seat: &mut Seat<L>,
@@ -109,7 +117,8 @@ where
         Ok(Receipt { number, entry })
     }
 
-    /// How many entries the journal has, where all seats that were made are handed in: it is the sum of their calls. Else `None`.
+    /// Returns the number of the journal's entries if all seats that were made are handed in: it is the sum of their
+    /// calls. Otherwise returns `None`.
     pub fn settle(self, seats: Seats<L>, handed_in: Vec<Seat<L>>) -> Option<usize>
         ensures all { length handed_in.items ≡ seats.made → result ≡ Some (length self.journal) }
         ensures sum { length handed_in.items ≡ seats.made → sum_by (λ seat. seat.calls) handed_in.items ≡ length self.journal }
@@ -131,15 +140,16 @@ where
 }
 
 impl<M: Keep + Drop, L: Ledger> Book<M, L> {
-    /// The machine as it was when the journal began.
+    /// Returns the machine as it was when the journal began.
     pub fn opening(&self) -> &M
         ensures { result.now ≡ self.now.opening }
     {
         &self.opening
     }
 
-    /// The journal, which is a run from the opening: each answer is one that the object allows, no wake was lost, and each call handed
-    /// out exactly the wakers that the table of wakes says. To a request that waits and wasn't woken, the machine owes its last waker.
+    /// Returns the journal, which is a run from the opening: each answer is one that the object allows, no wakeup was
+    /// lost, and each call handed out exactly the wakers that the table of wakes names. The machine owes its last waker
+    /// to each request that waits and wasn't woken.
     pub fn journal(&self) -> &[Entry<M::Command, M::Reply>]
         ensures entries { result.now ≡ self.now.journal }
         ensures replays { Replays M.semantics self.now }
@@ -148,7 +158,7 @@ impl<M: Keep + Drop, L: Ledger> Book<M, L> {
         &self.journal
     }
 
-    /// The machine, after the journal's last call.
+    /// Returns the machine, after the journal's last call.
     pub fn machine(&self) -> &M
         ensures { result.now ≡ self.now.machine }
     {
@@ -178,8 +188,12 @@ where
     M::Command: Copy,
     M::Reply: Copy,
 {
-    /// This machine under a lock, with an empty journal, and so many seats for those who call it. The ledger has to have more
-    /// parts. Where there is no memory for the opening, what was handed in is dropped.
+    /// Returns this machine under a lock, with an empty journal, and `seats` seats for its callers. The ledger must
+    /// have more parts than that.
+    ///
+    /// # Errors
+    ///
+    /// Returns the error if there is no memory for the opening. What was handed in is dropped.
     pub fn new(
         alloc: Global,
         blank: Blank,
@@ -196,8 +210,11 @@ where
         Ok((Recorded { book }, seats))
     }
 
-    /// Takes the lock, makes the call, for this seat, and appends what it was answered to the journal. Where there is no room for
-    /// the entry, no call was made.
+    /// Takes the lock, makes the call for this seat, and appends it with its reply to the journal. Returns its receipt.
+    ///
+    /// # Errors
+    ///
+    /// Returns the error if there is no memory for the entry. No call was made.
     pub fn call(
         &self,
         rt: &impl Wait,
@@ -211,7 +228,7 @@ where
         book.record(seat, command)
     }
 
-    /// The book.
+    /// Returns the machine with its journal, without the lock.
     pub fn into_book(self) -> Book<M, L>
         ensures { Replays M.semantics result }
     {
@@ -221,7 +238,8 @@ where
     }
 }
 
-/// Each receipt is that of the book's entry at its number, with equal commands and replies, and no number occurs twice.
+/// Returns whether each receipt matches the book's entry at its number, with equal commands and replies, and no number
+/// occurs twice.
 pub fn audit<M: Keep, L: Ledger>(
     receipts: &[Receipt<M::Command, M::Reply>],
     book: &Book<M, L>,
@@ -247,7 +265,7 @@ fn are_entries<C: Eq, A: Eq>(receipts: &[Receipt<C, A>], journal: &[Entry<C, A>]
     true
 }
 
-// The receipt is that of the entry at its number.
+// Returns whether the receipt matches the entry at its number.
 fn is_entry<C: Eq, A: Eq>(receipt: &Receipt<C, A>, journal: &[Entry<C, A>]) -> bool
     ensures { IsTrue result ↔ IsEntry (same_entry C.eq A.eq) journal.now receipt.now }
 {
@@ -257,7 +275,7 @@ fn is_entry<C: Eq, A: Eq>(receipt: &Receipt<C, A>, journal: &[Entry<C, A>]) -> b
     }
 }
 
-// One of the receipts has the number.
+// Returns whether one of the receipts has the number.
 fn any_has_number<C, A>(receipts: &[Receipt<C, A>], number: usize) -> bool
     ensures { result ≡ has_number (λ receipt. receipt.number) number receipts.now }
 {

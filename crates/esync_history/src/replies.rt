@@ -1,4 +1,4 @@
-//! What the acts of tasks answered.
+//! What the acts of tasks were answered.
 ghost use Rattle.std.specs.Prelude.{◌≡◌, ℕ, ◌-◌, ◌<◌, [], map, true, IfOk, length, slice_get, slice_index, slice_set};
 ghost use Rattle.std.specs.Option.{option_copied};
 ghost use Rattle.esync_history.specs.Answered.{noted};
@@ -6,7 +6,7 @@ ghost use Rattle.esync_history.specs.Answered.{noted};
 use std::alloc::{AllocError, Global};
 use std::marker::Model;
 
-/// What each task heard, in order. All that it will hear has room from the start.
+/// The answers that each task heard, in order. Room for all of them is made at the start.
 #[derive(Drop)]
 pub struct Replies<R> {
     heard: Vec<Vec<R>>,
@@ -22,7 +22,11 @@ impl<R> Model for Replies<R> {
 }
 
 impl<R> Replies<R> {
-    /// Nothing heard yet, with room for as many replies of each task as it has acts.
+    /// Returns an empty record, with room for as many replies of each task as it has acts.
+    ///
+    /// # Errors
+    ///
+    /// Returns the error if there is no memory for it.
     pub fn new<A>(alloc: Global, tasks: &[Vec<A>]) -> Result<Self, AllocError>
     where
         R: Drop,
@@ -35,7 +39,7 @@ impl<R> Replies<R> {
         Ok(Replies { heard })
     }
 
-    /// What the task heard, if there is one of this number.
+    /// Returns the answers that the task heard, or `None` if there is no task of this number.
     pub fn get(&self, task: usize) -> Option<&[R]>
         ensures { option_copied result ≡ slice_get self.now.replies task }
     {
@@ -43,7 +47,7 @@ impl<R> Replies<R> {
         Some(heard)
     }
 
-    /// Puts the reply behind those that the task heard.
+    /// Puts the reply behind those that the task heard. There must be room for it.
     pub fn push(&mut self, task: usize, reply: R)
         requires { 0 < slice_index self.old.room task }
         ensures { self.new ≡ record { replies = noted self.old.replies task true reply; room = slice_set self.old.room task (slice_index self.old.room task - 1) } }
@@ -51,7 +55,7 @@ impl<R> Replies<R> {
         self.heard[task].push_reserved(reply);
     }
 
-    /// What each task heard, in the tasks' order.
+    /// Returns the answers that each task heard, in the tasks' order.
     pub fn into_vec(self) -> Vec<Vec<R>>
         ensures { map (λ v. v.items) result.items ≡ self.replies }
     {

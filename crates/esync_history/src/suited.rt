@@ -7,7 +7,7 @@ use crate::executor::Act;
 use esync_base::waitqueue::TaskId;
 use esync_machine::run::Awaits;
 
-// Whether the act awaits the request at the number.
+// Returns whether the act awaits the request at the number.
 fn awaits_at<A, C>(act: &Act<A, C>, r: usize) -> bool
     ensures { result ≡ awaits_at r act.now }
 {
@@ -17,28 +17,29 @@ fn awaits_at<A, C>(act: &Act<A, C>, r: usize) -> bool
     }
 }
 
-// Whether one of the acts does.
+// Returns whether one of the acts awaits the request at the number.
 fn any_awaits_at<A, C>(acts: &[Act<A, C>], r: usize) -> bool
     ensures { result ≡ list_any (awaits_at r) acts.now }
 {
     acts.iter().any(|act| awaits_at(act, r))
 }
 
-// Whether one of the acts of the tasks does.
+// Returns whether one of the tasks' acts awaits the request at the number.
 fn any_task_awaits_at<A, C>(tasks: &[Vec<Act<A, C>>], r: usize) -> bool
     ensures { result ≡ list_any (λ acts. list_any (awaits_at r) acts.items) tasks.now }
 {
     tasks.iter().any(|acts| any_awaits_at(acts, r))
 }
 
-// Whether one of the acts does that come after another: those behind it in its task, and those of the later tasks.
+// Returns whether a later act awaits the request at the number: one behind this act in its task, or one of a later
+// task.
 fn later_awaits_at<A, C>(behind: &[Act<A, C>], later: &[Vec<Act<A, C>>], r: usize) -> bool
     ensures { result ≡ list_any (awaits_at r) (behind.now ++ all_acts (map (λ acts. acts.items) later.now)) }
 {
     any_awaits_at(behind, r) || any_task_awaits_at(later, r)
 }
 
-// The act is suited, before those that come after it.
+// Returns whether the act is suited to the acts that come after it.
 fn is_suited<M: Awaits<Waker = TaskId>>(
     act: &Act<M::Ask, M::Command>,
     behind: &[Act<M::Ask, M::Command>],
@@ -52,7 +53,7 @@ fn is_suited<M: Awaits<Waker = TaskId>>(
     }
 }
 
-// All acts of a task are suited, before those of the later tasks.
+// Returns whether all acts of a task are suited to those of the later tasks.
 fn is_suited_task<M: Awaits<Waker = TaskId>>(
     acts: &[Act<M::Ask, M::Command>],
     later: &[Vec<Act<M::Ask, M::Command>>],
@@ -69,8 +70,8 @@ fn is_suited_task<M: Awaits<Waker = TaskId>>(
     true
 }
 
-/// The tasks are ones that an executor takes: no number is used twice, each is one of the machine's, and no call starts or
-/// polls.
+/// Returns whether an executor takes the tasks: no two Awaits use one number, each number is one of the machine's, and
+/// no Call starts or polls.
 pub fn are_suited<M: Awaits<Waker = TaskId>>(tasks: &[Vec<Act<M::Ask, M::Command>>]) -> bool
     ensures { IsTrue result ↔ AreSuited M.semantics.meaning M.REQS (all_acts (map (λ acts. acts.items) tasks.now)) }
 {

@@ -28,7 +28,7 @@ impl<A, C> Model for Task<A, C> {
 }
 
 impl<A, C> Task<A, C> {
-    /// A task with these acts.
+    /// Returns a task with these acts.
     pub fn new(acts: Vec<Act<A, C>>) -> Self
         ensures { result ≡ fresh acts.items }
     {
@@ -38,28 +38,28 @@ impl<A, C> Task<A, C> {
         }
     }
 
-    /// Its last act is over.
+    /// Returns whether the task's last act is over.
     pub fn has_ended(&self) -> bool
         ensures { result ≡ has_ended self.now }
     {
         self.request.is_none() && self.acts.len() == 0
     }
 
-    /// The number of the request at which it stands.
+    /// Returns the number of the request at which the task stands, if any.
     pub fn request(&self) -> Option<usize>
         ensures { result ≡ self.now.request }
     {
         self.request
     }
 
-    /// Lets it stand at this request, or at none.
+    /// Lets the task stand at this request, or at none.
     pub fn stand_at(&mut self, request: Option<usize>)
         ensures { self.new ≡ record { request = request; acts = self.old.acts } }
     {
         self.request = request;
     }
 
-    /// Takes the next act.
+    /// Takes the task's next act. Returns `None` if no act is left.
     pub fn next_act(&mut self) -> Option<Act<A, C>>
         ensures some { IfSome result (λ act. self.old.acts ≡ act ∷ self.new.acts) }
         ensures none { IfNone result (self.old.acts ≡ []) }
@@ -69,7 +69,11 @@ impl<A, C> Task<A, C> {
     }
 }
 
-/// The tasks with these acts.
+/// Returns the tasks with these acts.
+///
+/// # Errors
+///
+/// Returns the error if there is no memory for them.
 pub fn make_tasks<A: Drop, C: Drop>(
     alloc: Global,
     tasks: Vec<Vec<Act<A, C>>>,
@@ -115,7 +119,7 @@ pub fn queue_all<A, C>(tasks: &[Task<A, C>], queue: &mut Queue)
     }
 }
 
-/// All tasks have ended.
+/// Returns whether all tasks have ended.
 pub fn all_ended<A, C>(tasks: &[Task<A, C>]) -> bool
     ensures { result ≡ list_all has_ended tasks.now }
 {

@@ -1,7 +1,9 @@
-//! For tests: a hand that notes what it is given and one that doesn't, what was handed out, and assertions that are quick to prove.
+//! For tests: a hand that notes the wakers that it is given and a hand that doesn't, and assertions that are quick to
+//! prove.
 //!
-//! `assert!` and `assert_eq!` write a branch into the test, and what lives across branches is most of what a test's proof
-//! costs. [`holds!`](holds!) and [`same!`](same!) make calls in their place, so that a test is proved in half of the time.
+//! `assert!` and `assert_eq!` write a branch into the test, and what lives across branches is most of what a test's
+//! proof costs. [`holds!`](holds!) and [`same!`](same!) make calls in their place, so a test is proved in half of the
+//! time.
 #![tactic(auto)]
 
 use esync_base::waitqueue::{Hand, TaskId, Wakes};
@@ -10,7 +12,7 @@ use std::fmt::{self, Debug, Formatter, InlineText, Write};
 use std::marker::PhantomData;
 use std::sync::Wait;
 
-/// A hand that notes the wakers that it was given, in order. It has room for 8.
+/// A hand that notes the wakers that it is given, in order. It has room for 8.
 #[derive(Drop)]
 pub struct Notes<'a, R> {
     rt: &'a R,
@@ -27,13 +29,14 @@ impl<'a, R: Wait> Notes<'a, R> {
         }
     }
 
-    /// The wakers that it was given, in order, since it was last asked: the first 8 of them.
+    /// Returns the wakers that the hand was given since the last call of `given` or `are`, in order: the first 8 of
+    /// them.
     pub fn given(&self) -> Wakes<u64, 8> {
         self.given.replace(Wakes::new())
     }
 
-    /// Whether it was given just these wakers, in this order, since it was last asked. It wasn't where it was given more than it
-    /// has room for.
+    /// Returns whether the hand was given exactly these wakers, in this order, since the last call of `given` or `are`.
+    /// Returns `false` if it was given more than it has room for.
     pub fn are(&self, wakers: &[u64]) -> bool {
         let given = self.given();
         if self.has_lost.replace(false) || given.len() != wakers.len() {
@@ -66,7 +69,7 @@ impl<R: Wait> Hand<u64> for &Notes<'_, R> {
     }
 }
 
-/// A hand that is made of nothing, and wakes no task. It may wait, as the runtime that it names.
+/// A hand without a value, which wakes no task. It may wait, as the runtime that it names.
 #[derive(Drop)]
 pub struct Deaf<R> {
     runtime: PhantomData<R>,
@@ -102,7 +105,7 @@ impl<R: Wait> Hand<TaskId> for Deaf<R> {
     fn wake(&self, _waker: TaskId) {}
 }
 
-/// Two that should be equal and aren't, as `Debug` shows them.
+/// Two values that should be equal and aren't, as `Debug` shows them.
 pub struct Differ {
     said: InlineText<512>,
 }
@@ -113,11 +116,11 @@ impl Debug for Differ {
     }
 }
 
-/// Whether the two are equal, for [`same!`](same!).
+/// Compares two values, for [`same!`](same!).
 ///
 /// # Errors
 ///
-/// What both are, where they differ.
+/// Returns both values as text if they differ.
 pub fn same<T: PartialEq + Debug>(left: &T, right: &T) -> Result<(), Differ> {
     if *left == *right {
         return Ok(());
@@ -126,7 +129,7 @@ pub fn same<T: PartialEq + Debug>(left: &T, right: &T) -> Result<(), Differ> {
     Err(Differ { said })
 }
 
-/// The condition holds: `assert!` by calls.
+/// Asserts that the condition holds: `assert!` by calls.
 #[macro_export]
 macro_rules! holds {
     ($rt:expr; $cond:expr $(,)?) => {
@@ -138,7 +141,7 @@ macro_rules! holds {
     };
 }
 
-/// The two are equal: `assert_eq!` by calls.
+/// Asserts that two values are equal: `assert_eq!` by calls.
 #[macro_export]
 macro_rules! same {
     ($rt:expr; $left:expr, $right:expr $(,)?) => {
@@ -150,7 +153,7 @@ macro_rules! same {
     };
 }
 
-/// The hand was given these wakers in this order since it was last asked.
+/// Asserts that the hand was given these wakers in this order since it was last asked.
 #[macro_export]
 macro_rules! woken {
     ($rt:expr, $notes:expr, $wakers:expr) => {

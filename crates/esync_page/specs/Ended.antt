@@ -1,9 +1,9 @@
--- Where a script ended.
+-- The outcome of a script.
 use Rattle.std.specs.Prelude.{ℕ, Result, Ok, Err}
 use Rattle.esync_words.specs.declared.fault.Fault.{Fault}
 use Rattle.esync_words.specs.declared.fault.Fault.TheVariants.{NotACommand, InputOutput, OutOfMemory}
 
--- the line that is no command, or 0
+-- the number of the line that is no command, or 0
 abbrev pub line_of : Result (Unit {0}) Fault → ℕ
 line_of (Ok _) = 0
 line_of (Err (NotACommand number)) = number

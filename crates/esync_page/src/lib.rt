@@ -1,7 +1,7 @@
-//! What a page in a browser calls: a script is played, or explained, in memory that the page lends.
+//! The calls of a page in a browser: a script is played, or explained, in memory that the page lends.
 //!
-//! Nothing is allocated, and nothing is imported from the page. The page grows the module's memory, puts a text there, and lends it with
-//! rows for what is written and a place for the number of a line.
+//! Nothing is allocated, and nothing is imported from the page. The page grows the module's memory, puts a text there,
+//! and lends it with rows for the output and a place for the number of a line.
 //!
 //! | Status | The script | `line` |
 //! |---|---|---|
@@ -23,24 +23,29 @@ use esync_words::play::{Replies, Telling};
 
 pub mod row;
 
-/// Plays a script, and writes its answers. `play_into` says what is proved of them.
+/// Plays a script, writes its answers into a row, and returns its status. `play_into` says what is proved of the
+/// answers.
 #[unsafe(no_mangle)]
 pub extern "C" fn play(text: &[u8], answers: &mut Row, line: &mut u64) -> u8 {
     ended(play_into(text, answers), line)
 }
 
-/// Plays a script, and writes each line with its number and its answer. To `notes` it writes why each waker was handed out, who is
-/// registered then, and what requests and questions would hear, each note behind the number of its line. `explain_into` says what is
-/// proved of the answers.
+/// Plays a script, writes each line with its number and its answer into a row, and returns its status. To `notes` it
+/// writes why each waker was handed out, which wakers are registered then, and what requests and questions would hear,
+/// each note behind the number of its line. `explain_into` says what is proved of the answers.
 #[unsafe(no_mangle)]
 pub extern "C" fn explain(text: &[u8], answers: &mut Row, notes: &mut Row, line: &mut u64) -> u8 {
     ended(explain_into(text, answers, notes), line)
 }
 
-/// Plays a script, and writes its answers into the row, in the place of what it had.
+/// Plays a script, and writes its answers into the row, whose old bytes are forgotten.
 ///
-/// The commands are those that the lines say, the replies are a run of the primitive that line 1 names, and the answers are their text.
-/// An error says which line is no command, or that the row has no room.
+/// The commands are those that the lines say, the replies are a run of the primitive that line 1 names, and the answers
+/// are their text.
+///
+/// # Errors
+///
+/// Returns which line is no command, or that the row has no room.
 pub fn play_into(text: &[u8], answers: &mut Row) -> Result<(), Fault>
     ensures plays { PlaysScript ⟦<u64 as PartialEq>⟧.eq ⟦<Max as Kind<u32>>⟧.above ⟦<Min as Kind<u32>>⟧.above ⟦<Replies as Telling>⟧.story (Some text.now) (Some []) (Some (take answers.new.len answers.new.bytes)) result }
     ensures err { IfErr result (λ fault. fault ≡ Fault.InputOutput → ⊥) }
@@ -52,8 +57,12 @@ pub fn play_into(text: &[u8], answers: &mut Row) -> Result<(), Fault>
     }
 }
 
-/// Plays a script, and writes its lines with their answers into a row, in the place of what it had, and notes into another, each behind
-/// the number of its line. No contract speaks of the notes.
+/// Plays a script, and writes its lines with their answers into a row, whose old bytes are forgotten. Writes the notes
+/// into the row `notes`, each behind the number of its line. No contract speaks of the notes.
+///
+/// # Errors
+///
+/// Returns which line is no command, or that a row has no room.
 pub fn explain_into<'n>(text: &[u8], answers: &mut Row, notes: &'n mut Row) -> Result<(), Fault>
     ensures plays { PlaysScript ⟦<u64 as PartialEq>⟧.eq ⟦<Max as Kind<u32>>⟧.above ⟦<Min as Kind<u32>>⟧.above ⟦<Explained<&'n mut Row> as Telling>⟧.story (Some text.now) (Some []) (Some (take answers.new.len answers.new.bytes)) result }
     ensures err { IfErr result (λ fault. fault ≡ Fault.InputOutput → ⊥) }
@@ -74,7 +83,7 @@ fn play_row<T: Telling>(telling: &mut T, text: &[u8], row: &mut Row) -> Result<(
     play_bytes(telling, text, row)
 }
 
-// The status of a script that ended so, and the number of the line that is no command, or 0.
+// Returns the status of a script with this outcome, and stores the number of the line that is no command, or 0.
 fn ended(outcome: Result<(), Fault>, line: &mut u64) -> u8
     ensures status { result ≡ status_of_outcome outcome }
     ensures line { line.new ≡ line_of outcome }

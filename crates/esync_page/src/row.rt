@@ -5,7 +5,7 @@ ghost use Rattle.std.specs.Io.KnownBytes.{WriteAppends, Keeps};
 
 use std::io::{self, Write};
 
-/// How many bytes a row has.
+/// The number of bytes of a row.
 pub const ROOM: usize = 1 << 20;
 
 /// A row of bytes, of which the first `len` are written. A write that finds no room fails.
@@ -19,14 +19,14 @@ pub struct Row {
 }
 
 impl Row {
-    /// Forgets what was written.
+    /// Forgets the bytes that were written.
     pub fn clear(&mut self)
         ensures { take self.new.len self.new.bytes ≡ [] }
     {
         self.len = 0;
     }
 
-    /// What is written.
+    /// Returns the bytes that were written.
     pub fn written(&self) -> &[u8]
         ensures { result.now ≡ take self.now.len self.now.bytes }
     {
@@ -34,7 +34,7 @@ impl Row {
     }
 }
 
-// Copies as many bytes as both have, and returns how many.
+// Copies as many bytes as fit in the target, and returns how many.
 fn copy_prefix(from: &[u8], to: &mut [u8]) -> usize
     ensures count { result ≡ min (length from.now) (length to.old) }
     ensures copied { to.new ≡ take result from.now ++ drop result to.old }

@@ -1,4 +1,4 @@
--- A pub-sub channel as the answers of its commands tell it: what is asked for is known, and an answer tells what came of it.
+-- A pub-sub channel as its answers tell it: the account knows what each request asks, and an answer tells its outcome.
 use Rattle.std.specs.Prelude.{ℕ, suc, ◌-◌, List, [], ◌∷◌, Option, Some, None, Ok, slice_set, if◌then◌else◌}
 use Rattle.esync_machine.specs.Account.{ask_of}
 use Rattle.esync_machine.specs.declared.primitive.Answer.{Answer}
@@ -15,18 +15,18 @@ use Rattle.esync_pubsub.specs.declared.pubsub.machine.PubSubCall.TheVariants.{Jo
 use Rattle.esync_pubsub.specs.declared.pubsub.machine.PubSubHeard.{PubSubHeard}
 use Rattle.esync_pubsub.specs.declared.pubsub.machine.PubSubHeard.TheVariants.{Published, Read, ReadPure, Streamed, Came, TriedPublish, PublishedAtOnce, Tried, TriedPure}
 
--- the least place where nobody is
+-- the least place where no subscriber stands
 abbrev pub least_free : List (Option ℕ) → ℕ
 least_free [] = 0
 least_free (None ∷ ps) = 0
 least_free (Some p ∷ ps) = suc (least_free ps)
 
 module _ {T : Type 0} where
-  -- how many messages are gone that the subscriber with the number has still not read
+  -- how many messages left before the subscriber with the number s read them
   abbrev pub gone : ℕ → Topic T → ℕ
   gone s o = oldest o.log - position (place_at s o) o.log
 
-  -- with an accepted message, for which the second log has made room: without subscribers it is let go
+  -- the log after an accepted message, for which room was made; without subscribers the message is dropped
   abbrev pub accepted : T → Log T → Log T → Log T
   accepted message log room = if has_subscribers log then published message room else log
 
@@ -34,7 +34,7 @@ module _ {T : Type 0} where
   abbrev pub read_on_log : ℕ → Log T → Option T → Log T
   read_on_log place log given = read_log place (caught place log) (found given)
 
-  -- the log after a poll of a request for this
+  -- the log after a poll of a request
   abbrev pub log_after_poll : Topic T → PubSubAsk T → Answer (PubSubHeard T) → Log T
   log_after_poll o (Publish p message) (Gives (Published (Ok done))) = accepted message o.log o.log
   log_after_poll o (Message s) (Gives (Read answer)) = read_log (place_at s o) o.log (Some answer)
@@ -50,7 +50,7 @@ module _ {T : Type 0} where
 
   -- where at most cap messages are held
   module _ (cap : ℕ) where
-    -- who comes reads on from the next number, at the least free place
+    -- a subscriber that comes reads on from the next number, at the least free place
     abbrev pub topic_after_call : Topic T → PubSubCall T → Answer (PubSubHeard T) → Topic T
     topic_after_call o (Join s) (Gives (Came (Ok done))) =
         let place = least_free o.log.positions in record o { log = moved place o.log.next o.log; subscribers = slice_set o.subscribers s (Some place) }
@@ -64,7 +64,7 @@ module _ {T : Type 0} where
     topic_after_call o Clear Done = record o { log = cleared o.log }
     topic_after_call o call a = o
 
-    -- the channel after a command, where requests were started for this
+    -- the channel after a command; the list says what each request asks
     abbrev pub topic_after : {W : Type 0} → List (ℕ × PubSubAsk T) → Topic T → Command (PubSubAsk T) W (PubSubCall T) → Answer (PubSubHeard T) → Topic T
     topic_after asked o (Start r ask) a = o
     topic_after asked o (Poll r w) a = topic_after_poll o (ask_of asked r) a

@@ -1,5 +1,5 @@
--- A subscriber reads what was published since it came, in order, but for just the messages that were gone: told of the channel and its
--- requests at first, and of the commands and their answers.
+-- A subscriber reads the messages published since it came, in order, except those that left before it read them. This
+-- follows from the channel and its requests at first, and from the commands and their answers.
 use Rattle.std.specs.Prelude.{◌≡◌, ℕ, ◌+◌, ◌-◌, ◌<◌, ◌≤◌, ◌==◌, ◌⊎◌, true, List, [], ◌∷◌, ◌++◌, length, drop, Option, Some, None, IfSome, Ok, if◌then◌else◌}
 use Rattle.esync_machine.specs.Account.{account, AtEach, ask_of, asked_from, asked_after}
 use Rattle.esync_machine.specs.declared.run.Reply.{Reply}
@@ -30,45 +30,45 @@ pub record Reading (T : Type 0) : Type 0 where
 pub record Told (T : Type 0) : Type 0 where
   -- the messages that were published, in order
   pub published : List T
-  -- what it was told, in order
+  -- what the subscriber was told, in order
   pub readings : List (Reading T)
 
--- what is known from the channel and its requests at first and from the commands and answers, for one subscriber
+-- what one subscriber's account knows: from the channel and its requests at first, and from the commands and answers
 pub record Account (T : Type 0) : Type 0 where
-  -- what each request was started for
+  -- what each request asks
   pub asked : List (ℕ × PubSubAsk T)
   -- the channel, as the answers tell it
   pub topic : Topic T
-  -- nothing where the subscriber didn't come, or left
+  -- None if the subscriber didn't come, or left
   pub told : Option (Told T)
 
 -- the channel of a machine
 abbrev pub topic_in : {T W : Type 0} → Eventing (PubSub T W) → Topic T
 topic_in e = topic_of e.state e.tables
 
--- with one more behind the others, if there is one
+-- the list with the optional item behind it
 abbrev pub and : {A : Type 0} → List A → Option A → List A
 and xs None = xs
 and xs (Some x) = xs ++ x ∷ []
 
 module _ {T : Type 0} where
-  -- the message that was published by a poll of a request for this
+  -- the message that a poll of a request published
   abbrev pub published_by_poll : Option (PubSubAsk T) → Answer (PubSubHeard T) → Option T
   published_by_poll (Some (Publish p message)) (Gives (Published (Ok done))) = Some message
   published_by_poll _ _ = None
 
-  -- and by a call
+  -- the message that a call published
   abbrev pub published_by_call : PubSubCall T → Answer (PubSubHeard T) → Option T
   published_by_call (TryPublish p message) (Gives (TriedPublish (Ok done))) = Some message
   published_by_call (Immediate message) (Gives (PublishedAtOnce (Ok done))) = Some message
   published_by_call _ _ = None
 
-  -- the message that a plain read gives: none where it tells of a lag
+  -- the message that a plain read gives: none if it tells of a lag
   abbrev pub given_by : WaitResult T → Option T
   given_by (Lagged k) = None
   given_by (Given message) = Some message
 
-  -- each read passes over the messages that are gone, whatever it answers
+  -- a read passes over the n messages that are gone, whatever it answers
   abbrev pub reading_of : ℕ → Option T → Reading T
   reading_of n given = record { skipped = n; given = given }
 
@@ -81,12 +81,12 @@ module _ {T : Type 0} where
   heard_by_poll n (Stream t) Pending = Some (reading_of n None)
   heard_by_poll n _ _ = None
 
-  -- with a message that was published, and a reading
+  -- what a subscriber knows, with one more published message and one more reading
   abbrev pub more : Option T → Option (Reading T) → Option (Told T) → Option (Told T)
   more message reading None = None
   more message reading (Some k) = Some (record { published = and k.published message; readings = and k.readings reading })
 
-  -- what is told to the subscriber with the number s, for whom n messages are gone
+  -- what a poll or a call tells the subscriber with the number s, for whom n messages are gone
   module _ (s n : ℕ) where
     abbrev pub read_by_poll : Option (PubSubAsk T) → Answer (PubSubHeard T) → Option (Reading T)
     read_by_poll None a = None
@@ -97,7 +97,7 @@ module _ {T : Type 0} where
     read_by_call (NextPure t) (Gives (TriedPure given)) = if s == t then Some (reading_of n given) else None
     read_by_call _ _ = None
 
-    -- who comes knows of nothing, and who leaves is gone
+    -- a subscriber that comes has read nothing, and one that leaves is known no more
     abbrev pub told_by_call : Option (Told T) → PubSubCall T → Answer (PubSubHeard T) → Option (Told T)
     told_by_call told (Join t) (Gives (Came (Ok done))) = if s == t then Some (record { published = []; readings = [] }) else told
     told_by_call told (Leave t) Done = if s == t then None else told
@@ -117,17 +117,17 @@ module _ {T : Type 0} where
   abbrev pub known_at_first : List (Option (PubSubAsk T)) → Topic T → Account T
   known_at_first requests o = record { asked = asked_from 0 requests; topic = o; told = None }
 
-  -- those behind the one that is given
+  -- the messages behind the one that was given, or all of them if none was
   abbrev pub behind : Option T → List T → List T
   behind None messages = messages
   behind (Some message) messages = drop 1 messages
 
-  -- the messages from the position at the place on: as many as there are up to the next number, and those of them that are held are their end
+  -- the messages from the subscriber's position on: their count reaches the next number, and those still held end them
   pub record AreUnread (place : ℕ) (log : Log T) (unread : List T) : Type 0 where
     pub count : position place log + length unread ≡ log.next
     pub held : drop (position place log - oldest log) log.held ≡ drop (oldest log - position place log) unread
 
-  -- how many messages are unread, where an answer tells the subscriber with the number s: so many, or that there is none
+  -- the number of messages that, by an answer, the subscriber with the number s has not read: 0 if a read finds none
   module _ (s : ℕ) where
     abbrev pub unread_by_poll : Option (PubSubAsk T) → Answer (PubSubHeard T) → Option ℕ
     unread_by_poll (Some (Message t)) Pending = if s == t then Some 0 else None
@@ -144,12 +144,12 @@ module _ {T : Type 0} where
     unread_told k (End r) a = None
     unread_told k (Call call) a = unread_by_call call a
 
-  -- a plain read for which n messages are gone: where any are it tells of a lag of n, and it gives a message only where none is
+  -- a plain read with n messages gone: it tells of a lag of exactly n if n isn't 0, and else gives a message
   abbrev pub IsExact : ℕ → WaitResult T → Type 0
   IsExact n (Lagged k) = (0 < n) × (k ≡ n)
   IsExact n (Given message) = n ≡ 0
 
-  -- a poll of a request tells its subscriber exactly how many messages are gone: none where a stream gives one, and a pure read doesn't tell
+  -- a poll tells exactly how many messages are gone: a stream gives one only if none is, and a pure read doesn't tell
   abbrev pub IsExactPoll : Topic T → Option (PubSubAsk T) → Answer (PubSubHeard T) → Type 0
   IsExactPoll o (Some (Message t)) (Gives (Read answer)) = IsExact (gone t o) answer
   IsExactPoll o (Some (Stream t)) (Gives (Streamed (Some message))) = IsExact (gone t o) (Given message)
@@ -160,7 +160,7 @@ module _ {T : Type 0} where
   IsExactCall o (Next t) (Gives (Tried (Some answer))) = IsExact (gone t o) answer
   IsExactCall o _ _ = Unit {0}
 
-  -- an answer tells exactly how many messages are gone, of the channel that the answers before it tell
+  -- each answer tells exactly how many messages are gone, of the channel that the answers before it tell
   abbrev pub TellsGone : {W : Type 0} → Account T → Command (PubSubAsk T) W (PubSubCall T) → Answer (PubSubHeard T) → Type 0
   TellsGone k (Start r ask) a = Unit {0}
   TellsGone k (Poll r w) a = IsExactPoll k.topic (ask_of k.asked r) a
@@ -168,13 +168,13 @@ module _ {T : Type 0} where
   TellsGone k (Call call) a = IsExactCall k.topic call a
 
   module _ (IsClone : T → T → Type 0) where
-    -- the message in front is given itself, or as a clone
+    -- a read gives the front message itself, or a clone of it
     abbrev pub IsGiven : Option T → List T → Type 0
     IsGiven None messages = Unit {0}
     IsGiven (Some given) [] = ⊥
     IsGiven (Some given) (message ∷ messages) = (given ≡ message) ⊎ IsClone message given
 
-    -- the readings tell of the first of the messages that were published, in order, and the others are unread
+    -- the readings tell of the first published messages, in order, and the rest is unread
     abbrev pub Follow : List T → List (Reading T) → List T → Type 0
     Follow published [] unread = unread ≡ published
     Follow published (x ∷ readings) unread =
@@ -183,33 +183,33 @@ module _ {T : Type 0} where
     -- the subscriber is here, and has read up to its position
     pub record HasRead (s : ℕ) (o : Topic T) (k : Told T) : Type 0 where
       pub here : is_subscriber s o ≡ true
-      -- the messages that it has neither read nor passed over
+      -- the messages that the subscriber has neither read nor passed over
       pub unread : List T
       pub follow : Follow k.published k.readings unread
       pub rest : AreUnread (place_at s o) o.log unread
 
-    -- where the subscriber is known to be here: what it was given since it came, each message itself or a clone, and what was gone when it
-    -- read, are in order what was published since then, up to its position
+    -- while the subscriber is here, the messages that it was given or passed over since it came, each itself or a
+    -- clone, are in order the messages published since then, up to its position
     abbrev pub IsInOrder : ℕ → Account T → Type 0
     IsInOrder s k = IfSome k.told (λ t. HasRead s k.topic t)
 
-    -- of a channel o with these requests at first, of at most cap messages, and o2 at last: the answers tell o2, and the subscriber with the
-    -- number s has read in order at last, and before each command, so also where it leaves
+    -- a run over a channel o, to o2: the answers tell o2, and the subscriber with the number s has read in order at the
+    -- end and before each command, so also before the one by which it leaves
     abbrev pub ReadsInOrder : {W : Type 0} {K : ℕ} → ℕ → ℕ → List (Option (PubSubAsk T)) → Topic T → List (Command (PubSubAsk T) W (PubSubCall T)) → List (Reply (Answer (PubSubHeard T)) W K) → Topic T → Type 0
     ReadsInOrder cap s requests o commands replies o2 =
         let first = known_at_first requests o in
         let last = account (λ k c a. after cap s k c a.answer) first commands replies in
         (last.topic ≡ o2) × IsInOrder s last × AtEach (λ k c a. after cap s k c a.answer) (λ k c a. IsInOrder s k) first commands replies
 
-    -- so many messages are unread
+    -- the subscriber has n unread messages
     abbrev pub HasUnread : ℕ → Told T → Type 0
     HasUnread n k = (unread : List T) × Follow k.published k.readings unread × (length unread ≡ n)
 
-    -- an answer that tells the subscriber how much is unread, or that there is nothing, is so
+    -- if an answer tells the subscriber a number of unread messages, that number is right
     abbrev pub TellsUnread : {W : Type 0} → ℕ → Account T → Command (PubSubAsk T) W (PubSubCall T) → Answer (PubSubHeard T) → Type 0
     TellsUnread s k c a = IfSome (unread_told s k c a) (λ n. IfSome k.told (HasUnread n))
 
-    -- of a channel o with these requests at first: each answer tells truly how much is unread, and how much is gone
+    -- a run over a channel o: each answer tells truly how many messages are unread, and how many are gone
     abbrev pub CountsAreTrue : {W : Type 0} {K : ℕ} → ℕ → ℕ → List (Option (PubSubAsk T)) → Topic T → List (Command (PubSubAsk T) W (PubSubCall T)) → List (Reply (Answer (PubSubHeard T)) W K) → Type 0
     CountsAreTrue cap s requests o commands replies =
         AtEach (λ k c a. after cap s k c a.answer) (λ k c a. TellsUnread s k c a.answer × TellsGone k c a.answer) (known_at_first requests o) commands replies

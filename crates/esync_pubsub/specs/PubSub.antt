@@ -1,4 +1,4 @@
--- A pub-sub channel: its log, how many publishers are counted, and who waits.
+-- A pub-sub channel: its log, how many publishers are counted, and the wakers of the tasks that wait.
 use Rattle.std.specs.Prelude.{◌≡◌, ℕ, ◌+◌, ◌<◌, Bool, true, false, List, [], ◌∷◌, length, Option, Some, None, Result, Ok, Err, nat_lt, replicate, refl}
 use Rattle.std.specs.Coded.{Coded, code_by, coded×, coded_ℕ, coded_list}
 use Rattle.esync_base.specs.Registration.{registered, displaced, registered_if, displaced_if}
@@ -11,7 +11,7 @@ use Rattle.esync_log.specs.declared.log.Exhausted.{Exhausted as NoNumber}
 use Rattle.esync_pubsub.specs.declared.pubsub.Error.{Error}
 use Rattle.esync_pubsub.specs.declared.pubsub.Error.TheVariants.{MaximumSubscribersReached, MaximumPublishersReached}
 
--- who waits for a message, and who waits for room
+-- the wakers of the tasks that wait for a message, and of those that wait for room
 pub record Lists (W : Type 0) : Type 0 where
   pub subscribers : List W
   pub publishers : List W
@@ -30,7 +30,7 @@ abbrev pub pubsub_code : {T W : Type 0} → Coded T → Coded W → Coded (PubSu
 pubsub_code {T} {W} t w =
     code_by (Log T × (ℕ × Lists W)) (coded× (log_code t) (coded× coded_ℕ (lists_code w))) (λ s. (s.log, (s.publishers, s.lists))) (λ p. record { log = p.0; publishers = p.1.0; lists = p.1.1 }) (λ _. refl)
 
--- a channel in which nobody was, with this many places for subscribers
+-- an empty channel with this many places for subscribers, whose first message has the number next
 abbrev pub fresh : {T W : Type 0} → ℕ → ℕ → PubSub T W
 fresh places next = record { log = record { held = []; next = next; positions = replicate places None }; publishers = 0; lists = record { subscribers = []; publishers = [] } }
 
@@ -40,23 +40,23 @@ Subscribes log (Ok place) log2 = Joins log (Some place) log2
 Subscribes log (Err MaximumSubscribersReached) log2 = Joins log None log2
 Subscribes log (Err MaximumPublishersReached) log2 = ⊥
 
--- one more publisher is counted, or as many are as may be
+-- one more publisher is counted, unless the greatest number is
 abbrev pub Adds : ℕ → ℕ → Result (Unit {0}) Error → ℕ → Type 0
 Adds most n (Ok done) n2 = (n < most) × (n2 ≡ n + 1)
 Adds most n (Err MaximumSubscribersReached) n2 = ⊥
 Adds most n (Err MaximumPublishersReached) n2 = (n ≡ most) × (n2 ≡ n)
 
--- fewer messages are held in the second log
+-- the second log holds fewer messages
 abbrev pub frees : {T : Type 0} → Log T → Log T → Bool
 frees log log2 = nat_lt (length log2.held) (length log.held)
 
--- what a poll of a request answers, as its publish: Pending where there is no room
+-- a poll's answer as the result of a publish: Pending means that there is no room
 abbrev pub tried : {T : Type 0} → T → Poll (Result (Unit {0}) (NoNumber T)) → Result (Unit {0}) (TryPublishError T)
 tried message (Ready (Ok done)) = Ok done
 tried message (Ready (Err refused)) = Err (Exhausted refused.0)
 tried message Pending = Err (Full message)
 
--- what is still to be published
+-- the message that is still to be published
 abbrev pub still : {T A : Type 0} → T → Poll A → Option T
 still message (Ready a) = None
 still message Pending = Some message
@@ -67,7 +67,7 @@ GivesBack message (Ready (Ok done)) = Unit {0}
 GivesBack message (Ready (Err back)) = back.0 ≡ message
 GivesBack message Pending = Unit {0}
 
--- what a poll of a sink answers, and what it stores then: nothing stored is nothing to publish
+-- what a poll of a sink answers, and the message that it stores afterwards; a sink that stores none is ready
 abbrev pub Flushes : {T : Type 0} → Option T → Poll (Result (Unit {0}) (NoNumber T)) → Option T → Type 0
 Flushes None (Ready (Ok done)) rest = rest ≡ None
 Flushes None (Ready (Err refused)) rest = ⊥
@@ -98,7 +98,7 @@ module _ {W : Type 0} where
   wakes_of_room true l = l.publishers
   wakes_of_room false l = []
 
-  -- a message that is published at once is accepted, or refused
+  -- the lists after a message is published at once
   abbrev pub lists_after_immediate : {A E : Type 0} → Bool → Result A E → Lists W → Lists W
   lists_after_immediate live (Ok done) l = lists_after_news live l
   lists_after_immediate live (Err e) l = l

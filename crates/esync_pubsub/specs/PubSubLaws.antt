@@ -15,12 +15,12 @@ use Rattle.esync_pubsub.specs.declared.pubsub.machine.PubSubAsk.TheVariants.{Pub
 use Rattle.esync_pubsub.specs.declared.pubsub.machine.PubSubHeard.{PubSubHeard}
 use Rattle.esync_pubsub.specs.declared.pubsub.machine.PubSubHeard.TheVariants.{Published, Read, ReadPure, Streamed}
 
--- who has read all that was published doesn't lag
+-- a subscriber that has read all messages doesn't lag
 pub no_lag : {T : Type 0} (place : ℕ) (log : Log T) → position place log ≡ log.next → lags place log ≡ false
 no_lag place log e = grind (arith, nat_tests)
 
 module _ {T : Type 0} (C : T → T → Type 0) (I : T → Type 0) (cap : ℕ) where
-  -- in a log where nothing changes
+  -- a poll of a request that is owed its waker may be Pending and keep the log
   idle_log : {W : Type 0} (eq : W → W → Bool) (o : Topic T) (l : Lists W) (ask : PubSubAsk T) (w : W) → OwesFor eq cap o l ask w → PollsLog C I cap o ask Pending o.log
   idle_log eq o l (Publish p message) w h = (h.0, h.1, refl, refl)
   idle_log eq o l (Message s) w h = (h.0, refl)
@@ -37,7 +37,7 @@ module _ {T : Type 0} (C : T → T → Type 0) (I : T → Type 0) (cap : ℕ) wh
   pubsub_idle pubs eq o l ask w f h =
       (subst (λ b. Where b o (PollsLog C I cap o ask Pending o.log × WithLog o o) Pending o) (sym f) (idle_log eq o l ask w h, refl), refl)
 
-  -- what a log allows of a poll where it allows Pending with nothing changed
+  -- the answer is Pending, and the log stays
   abbrev pub Idles : Log T → Answer (PubSubHeard T) → Log T → Type 0
   Idles log a log2 = (a ≡ Pending) × (log2 ≡ log)
 
@@ -71,12 +71,12 @@ module _ {T : Type 0} (C : T → T → Type 0) (I : T → Type 0) (cap : ℕ) wh
   pending_pure place log log2 NoMemory h j = absurd (omega (arith, h.0, j.0, same_next (lags place log) place log))
   pending_pure place log log2 a h j = absurd j
 
-  -- a stream that hears nothing new has read all, or is where its lag leaves it
+  -- a stream that hears nothing new has read all messages, or is where its lag leaves it
   waits_log : (b : Bool) (k place : ℕ) (log log2 : Log T) → Reads C place log (gap b k) log → Reads C place log (gap b k) log2 → log2 ≡ log
   waits_log true k place log log2 h j = j.2 ∙ sym h.2
   waits_log false k place log log2 h j = j.1
 
-  -- and else it reads nothing
+  -- a subscriber that doesn't lag and has a message to read hears something new
   nothing_read : (b : Bool) (k place : ℕ) (log : Log T) → Reads C place log (gap b k) log → position place log < log.next → oldest log ≤ position place log → ⊥
   nothing_read true k place log h below from = omega (arith, h.0)
   nothing_read false k place log h below from = omega (arith, h.0)

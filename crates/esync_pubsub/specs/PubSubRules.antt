@@ -1,4 +1,4 @@
--- What a pub-sub channel allows, and which wakers it hands out: for each request and each call.
+-- What a pub-sub channel allows, and which wakers it hands out, for each request and each call.
 use Rattle.std.specs.Prelude.{◌≡◌, ℕ, ◌+◌, ◌-◌, ◌<◌, ◌==◌, ◌&&◌, Bool, true, false, List, length, Option, Some, None, is_some, Result, Ok, Err, slice_get, slice_set}
 use Rattle.esync_base.specs.Registration.{IsAmong}
 use Rattle.esync_base.specs.declared.waitqueue.Poll.{Poll}
@@ -25,7 +25,7 @@ use Rattle.esync_pubsub.specs.declared.pubsub.machine.PubSubCall.TheVariants.{Jo
 use Rattle.esync_pubsub.specs.declared.pubsub.machine.PubSubHeard.{PubSubHeard}
 use Rattle.esync_pubsub.specs.declared.pubsub.machine.PubSubHeard.TheVariants.{Published, Read, ReadPure, Streamed, Came, TriedPublish, PublishedAtOnce, Tried, TriedPure, Unread, Number}
 
--- the object: the log, the place of each subscriber that has a number, and the numbers of the publishers
+-- the object: the log, the place of each numbered subscriber, and the numbers of the publishers
 pub record Topic (T : Type 0) : Type 0 where
   pub log : Log T
   pub subscribers : List (Option ℕ)
@@ -34,12 +34,12 @@ pub record Topic (T : Type 0) : Type 0 where
 abbrev pub topic_of : {T W : Type 0} → PubSub T W → Tables → Topic T
 topic_of s t = record { log = s.log; subscribers = t.subscribers; publishers = t.publishers }
 
--- nobody stands at the place, which is there
+-- the place exists and is free
 abbrev pub is_place : {N : Type 0} → Option (Option N) → Bool
 is_place (Some None) = true
 is_place _ = false
 
--- the number is one of the table, and free
+-- the number stands in the table, and is free
 abbrev pub is_free : {N : Type 0} → ℕ → List (Option N) → Bool
 is_free r names = is_place (slice_get names r)
 
@@ -60,26 +60,26 @@ module _ {T : Type 0} where
   abbrev pub is_publisher : ℕ → Topic T → Bool
   is_publisher p o = is_some (at_number o.publishers p)
 
-  -- the request is one of whom the number names
+  -- the request's subscriber or publisher is here
   abbrev pub names_it : PubSubAsk T → Topic T → Bool
   names_it (Publish p message) o = is_publisher p o
   names_it (Message s) o = is_subscriber s o
   names_it (MessagePure s) o = is_subscriber s o
   names_it (Stream s) o = is_subscriber s o
 
-  -- the request is one of the subscriber
+  -- the request belongs to the subscriber
   abbrev pub is_of_subscriber : ℕ → PubSubAsk T → Bool
   is_of_subscriber s (Publish p message) = false
   is_of_subscriber s (Message t) = s == t
   is_of_subscriber s (MessagePure t) = s == t
   is_of_subscriber s (Stream t) = s == t
 
-  -- the request is one of the publisher
+  -- the request belongs to the publisher
   abbrev pub is_of_publisher : ℕ → PubSubAsk T → Bool
   is_of_publisher p (Publish q message) = p == q
   is_of_publisher p _ = false
 
-  -- who leaves or retires ends its requests
+  -- a subscriber that leaves, or a publisher that retires, ends its requests
   abbrev pub leaves : Topic T → PubSubCall T → PubSubAsk T → Bool
   leaves o (Leave s) ask = is_subscriber s o && is_of_subscriber s ask
   leaves o (Retire p) ask = is_publisher p o && is_of_publisher p ask
@@ -89,12 +89,12 @@ module _ {T : Type 0} where
   abbrev pub WithLog : Topic T → Topic T → Type 0
   WithLog o o2 = o2 ≡ record o { log = o2.log }
 
-  -- what is done where the command names who is there, or a number that is free, and else nothing
+  -- a command acts if the subscriber, the publisher or the free number that it names is there, and else changes nothing
   abbrev pub Where : Bool → Topic T → Type 0 → Answer (PubSubHeard T) → Topic T → Type 0
   Where true o Does a o2 = Does
   Where false o Does a o2 = (a ≡ NoSuch) × (o2 ≡ o)
 
-  -- a start names whom there is
+  -- a start is refused unless its subscriber or publisher is here
   abbrev pub Begins : Bool → PubSubAsk T → Option (PubSubAsk T) → Type 0
   Begins true ask p = p ≡ Some ask
   Begins false ask p = p ≡ None
@@ -104,18 +104,18 @@ module _ {T : Type 0} where
   rest_of ask (Gives heard) = None
   rest_of ask _ = Some ask
 
-  -- the log after a read that answers so
+  -- the log after a read with this answer
   abbrev pub read_log : ℕ → Log T → Option (WaitResult T) → Log T
   read_log place log None = log
   read_log place log (Some (Lagged k)) = moved place (oldest log) log
   read_log place log (Some (Given v)) = settled (moved place (position place log + 1) log)
 
-  -- what is read, if anything, has a number below the next
+  -- a message that was read has a number below the next
   abbrev pub IsBelow : {A : Type 0} → Option A → ℕ → Log T → Type 0
   IsBelow None n log = Unit {0}
   IsBelow (Some answer) n log = n < log.next
 
-  -- what is answered, as a publish, as a read, as a pure read and as a poll of a stream
+  -- an answer as the result of a publish, a read, a pure read or a poll of a stream
   abbrev pub publish_of : T → Answer (PubSubHeard T) → Result (Unit {0}) (TryPublishError T)
   publish_of message (Gives (Published result)) = tried message (Ready result)
   publish_of message (Gives (TriedPublish result)) = result
@@ -139,25 +139,25 @@ module _ {T : Type 0} where
   stream_of (Gives (Streamed answer)) = Ready answer
   stream_of _ = NotYet
 
-  -- a subscriber comes under the number, or all places are taken
+  -- a subscriber comes under the number, unless all places are taken
   abbrev pub Comes : ℕ → Topic T → Answer (PubSubHeard T) → Topic T → Type 0
   Comes s o (Gives (Came (Ok done))) o2 =
       (place : ℕ) × Subscribes o.log (Ok place) o2.log × (o2 ≡ record { log = o2.log; subscribers = slice_set o.subscribers s (Some place); publishers = o.publishers })
   Comes s o (Gives (Came (Err e))) o2 = Subscribes o.log (Err e) o2.log × WithLog o o2
   Comes s o _ o2 = ⊥
 
-  -- one more publisher is counted, under the number, or as many are as may be
+  -- one more publisher is counted, under the number, unless the greatest number is
   abbrev pub Counts : ℕ → ℕ → Topic T → Answer (PubSubHeard T) → Topic T → Type 0
   Counts pubs p o (Gives (Came (Ok done))) o2 = (used o.publishers < pubs) × (o2 ≡ record o { publishers = slice_set o.publishers p (Some tt) })
   Counts pubs p o (Gives (Came (Err MaximumPublishersReached))) o2 = (used o.publishers ≡ pubs) × (o2 ≡ o)
   Counts pubs p o _ o2 = ⊥
 
-  -- without the subscriber, whose number is free
+  -- the channel after the subscriber left, whose number is then free
   abbrev pub departed : ℕ → Topic T → Topic T
   departed s o = record { log = left (place_at s o) o.log; subscribers = slice_set o.subscribers s None; publishers = o.publishers }
 
 module _ {T : Type 0} (cap : ℕ) where
-  -- a publish that waits for room
+  -- a poll of a publish, which is Pending while there is no room
   abbrev pub PollsPublish : T → Log T → Answer (PubSubHeard T) → Log T → Type 0
   PollsPublish message log Pending log2 = Publishes cap message log (tried message NotYet) log2
   PollsPublish message log (Gives (Published result)) log2 = Publishes cap message log (tried message (Ready result)) log2
@@ -172,25 +172,25 @@ module _ {T : Type 0} (cap : ℕ) where
   AtOnce message log _ log2 = ⊥
 
 module _ {T : Type 0} (IsClone : T → T → Type 0) (IsInfallible : T → Type 0) where
-  -- the clone of the message with the number is refused, and nothing changes
+  -- the clone of the message with the number n is refused, and nothing changes
   abbrev pub Refuses : ℕ → ℕ → Log T → Log T → Type 0
   Refuses place n log log2 = (n < log.next) × IsRefused IsInfallible place n log × (log2 ≡ log)
 
-  -- a poll for a message: Pending where all is read
+  -- a poll for a message: Pending once the subscriber has read all
   abbrev pub PollsMessage : ℕ → Log T → Answer (PubSubHeard T) → Log T → Type 0
   PollsMessage place log Pending log2 = Reads IsClone place log None log2
   PollsMessage place log (Gives (Read answer)) log2 = IsBelow (Some answer) (position place log) log × Reads IsClone place log (Some answer) log2
   PollsMessage place log NoMemory log2 = Refuses place (position place log) log log2
   PollsMessage place log _ log2 = ⊥
 
-  -- a poll for a message that passes over a lag: Pending where all that is held is read
+  -- a poll for a message that passes over a lag: Pending once the subscriber has read all that is held
   abbrev pub PollsPure : ℕ → Log T → Answer (PubSubHeard T) → Log T → Type 0
   PollsPure place log Pending log2 = ReadsOn IsClone place log None log2
   PollsPure place log (Gives (ReadPure given)) log2 = IsBelow (Some given) (position place (caught place log)) log × ReadsOn IsClone place log (Some given) log2
   PollsPure place log NoMemory log2 = Refuses place (position place (caught place log)) log log2
   PollsPure place log _ log2 = ⊥
 
-  -- a poll of a stream: Pending where all is read, and at a lag
+  -- a poll of a stream: Pending once the subscriber has read all, and at a lag
   abbrev pub PollsStream : ℕ → Log T → Answer (PubSubHeard T) → Log T → Type 0
   PollsStream place log Pending log2 = Streams IsClone place log NotYet log2
   PollsStream place log (Gives (Streamed answer)) log2 = IsBelow answer (position place log) log × Streams IsClone place log (Ready answer) log2
@@ -209,7 +209,7 @@ module _ {T : Type 0} (IsClone : T → T → Type 0) (IsInfallible : T → Type 
   TriesPure place log _ log2 = ⊥
 
   module _ (cap : ℕ) where
-    -- what a request of the number does to the log
+    -- what a poll of a request does to the log
     abbrev pub PollsLog : Topic T → PubSubAsk T → Answer (PubSubHeard T) → Log T → Type 0
     PollsLog o (Publish p message) a log2 = PollsPublish cap message o.log a log2
     PollsLog o (Message s) a log2 = PollsMessage (place_at s o) o.log a log2
@@ -233,7 +233,7 @@ module _ {T : Type 0} (IsClone : T → T → Type 0) (IsInfallible : T → Type 
   Calls cap pubs o Len a o2 = (a ≡ Gives (Number (length o.log.held))) × (o2 ≡ o)
   Calls cap pubs o FreeCapacity a o2 = (free : ℕ) × (a ≡ Gives (Number free)) × (free + length o.log.held ≡ cap) × (o2 ≡ o)
 
-  -- of at most cap messages and pubs publishers
+  -- the rules of a channel of at most cap messages and pubs publishers
   abbrev pub pubsub_rules : ℕ → ℕ → Rules (PubSubAsk T) (PubSubAsk T) (PubSubCall T) (PubSubHeard T)
   pubsub_rules cap pubs = record {
     Core = Topic T;
@@ -247,20 +247,20 @@ module _ {T : Type 0} (IsClone : T → T → Type 0) (IsInfallible : T → Type 
     WakesItself = ⊥;
   }
 
--- a message that leaves hands out who waits for room
+-- a message that leaves hands out the publishers' list
 abbrev pub room_hands : {W : Type 0} → Bool → Lists W → Handed (Lists W) W
 room_hands freed l = record { wakes = wakes_of_room freed l; after = lists_after_room freed l }
 
--- lists of at most subs and pubs wakers
+-- the wakes of a channel whose lists hold at most subs and pubs wakers
 module _ {T W : Type 0} (eq : W → W → Bool) (subs pubs : ℕ) where
-  -- by a publish with that answer, with a waker or without
+  -- the wakers that a publish hands out, with a waker of its own or without
   abbrev pub publish_hands : Log T → Option W → Result (Unit {0}) (TryPublishError T) → Lists W → Handed (Lists W) W
   publish_hands log w result l = record { wakes = wakes_of_publish eq pubs w (has_subscribers log) result l; after = lists_after_publish eq pubs w (has_subscribers log) result l }
 
   abbrev pub immediate_hands : Log T → Result (Unit {0}) (NoNumber T) → Lists W → Handed (Lists W) W
   immediate_hands log result l = record { wakes = wakes_of_immediate (has_subscribers log) result l; after = lists_after_immediate (has_subscribers log) result l }
 
-  -- by a read with that answer
+  -- the wakers that a read hands out
   abbrev pub read_hands : ℕ → Log T → Option W → Option (WaitResult T) → Lists W → Handed (Lists W) W
   read_hands place log w answer l = record {
     wakes = wakes_of_read eq subs w answer (frees log (read_log place log answer)) l;
@@ -285,7 +285,7 @@ module _ {T W : Type 0} (eq : W → W → Bool) (subs pubs : ℕ) where
   poll_hands o l (MessagePure s) w a = pure_hands (place_at s o) o.log (Some w) (pure_of a) l
   poll_hands o l (Stream s) w a = stream_hands (place_at s o) o.log w (stream_of a) l
 
-  -- a try registers nobody, and clearing hands out who waits for room
+  -- a call registers no waker, and a clear hands out the publishers' list
   abbrev pub call_hands : Topic T → Lists W → PubSubCall T → Answer (PubSubHeard T) → Handed (Lists W) W
   call_hands o l (Leave s) a = room_hands (frees o.log (left (place_at s o) o.log)) l
   call_hands o l (TryPublish p message) a = publish_hands o.log None (publish_of message a) l
@@ -307,7 +307,7 @@ module _ {T W : Type 0} (eq : W → W → Bool) (subs pubs : ℕ) where
 abbrev pub OwesNews : {T W : Type 0} → (W → W → Bool) → ℕ → Log T → Lists W → W → Type 0
 OwesNews eq place log l w = (position place log ≡ log.next) × IsAmong eq w l.subscribers
 
--- a publisher is owed that in the publishers' list while the log is full
+-- a publisher is owed its waker in the publishers' list while the log is full
 module _ {T W : Type 0} (eq : W → W → Bool) (cap : ℕ) where
   abbrev pub OwesRoom : Log T → Lists W → W → Type 0
   OwesRoom log l w = (has_subscribers log ≡ true) × (length log.held ≡ cap) × IsAmong eq w l.publishers

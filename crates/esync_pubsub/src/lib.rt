@@ -1,4 +1,4 @@
-//! Publishers and subscribers: each message is for all who subscribed before it.
+//! Pub-sub channels: each message reaches all who subscribed before it was published.
 #![tactic(auto)]
 
 pub mod pubsub;

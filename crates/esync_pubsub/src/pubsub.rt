@@ -1,4 +1,4 @@
-//! A pub-sub channel: whoever publishes reaches all who subscribed before.
+//! A pub-sub channel: a published message reaches all who subscribed before.
 ghost use Rattle.std.specs.Prelude.{◌≡◌, ◌+◌, ◌-◌, ◌<◌, ◌≤◌, ◌++◌, ◌↔◌, IsTrue, [], None, Some, IsSome, IfSome, IfOk, OnErr, is_none, length, not, nat_lt};
 ghost use Rattle.esync_log.specs.Counts.{readers_of};
 ghost use Rattle.esync_log.specs.Log.{oldest, has_subscribers, is_live, position, left, cleared, Publishes, PublishesAtOnce, lags, caught, Reads, ReadsOn, Streams, IsRefused};
@@ -24,18 +24,18 @@ mod kept;
 mod shared;
 mod steps;
 
-/// Why nobody came.
+/// The reason why a subscriber or a publisher was refused.
 #[derive(Clone, Copy, Debug, PartialEq, Eq, Error)]
 pub enum Error {
-    /// As many subscribers are here as there are places for.
+    /// All places for subscribers are taken.
     #[error("the maximum of subscribers is reached")]
     MaximumSubscribersReached,
-    /// As many publishers are counted as may be.
+    /// The greatest number of publishers is counted.
     #[error("the maximum of publishers is reached")]
     MaximumPublishersReached,
 }
 
-/// Names a subscriber: its place.
+/// The name of a subscriber: its place.
 #[derive(Debug, Drop)]
 pub struct SubId {
     place: usize,
@@ -58,10 +58,12 @@ pub type PubSubState<T, W, const CAP: usize, const SUBS: usize, const PUBS: usiz
     Wakes<W, PUBS>,
 >;
 
-/// The state of a pub-sub channel: its messages and how far each subscriber has read, how many publishers are counted, and the wakers of
-/// who waits for a message and of who waits for room. As many publishers may be counted as there is room for wakers.
+/// The state of a pub-sub channel: its messages, how far each subscriber has read, how many publishers are counted, and
+/// two lists of wakers, of tasks that wait for a message and of tasks that wait for room. At most as many publishers
+/// are counted as the second list has room for.
 ///
-/// It holds no lock and waits for nobody. What a call hands out, it appends to the list of wakes that it is given.
+/// A call takes no lock and never blocks. It appends the wakers that it hands out to the list of wakes that it is
+/// given.
 #[derive_where(Debug; G: fmt::Debug, S: fmt::Debug, P: fmt::Debug)]
 #[derive(Drop)]
 pub struct PubSubOver<G: LogStore, S: WakerList, P: WakerList<Waker = S::Waker>> {
@@ -87,7 +89,7 @@ impl<G: LogStore, S: WakerList, P: WakerList<Waker = S::Waker>> Model for PubSub
     ghost invariant = { λ a. (a.publishers ≤ P.room) × (G.places ≤ S.room) };
 }
 
-/// Who waits for a message, and who waits for room.
+/// The wakers of the tasks that wait for a message, and of those that wait for room.
 impl<G: LogStore, S: WakerList, P: WakerList<Waker = S::Waker>> Registered for PubSubOver<G, S, P> {
     type Waker = S::Waker;
 
@@ -105,7 +107,7 @@ impl<G: LogStore, S: WakerList, P: WakerList<Waker = S::Waker>> Registered for P
 }
 
 impl<G: LogStore, S: WakerList, P: WakerList<Waker = S::Waker>> PubSubOver<G, S, P> {
-    /// No message, no subscriber, no publisher, and nobody who waits. The first message has the number 0.
+    /// Returns an empty channel without subscribers, publishers or wakers. The first message gets the number 0.
     pub fn new() -> Self
         requires messages { 1 ≤ G.capacity }
         requires wakers { G.places ≤ S.room }
@@ -114,7 +116,7 @@ impl<G: LogStore, S: WakerList, P: WakerList<Waker = S::Waker>> PubSubOver<G, S,
         PubSubOver::new_at(0)
     }
 
-    /// The same, where the first message has the number `next`.
+    /// Returns an empty channel without subscribers, publishers or wakers. The first message gets the number `next`.
     pub fn new_at(next: u64) -> Self
         requires messages { 1 ≤ G.capacity }
         requires wakers { G.places ≤ S.room }
@@ -129,11 +131,12 @@ impl<G: LogStore, S: WakerList, P: WakerList<Waker = S::Waker>> PubSubOver<G, S,
         }
     }
 
-    /// A subscriber comes to the least free place, and reads what is published from now on.
+    /// Adds a subscriber at the least free place and returns its name. It reads the messages that are published from
+    /// now on.
     ///
     /// # Errors
     ///
-    /// `MaximumSubscribersReached` where all places are taken. Nothing is changed.
+    /// `MaximumSubscribersReached` if all places are taken. Nothing is changed.
     pub fn subscribe(&mut self) -> Result<SubId, Error>
         ensures log { Subscribes self.old.log result self.new.log }
         ensures rest { self.new ≡ record self.old { log = self.new.log } }
@@ -144,14 +147,15 @@ impl<G: LogStore, S: WakerList, P: WakerList<Waker = S::Waker>> PubSubOver<G, S,
         Ok(SubId { place })
     }
 
-    /// This subscriber is here.
+    /// Returns whether the subscriber is here.
     pub fn is_subscriber(&self, id: &SubId) -> bool
         ensures { result ≡ is_live id.now self.now.log }
     {
         self.log.is_live(id.place)
     }
 
-    /// The subscriber leaves. What nobody reads any more leaves with it, and where a message does, who waits for room is woken.
+    /// Removes the subscriber. The messages that no subscriber has still to read leave with it. If one leaves, hands
+    /// out the wakers that wait for room.
     pub fn leave<const K: usize>(&mut self, id: SubId, wakes: &mut Wakes<S::Waker, K>)
         requires live { IsTrue (is_live id self.old.log) }
         requires room { length wakes.old + P.room ≤ K }
@@ -167,7 +171,7 @@ impl<G: LogStore, S: WakerList, P: WakerList<Waker = S::Waker>> PubSubOver<G, S,
     ///
     /// # Errors
     ///
-    /// `MaximumPublishersReached` where as many are counted as may be. Nothing is changed.
+    /// `MaximumPublishersReached` if the greatest number is counted. Nothing is changed.
     pub fn add_publisher(&mut self) -> Result<(), Error>
         ensures count { Adds P.room self.old.publishers result self.new.publishers }
         ensures rest { self.new ≡ record self.old { publishers = self.new.publishers } }
@@ -179,7 +183,7 @@ impl<G: LogStore, S: WakerList, P: WakerList<Waker = S::Waker>> PubSubOver<G, S,
         Ok(())
     }
 
-    /// Counts one publisher less. There has to be one, as `publishers` tells.
+    /// Counts one publisher less. At least one must be counted, as `publishers` tells.
     pub fn remove_publisher(&mut self)
         requires { 1 ≤ self.old.publishers }
         ensures { self.new ≡ record self.old { publishers = self.old.publishers - 1 } }
@@ -187,7 +191,7 @@ impl<G: LogStore, S: WakerList, P: WakerList<Waker = S::Waker>> PubSubOver<G, S,
         self.publishers -= 1;
     }
 
-    /// How many publishers are counted.
+    /// Returns the number of publishers that are counted.
     pub fn publishers(&self) -> usize
         ensures value { result ≡ self.now.publishers }
         ensures within { result ≤ P.room }
@@ -195,7 +199,7 @@ impl<G: LogStore, S: WakerList, P: WakerList<Waker = S::Waker>> PubSubOver<G, S,
         self.publishers
     }
 
-    // Wakes who waits for a message, where a subscriber was there when it was accepted.
+    // Hands out the wakers that wait for a message, if the channel had a subscriber when it accepted one.
     fn tell_news<const K: usize>(&mut self, has_subscribers: bool, wakes: &mut Wakes<S::Waker, K>)
         requires { length wakes.old + S.room ≤ K }
         ensures state { self.new ≡ record self.old { lists = lists_after_news has_subscribers self.old.lists } }
@@ -206,7 +210,7 @@ impl<G: LogStore, S: WakerList, P: WakerList<Waker = S::Waker>> PubSubOver<G, S,
         }
     }
 
-    // Wakes who waits for room, where fewer messages are held than were.
+    // Hands out the wakers that wait for room, if the log holds fewer messages than it did.
     fn tell_room<const K: usize>(&mut self, held: usize, wakes: &mut Wakes<S::Waker, K>)
         requires { length wakes.old + P.room ≤ K }
         ensures state { self.new ≡ record self.old { lists = lists_after_room (nat_lt (length self.old.log.held) held) self.old.lists } }
@@ -220,18 +224,19 @@ impl<G: LogStore, S: WakerList, P: WakerList<Waker = S::Waker>> PubSubOver<G, S,
         }
     }
 
-    // Fewer messages are held than were.
+    // Returns whether the log holds fewer messages than it did.
     fn has_freed(&self, held: usize) -> bool
         ensures { result ≡ nat_lt (length self.now.log.held) held }
     {
         self.log.len() < held
     }
 
-    /// Publishes a message for all who are subscribers. Without subscribers it is let go.
+    /// Publishes a message to all subscribers, and hands out the wakers that wait for a message. Without subscribers
+    /// the message is dropped and no waker is handed out.
     ///
     /// # Errors
     ///
-    /// The message comes back and nothing is changed: `Full` where as many messages are held as there is room for, and else `Exhausted` where the numbers of
+    /// Returns the message and changes nothing: `Full` if the channel is full, otherwise `Exhausted` if the numbers of
     /// messages have run out.
     pub fn try_publish<const K: usize>(
         &mut self,
@@ -254,7 +259,7 @@ impl<G: LogStore, S: WakerList, P: WakerList<Waker = S::Waker>> PubSubOver<G, S,
         }
     }
 
-    // Publishes a message. Where the log is full, the waker waits for room.
+    // Publishes a message. If the log is full, registers the waker for room.
     fn publish_or_wait<const K: usize>(
         &mut self,
         message: G::Message,
@@ -278,12 +283,14 @@ impl<G: LogStore, S: WakerList, P: WakerList<Waker = S::Waker>> PubSubOver<G, S,
         }
     }
 
-    /// Publishes a message for all who are subscribers. Where there is no room, the context's waker waits for it.
+    /// Publishes a message to all subscribers, and hands out the wakers that wait for a message. Without subscribers
+    /// the message is dropped and no waker is handed out. If the channel is full, registers the context's waker for
+    /// room.
     ///
     /// # Errors
     ///
-    /// The message comes back and the log stays: `Full` where as many messages are held as there is room for, and else `Exhausted` where the numbers of messages
-    /// have run out.
+    /// Returns the message and keeps the log: `Full` if the channel is full, otherwise `Exhausted` if the numbers of
+    /// messages have run out.
     pub fn publish_with_context<const K: usize>(
         &mut self,
         message: G::Message,
@@ -300,11 +307,12 @@ impl<G: LogStore, S: WakerList, P: WakerList<Waker = S::Waker>> PubSubOver<G, S,
         self.publish_or_wait(message, cx.waker(), wakes)
     }
 
-    /// Publishes a message at once. Where there is no room, the oldest one is dropped, and who had not read it lags.
+    /// Publishes a message at once, and hands out the wakers that wait for a message if there is a subscriber. A full
+    /// channel drops its oldest message, and a subscriber that had not read it lags.
     ///
     /// # Errors
     ///
-    /// `Exhausted` with the message where the numbers of messages have run out. Nothing is changed.
+    /// Returns `Exhausted` with the message if the numbers of messages have run out. Nothing is changed.
     pub fn publish_immediate<const K: usize>(
         &mut self,
         message: G::Message,
@@ -325,7 +333,7 @@ impl<G: LogStore, S: WakerList, P: WakerList<Waker = S::Waker>> PubSubOver<G, S,
         }
     }
 
-    /// How many messages were published that this subscriber has not read, held or not.
+    /// Returns the number of messages published that the subscriber has not read, including those that left.
     pub fn available(&self, id: &SubId) -> u64
         requires { IsTrue (is_live id.now self.now.log) }
         ensures { result ≡ self.now.log.next - position id.now self.now.log }
@@ -333,7 +341,7 @@ impl<G: LogStore, S: WakerList, P: WakerList<Waker = S::Waker>> PubSubOver<G, S,
         self.log.available(id.place)
     }
 
-    /// Drops all messages, and wakes who waits for room. Who had not read them lags.
+    /// Drops all messages and hands out the wakers that wait for room. A subscriber that had not read them lags.
     pub fn clear<const K: usize>(&mut self, wakes: &mut Wakes<S::Waker, K>)
         requires { length wakes.old + P.room ≤ K }
         ensures state { self.new ≡ record self.old { log = cleared self.old.log; lists = record self.old.lists { publishers = [] } } }
@@ -344,7 +352,7 @@ impl<G: LogStore, S: WakerList, P: WakerList<Waker = S::Waker>> PubSubOver<G, S,
         self.publisher_wakers.wake(wakes);
     }
 
-    /// How many messages are held, which are no more than were published.
+    /// Returns the number of messages that the channel holds, which is at most the number ever published.
     pub fn len(&self) -> usize
         ensures value { result ≡ length self.now.log.held }
         ensures within { result ≤ G.capacity }
@@ -353,8 +361,8 @@ impl<G: LogStore, S: WakerList, P: WakerList<Waker = S::Waker>> PubSubOver<G, S,
         self.log.len()
     }
 
-    /// Returns the reader count that is kept for held message `index`, counted from the oldest: how many subscribers have still to read
-    /// that message. `None` where no more than `index` messages are held.
+    /// Returns how many subscribers have still to read message `index`, where message 0 is the oldest. Returns `None`
+    /// if the channel holds no more than `index` messages.
     pub fn reader_count(&self, index: usize) -> Option<usize>
         ensures held { index < length self.now.log.held → result ≡ Some (readers_of (oldest self.now.log + index) self.now.log.positions) }
         ensures none { length self.now.log.held ≤ index → result ≡ None }
@@ -362,40 +370,41 @@ impl<G: LogStore, S: WakerList, P: WakerList<Waker = S::Waker>> PubSubOver<G, S,
         self.log.reader_count(index)
     }
 
-    /// No message is held.
+    /// Returns whether the channel holds no message.
     pub fn is_empty(&self) -> bool
         ensures { IsTrue result ↔ (self.now.log.held ≡ []) }
     {
         self.log.is_empty()
     }
 
-    /// As many messages are held as there is room for.
+    /// Returns whether the channel is full.
     pub fn is_full(&self) -> bool
         ensures { result ≡ not (nat_lt (length self.now.log.held) G.capacity) }
     {
         self.log.is_full()
     }
 
-    /// How many messages can be held.
+    /// Returns the greatest number of messages that the channel can hold.
     pub fn capacity(&self) -> usize
         ensures { result ≡ G.capacity }
     {
         G::capacity()
     }
 
-    /// How many messages there is room for.
+    /// Returns the number of messages that the channel has room for.
     pub fn free_capacity(&self) -> usize
         ensures { result + length self.now.log.held ≡ G.capacity }
     {
         G::capacity() - self.len()
     }
 
-    /// What this subscriber reads next: a message, or how many messages left before it read them. `None` where it has read all. The last
-    /// reader is given the message itself, which leaves, and who waits for room is woken. Others are given a clone.
+    /// Reads the next message, or returns how many messages left before the subscriber read them. Returns `None` once
+    /// it has read all. The last reader gets the message itself, which leaves and hands out the wakers that wait for
+    /// room. An earlier reader gets a clone.
     ///
     /// # Errors
     ///
-    /// Where a clone has no memory nothing is changed.
+    /// Returns the error if a clone has no memory. Nothing is changed.
     pub fn try_next_message<const K: usize>(
         &mut self,
         id: &SubId,
@@ -422,11 +431,12 @@ impl<G: LogStore, S: WakerList, P: WakerList<Waker = S::Waker>> PubSubOver<G, S,
         }
     }
 
-    /// The same as a poll: where the subscriber has read all, the context's waker waits for a message.
+    /// Polls for the next message, or for how many messages left before the subscriber read them. If it has read all,
+    /// registers the context's waker. A message that leaves hands out the wakers that wait for room.
     ///
     /// # Errors
     ///
-    /// Where a clone has no memory nothing is changed.
+    /// Returns the error if a clone has no memory. Nothing is changed.
     pub fn get_message_with_context<const K: usize>(
         &mut self,
         id: &SubId,
@@ -453,11 +463,12 @@ impl<G: LogStore, S: WakerList, P: WakerList<Waker = S::Waker>> PubSubOver<G, S,
         }
     }
 
-    /// The message that this subscriber reads next. One that lags goes on from the oldest message. `None` where it has then read all.
+    /// Reads the next message. A subscriber that lags goes on from the oldest message. Returns `None` once it has read
+    /// all. A message that leaves hands out the wakers that wait for room.
     ///
     /// # Errors
     ///
-    /// Where a clone has no memory nothing is changed: who lagged still does.
+    /// Returns the error if a clone has no memory. Nothing is changed: a subscriber that lagged still does.
     pub fn try_next_message_pure<const K: usize>(
         &mut self,
         id: &SubId,
@@ -484,11 +495,12 @@ impl<G: LogStore, S: WakerList, P: WakerList<Waker = S::Waker>> PubSubOver<G, S,
         }
     }
 
-    /// The same as a poll: where the subscriber has read all, the context's waker waits for a message.
+    /// Polls for the next message. A subscriber that lags goes on from the oldest message. If it has read all,
+    /// registers the context's waker. A message that leaves hands out the wakers that wait for room.
     ///
     /// # Errors
     ///
-    /// Where a clone has no memory nothing is changed: who lagged still does.
+    /// Returns the error if a clone has no memory. Nothing is changed: a subscriber that lagged still does.
     pub fn get_message_pure_with_context<const K: usize>(
         &mut self,
         id: &SubId,
@@ -515,12 +527,13 @@ impl<G: LogStore, S: WakerList, P: WakerList<Waker = S::Waker>> PubSubOver<G, S,
         }
     }
 
-    /// Polls the stream of a subscriber's messages, which has no end. A subscriber that lags goes on from the oldest message: the answer is
-    /// Pending then, and the context's waker is woken at once. Where it has read all, the waker waits for a message.
+    /// Polls the stream of a subscriber's messages, which has no end. A subscriber that lags goes on from the oldest
+    /// message: the answer is then Pending, and the context's waker is handed out at once. If the subscriber has read
+    /// all, registers the context's waker. A message that leaves hands out the wakers that wait for room.
     ///
     /// # Errors
     ///
-    /// Where a clone has no memory nothing is changed.
+    /// Returns the error if a clone has no memory. Nothing is changed.
     pub fn poll_next<const K: usize>(
         &mut self,
         id: &SubId,
@@ -550,7 +563,7 @@ impl<G: LogStore, S: WakerList, P: WakerList<Waker = S::Waker>> PubSubOver<G, S,
     }
 }
 
-/// A message that waits to be published.
+/// A request to publish a message.
 #[derive(Debug, Drop)]
 pub struct PublishRequest<T> {
     message: Option<T>,
@@ -568,7 +581,7 @@ impl<T> Model for PublishRequest<T> {
 }
 
 impl<T: Drop> PublishRequest<T> {
-    /// This message, which is still to be published.
+    /// Returns a request to publish the message.
     pub fn new(message: T) -> Self
         ensures { result ≡ Some message }
     {
@@ -577,27 +590,27 @@ impl<T: Drop> PublishRequest<T> {
         }
     }
 
-    // No message.
+    // Returns a finished request, without a message.
     pub(crate) fn finished() -> Self
         ensures { result ≡ None }
     {
         PublishRequest { message: None }
     }
 
-    /// The message was published, or refused for good.
+    /// Returns whether the message was published or refused for good.
     pub fn is_finished(&self) -> bool
         ensures { result ≡ is_none self.now }
     {
         self.message.is_none()
     }
 
-    /// Publishes the message where there is room. Where there is none, the context's waker waits for it.
-    ///
-    /// A request that is finished is not polled.
+    /// Polls the request: publishes the message if there is room, and hands out the wakers that wait for a message if
+    /// there is a subscriber. Otherwise registers the context's waker for room. The request must not be finished.
     ///
     /// # Errors
     ///
-    /// `Exhausted` with the message where the numbers of messages have run out. Nothing is changed, and the request is finished.
+    /// Returns `Exhausted` with the message if the numbers of messages have run out. The channel keeps its messages,
+    /// and the request is finished.
     pub fn poll_state<
         G: LogStore<Message = T>,
         S: WakerList,

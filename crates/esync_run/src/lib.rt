@@ -1,6 +1,6 @@
-//! The primitives as machines that take commands, with the core of runs under its own names.
+//! The primitives as machines that take commands, and the core of runs.
 //!
-//! Each module is that of a crate below, in which the machine of a primitive stands beside its state.
+//! Each module re-exports a module of a crate below, in which a primitive's machine stands beside its state.
 #![tactic(auto)]
 
 pub use esync_cells::lazy_lock::machine as lazy_lock;

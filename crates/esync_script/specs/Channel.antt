@@ -45,6 +45,6 @@ channel_text (Number number) = decimal number
 abbrev pub nobody_waits : Slots ℕ
 nobody_waits = record { receivers = []; senders = [] }
 
--- a channel or a priority channel, which keeps its messages so
+-- a channel or a priority channel that keeps its messages in this way
 abbrev pub channel_setting : (ℕ → ℕ → Bool) → Keeping ℕ → Setting
 channel_setting eq keeping = setting_of 1 (channel_rules keeping) (channel_wakings eq keeping) channel_asks channel_calls channel_text [] nobody_waits

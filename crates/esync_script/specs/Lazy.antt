@@ -1,4 +1,4 @@
--- The words of a value that is made when it is first asked for.
+-- The words of a value that is made when a call first asks for it.
 use Rattle.std.specs.Prelude.{ℕ, List, codes, Option, None, if◌then◌else◌, ◌≡◌, Some, decimal}
 use Rattle.std.specs.Option.{option_map}
 use Rattle.esync_cells.specs.declared.lazy_lock.machine.NoAsk.{NoAsk}
@@ -10,7 +10,7 @@ use Rattle.esync_cells.specs.LazyLock.{Lazy}
 use Rattle.esync_cells.specs.LazyRules.{lazy_rules, lazy_wakings}
 use Rattle.esync_script.specs.Setting.{Setting, setting_of}
 
--- nothing can be waited for
+-- a lazy value has no requests
 abbrev pub lazy_asks : List ℕ → List (List ℕ) → Option NoAsk
 lazy_asks name words = None
 
@@ -20,11 +20,11 @@ lazy_calls name words =
     else if is_text name (codes "into") then option_map (λ x. Into) (nothing words)
     else None
 
--- the value that was given is the only one that is made
+-- the only value that is made is the given one
 abbrev pub IsGiven : Given ℕ → ℕ → Type 0
 IsGiven given v = v ≡ given.value
 
--- a value that will be this one once it is made
+-- a value that isn't made yet, and will be v
 abbrev pub not_made : ℕ → Option (Lazy ℕ (Given ℕ))
 not_made v = Some (record { value = None; maker = record { value = v } })
 

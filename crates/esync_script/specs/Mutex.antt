@@ -32,11 +32,11 @@ mutex_text (Tried (Err _)) = codes "Err(TryLockError)"
 mutex_text (Value v) = codes "(" ++ decimal v.0 ++ codes "," ++ decimal v.1 ++ codes ")"
 mutex_text (Part x) = codes "(" ++ decimal x ++ codes ")"
 
--- a value of two, which nobody has locked
+-- an unlocked mutex of two values
 abbrev pub a_free_lock : ℕ → ℕ → LockObject (ℕ × ℕ)
 a_free_lock v x = record { held = false; value = (v, x) }
 
--- the second of two, and the two with another second
+-- the second of two values, and the two values with another second
 abbrev pub second : ℕ × ℕ → ℕ
 second v = v.1
 

@@ -40,7 +40,7 @@ capacity n =
     else if n == 8 then Some Eight
     else None
 
--- of a primitive that can have only one capacity
+-- the value x for capacity 1, the only one that the primitive can have
 abbrev pub only_one : {A : Type 0} → A → ℕ → Option A
 only_one x n = if n == 1 then Some x else None
 
@@ -51,7 +51,7 @@ places Three = 3
 places Four = 4
 places Eight = 8
 
--- what line 1 says
+-- the primitive that line 1 names
 abbrev pub opening : List ℕ → List (List ℕ) → Option Opening
 opening name words =
     if is_text name (codes "channel") then option_map (λ c. Channel c) (and_then (one 64 words) capacity)
@@ -69,7 +69,7 @@ opening name words =
     else if is_text name (codes "watch") then and_then (one_or_two 64 32 words) (λ p. option_map (λ c. Watch c p.1) (capacity p.0))
     else None
 
--- the primitive that line 1 names, where a waker is equal to another, and a message of a priority channel above another, as these say
+-- the setting of the primitive that line 1 names, by an equality of wakers and two orders of messages by priority
 abbrev pub setting : (eq max_above min_above : ℕ → ℕ → Bool) → Opening → Setting
 setting eq max_above min_above (Channel c) = channel_setting eq (BoundedList ℕ (places c))
 setting eq max_above min_above (Max c) = channel_setting eq (Bag ℕ max_above (places c))
@@ -85,32 +85,32 @@ setting eq max_above min_above (Mutex v x) = mutex_setting eq v x
 setting eq max_above min_above (Watch c value) = watch_setting eq (places c) value
 setting eq max_above min_above (Zerocopy c) = zero_setting eq (places c)
 
--- Behind lines that were played so, the foot is written, and that is how the script ended, unless a write or memory failed.
+-- Behind lines that were played, the foot is written. The script's outcome is theirs, unless a write or memory failed.
 abbrev pub Closes : List ℕ → Option (List ℕ) → Option (List ℕ) → Result (Unit {0}) Fault → Result (Unit {0}) Fault → Type 0
 Closes foot before after played outcome = IsJudged outcome → (outcome ≡ played) × Appends before after foot
 
--- What plays says of the lines behind line n and of the machine of the named primitive, which begins as line 1 says.
+-- The statement `plays` on the lines behind line n and on the named primitive's machine, which begins as line 1 says.
 module _ (eq : ℕ → ℕ → Bool) (plays : (Q C A Reply : Type 0) (M : Meaning (Command Q ℕ C) Reply ℕ) → (List ℕ → Option (Command Q ℕ C)) → (A → List ℕ) → (Reply → Answer A) → (Reply → List ℕ) → M.Object → M.Registered → ℕ → Option (List ℕ) → Option (List ℕ) → Option (List ℕ) → Result (Unit {0}) Fault → Type 0) where
   abbrev pub Plays : (max_above min_above : ℕ → ℕ → Bool) → Opening → ℕ → Option (List ℕ) → Option (List ℕ) → Option (List ℕ) → Result (Unit {0}) Fault → Type 0
   Plays max_above min_above o n left before after outcome = PlaysFrom eq plays (setting eq max_above min_above o) n left before after outcome
 
--- A whole script: line 1 names a primitive, and what is written and noted of it is the story's; the lines behind it are gone through, from
--- these notes to others, and the foot is written; or it names none; or a read, a write or memory failed before.
+-- A whole script. Line 1 names a primitive, the story tells of it, the lines behind it are played, and the foot is
+-- written. Or line 1 names none; or a read, a write or memory failed before.
 abbrev pub PlaysBehind : (eq max_above min_above : ℕ → ℕ → Bool) (S : Story) → (S.Notes → S.Notes → (Q C A Reply : Type 0) (M : Meaning (Command Q ℕ C) Reply ℕ) → (List ℕ → Option (Command Q ℕ C)) → (A → List ℕ) → (Reply → Answer A) → (Reply → List ℕ) → M.Object → M.Registered → ℕ → Option (List ℕ) → Option (List ℕ) → Option (List ℕ) → Result (Unit {0}) Fault → Type 0) → Option (List ℕ) → Option (List ℕ) → Option (List ℕ) → Result (Unit {0}) Fault → Type 0
 PlaysBehind eq max_above min_above S plays left before after outcome =
     ((o : Opening) × (was now : S.Notes) × (rest mid last : Option (List ℕ)) × (played : Result (Unit {0}) Fault) × Opened (says opening) S o was left rest before mid × Plays eq (plays was now) max_above min_above o 1 rest mid last played × Closes S.foot last after played outcome)
     ⊎ ((fault : Fault) × (outcome ≡ Err fault) × (IsJudged (Err fault) → NotOpened (says opening) fault left before after))
 
--- A whole script, whose lines are given to the primitive as commands, and this is told of it.
+-- A whole script, whose lines are given to the primitive as commands, and of which the story is written.
 abbrev pub PlaysScript : (eq max_above min_above : ℕ → ℕ → Bool) → Story → Option (List ℕ) → Option (List ℕ) → Option (List ℕ) → Result (Unit {0}) Fault → Type 0
 PlaysScript eq max_above min_above S left before after outcome = PlaysBehind eq max_above min_above S (plays_and_tells S) left before after outcome
 
--- A script that ended so, at its end or at a line that is no command, was played to there.
+-- A script with this outcome was played up to it: to its end, or to a line that is no command.
 abbrev pub EndsScript : (eq max_above min_above : ℕ → ℕ → Bool) → Story → Option (List ℕ) → Result (Unit {0}) Fault → Type 0
 EndsScript eq max_above min_above S left outcome =
     IsJudged outcome → (before after : Option (List ℕ)) × PlaysScript eq max_above min_above S left before after outcome
 
--- the status that tells of this outcome
+-- the status of a script with this outcome
 abbrev pub status_of_outcome : Result (Unit {0}) Fault → ℕ
 status_of_outcome (Ok _) = 0
 status_of_outcome (Err fault) = status_of fault

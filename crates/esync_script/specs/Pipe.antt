@@ -17,7 +17,7 @@ use Rattle.esync_pipe.specs.PipeRules.{pipe_rules, pipe_wakings}
 use Rattle.esync_pipe.specs.Piped.{Slots as PipeSlots}
 use Rattle.esync_script.specs.Setting.{Setting, setting_of}
 
--- how many bytes to read: at most 16
+-- how many bytes a read asks for: at most 16
 abbrev pub a_count : List (List ℕ) → Option ℕ
 a_count words = and_then (one 64 words) (below 17)
 
@@ -44,7 +44,7 @@ pipe_calls name words =
 abbrev pub ready_text : List ℕ → List ℕ
 ready_text bytes = codes "Ready(" ++ bytes_text bytes ++ codes ")"
 
--- the bytes that a call that doesn't wait answers
+-- the bytes that a call answers at once
 abbrev pub tried_text : Result (List ℕ) TryReadError → List ℕ
 tried_text (Ok bytes) = codes "Ok(" ++ bytes_text bytes ++ codes ")"
 tried_text (Err Empty) = codes "Err(Empty)"
@@ -67,6 +67,6 @@ an_empty_pipe = record { items = []; front = 0 }
 abbrev pub no_slot : PipeSlots ℕ
 no_slot = record { readers = []; writers = [] }
 
--- a pipe, of which a step hands out two wakers at most
+-- a pipe, whose steps hand out two wakers at most
 abbrev pub pipe_setting : (ℕ → ℕ → Bool) → ℕ → Setting
 pipe_setting eq places = setting_of 2 (pipe_rules places) (pipe_wakings eq places) pipe_asks pipe_calls pipe_text an_empty_pipe no_slot

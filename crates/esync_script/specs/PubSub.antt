@@ -1,4 +1,4 @@
--- The words of publishers and subscribers, and the text of what these hear.
+-- The words of publishers and subscribers, and the text of what they hear.
 use Rattle.std.specs.Prelude.{ℕ, List, ◌++◌, codes, decimal, Option, Some, None, Ok, Err, if◌then◌else◌, [], Bool}
 use Rattle.std.specs.Option.{option_map}
 use Rattle.esync_pubsub.specs.declared.pubsub.Error.TheVariants.{MaximumSubscribersReached, MaximumPublishersReached}
@@ -42,7 +42,7 @@ pubsub_calls name words =
     else if is_text name (codes "free") then option_map (λ x. FreeCapacity) (nothing words)
     else None
 
--- what was read
+-- the text of a read
 abbrev pub read_text : WaitResult ℕ → List ℕ
 read_text (Lagged k) = codes "Lagged(" ++ decimal k ++ codes ")"
 read_text (Given v) = codes "Message(" ++ decimal v ++ codes ")"
@@ -68,7 +68,7 @@ pubsub_text (TriedPure found) = option_text found
 pubsub_text (Unread count) = decimal count
 pubsub_text (Number number) = decimal number
 
--- a pub-sub channel in which nobody is, with four places for subscribers; its first message has this number
+-- an empty pub-sub channel with four places for subscribers and none taken, whose first message has this number
 abbrev pub a_new_topic : ℕ → Topic ℕ
 a_new_topic first = record {
   log = record { held = []; next = first; positions = replicate 4 None };
@@ -80,6 +80,6 @@ a_new_topic first = record {
 abbrev pub no_lists : Lists ℕ
 no_lists = record { subscribers = []; publishers = [] }
 
--- a channel of places messages for four subscribers and four publishers, of which a step hands out four wakers at most
+-- a channel of `places` messages for four subscribers and four publishers, whose steps hand out four wakers at most
 abbrev pub pubsub_setting : (ℕ → ℕ → Bool) → ℕ → ℕ → Setting
 pubsub_setting eq places first = setting_of 4 (pubsub_rules IsSame NeedsNone places 4) (pubsub_wakings eq 4 4) pubsub_asks pubsub_calls pubsub_text (a_new_topic first) no_lists

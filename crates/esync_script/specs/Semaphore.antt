@@ -30,7 +30,7 @@ permit_calls name words =
     else if is_text name (codes "permits") then option_map (λ x. Permits) (nothing words)
     else None
 
--- where this is the text of what a request hears
+-- the text of a semaphore's answer; `granted` is the text of what a request hears
 abbrev pub permit_text : {G : Type 0} → (G → List ℕ) → PermitHeard G → List ℕ
 permit_text granted (Granted heard) = codes "Ready(" ++ granted heard ++ codes ")"
 permit_text granted (Tried tried) = option_text tried
@@ -44,7 +44,7 @@ fair_text (Err e) = codes "Err(WaitQueueFull)"
 abbrev pub greedy_setting : (ℕ → ℕ → Bool) → ℕ → Setting
 greedy_setting eq permits = setting_of 1 greedy_rules (greedy_wakings eq) permit_asks permit_calls (permit_text decimal) permits []
 
--- so many permits, for which nobody waits
+-- this many permits, and no request in the queue
 abbrev pub an_empty_queue : ℕ → PermitQueue
 an_empty_queue permits = record { permits = permits; queue = [] }
 

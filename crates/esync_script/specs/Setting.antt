@@ -1,4 +1,4 @@
--- What a script needs of a primitive, and what is played of it.
+-- What a script needs of a primitive, and what is played of the script.
 use Rattle.std.specs.Prelude.{◌≡◌, ℕ, Bool, List, Option, None, Result}
 use Rattle.std.proofs.Math.ListN.{replicate}
 use Rattle.esync_machine.specs.declared.primitive.Answer.{Answer}
@@ -25,7 +25,7 @@ pub record Setting : Type 1 where
   pub asks : List ℕ → List (List ℕ) → Option Ask
   pub calls : List ℕ → List (List ℕ) → Option Call
   pub text : Heard → List ℕ
-  -- its object at first, and who is registered then
+  -- the primitive's object at first, and the wakers that are registered then
   pub core : rules.Core
   pub registered : wakings.Registered
 
@@ -45,11 +45,11 @@ setting_of {Ask = Ask} {Held = Held} {C = C} {A = A} most R T asks calls text co
   registered = registered;
 }
 
--- without requests
+-- an object without requests
 abbrev pub new_object : {Core Held : Type 0} → Core → Object Core Held
 new_object core = record { core = core; requests = replicate 16 None }
 
--- this object has no requests, and it and those who are registered are as at first
+-- the object has no requests, and its core and registrations are those at first
 abbrev pub BeginsAs : (s : Setting) → Object s.rules.Core s.Held → s.wakings.Registered → Type 0
 BeginsAs s object registered = (object ≡ new_object s.core) × (registered ≡ s.registered)
 
@@ -60,7 +60,7 @@ IsSame v w = w ≡ v
 abbrev pub NeedsNone : ℕ → Type 0
 NeedsNone v = Unit {0}
 
--- What plays says of the lines behind line n and of the primitive's machine, which begins without requests.
+-- The statement `plays` on the lines behind line n and on the primitive's machine, which begins without requests.
 module _ (eq : ℕ → ℕ → Bool) (plays : (Q C A Reply : Type 0) (M : Meaning (Command Q ℕ C) Reply ℕ) → (List ℕ → Option (Command Q ℕ C)) → (A → List ℕ) → (Reply → Answer A) → (Reply → List ℕ) → M.Object → M.Registered → ℕ → Option (List ℕ) → Option (List ℕ) → Option (List ℕ) → Result (Unit {0}) Fault → Type 0) where
   abbrev pub PlaysFrom : Setting → ℕ → Option (List ℕ) → Option (List ℕ) → Option (List ℕ) → Result (Unit {0}) Fault → Type 0
   PlaysFrom s n left before after outcome =

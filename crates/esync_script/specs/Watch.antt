@@ -15,12 +15,12 @@ use Rattle.std.proofs.Math.ListN.{replicate}
 use Rattle.esync_cells.specs.WatchRules.{Watch, watch_rules, watch_wakings}
 use Rattle.esync_script.specs.Setting.{Setting, setting_of, IsSame, NeedsNone}
 
--- a value with this much added, modulo 2^32; where there is nothing to add it is as it was
+-- a value with this much added, modulo 2^32; no value stays none
 abbrev pub added : ℕ → Option ℕ → Option ℕ
 added amount None = None
 added amount (Some v) = if amount == 0 then Some v else Some ((v + amount) % 2 ^ 32)
 
--- whether something is added
+-- whether there is a value to add to, and an amount to add
 abbrev pub adds : ℕ → Option ℕ → Bool
 adds amount None = false
 adds amount (Some v) = if amount == 0 then false else true
@@ -29,7 +29,7 @@ adds_by : (zero : Bool) (v w : ℕ) → (if zero then false else true) ≡ false
 adds_by true v w told = refl
 adds_by false v w told = cc
 
--- where nothing is added, nothing is changed
+-- a value to which nothing is added is unchanged
 pub adds_tells : (amount : ℕ) (v : Option ℕ) → adds amount v ≡ false → added amount v ≡ v
 adds_tells amount None told = refl
 adds_tells amount (Some v) told = adds_by (amount == 0) v ((v + amount) % 2 ^ 32) told
@@ -87,6 +87,6 @@ tells_change change value = adds change.amount value
 abbrev pub passes : Below → ℕ → Bool
 passes below value = nat_lt value below.limit
 
--- a watch, of which a step hands out as many wakers at most as receivers are counted
+-- a watch, whose steps hand out as many wakers at most as there are counted receivers
 abbrev pub watch_setting : (ℕ → ℕ → Bool) → ℕ → Option ℕ → Setting
 watch_setting eq places value = setting_of places (watch_rules places IsSame NeedsNone changed tells_change passes) (watch_wakings eq places tells_change) watch_asks watch_calls watch_text (a_new_watch value) []

@@ -37,7 +37,7 @@ zero_calls name words =
     else if is_text name (codes "free") then option_map (λ x. FreeCapacity) (nothing words)
     else None
 
--- a slot that is lent, between a word and a bracket
+-- the text of a slot that is lent, between a word and a bracket
 abbrev pub lent_text : Lent ℕ → List ℕ
 lent_text (Spare i) = codes "(" ++ decimal i ++ codes ")"
 lent_text (Held i v) = codes "(" ++ decimal i ++ codes "," ++ decimal v ++ codes ")"

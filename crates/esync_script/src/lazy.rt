@@ -1,4 +1,4 @@
-//! The words of a value that is made when it is first asked for.
+//! The words of a value that is made when a call first asks for it.
 use crate::scripted::Scripted;
 use esync_cells::lazy_lock::Given;
 use esync_cells::lazy_lock::machine::{LazyCall, LazyHolder, LazyRun, NoAsk};
@@ -7,7 +7,7 @@ use esync_words::vocabulary::{REQS, Vocabulary};
 use esync_words::words::Words;
 use std::io::{self, Write};
 
-/// The words of a value that is made when it is first asked for.
+/// The words of a value that is made when a call first asks for it.
 pub struct LazyWords {}
 
 impl Vocabulary for LazyWords {

@@ -1,4 +1,4 @@
-//! Scripts: commands for one primitive, a line each, and the lines that it answers.
+//! Scripts: commands for one primitive, a line each, and the lines that answer them.
 #![tactic(auto)]
 
 ghost use Rattle.std.specs.Prelude.{◌≡◌, ◌⊎◌, Result, Some, Err, IsOk, OnOk, IfErr};
@@ -27,11 +27,11 @@ pub mod signal;
 pub mod watch;
 pub mod zerocopy;
 
-/// Reads a script, writes what its commands are answered, and returns the status that tells how it ended.
+/// Reads a script, writes the answers of its commands, and returns the status that tells how it ended.
 ///
-/// Line 1 names a primitive and its capacity, as `channel 2`. Each further line is one command. Its answer is one line, as
-/// `Ready(7) | 3 4`: what the command is answered, and the wakers that it hands out, in order, or `-` for none. A line is
-/// read, judged and answered before the next one is read.
+/// Line 1 names a primitive and its capacity, as `channel 2`. Each further line is one command. Its answer is one line,
+/// as `Ready(7) | 3 4`: the answer to the command, and the wakers that it hands out, in order, or `-` for none. A line
+/// is read, judged and answered before the next line is read.
 ///
 /// | Status | The script ended | Written to `errors` |
 /// |---|---|---|
@@ -40,8 +40,8 @@ pub mod zerocopy;
 /// | 3 | at a read or a write that failed | `input or output failed` |
 /// | 4 | for want of memory | `out of memory` |
 ///
-/// The lines before are answered in each case, unless it was their write that failed. Whether `errors` can be written changes
-/// no status. `play_script` says of the lines and the answers what is proved.
+/// The lines before are answered in each case, unless the write of their answers failed. Whether `errors` can be
+/// written changes no status. `play_script` says what is proved of the lines and the answers.
 pub fn script<R: Read + Drop, W: Write + Drop, E: Write + Drop>(
     alloc: Global,
     input: R,
@@ -53,11 +53,12 @@ pub fn script<R: Read + Drop, W: Write + Drop, E: Write + Drop>(
     run(alloc, &mut Replies {}, input, output, errors)
 }
 
-/// Reads a script, writes it as a sequence diagram in the language of Mermaid, and returns the status, as `script` does.
+/// Reads a script, writes it as a sequence diagram in the language of Mermaid, and returns the status, as `script`
+/// does.
 ///
-/// There is a lane for the primitive, for each task, by its waker, and for who calls; an arrow for each command, with the number
-/// of its line, for its answer, and for each waker that is handed out; and a note where a task waits. So the poll that a task
-/// makes stands in the lane in which it was woken.
+/// There is a lane for the primitive, for each task, by its waker, and for callers. There is an arrow for each command,
+/// with the number of its line, for its answer, and for each waker that is handed out. A note says where a task waits.
+/// So the poll that a task makes stands in the lane in which it was woken.
 pub fn trace<R: Read + Drop, W: Write + Drop, E: Write + Drop>(
     alloc: Global,
     input: R,
@@ -69,11 +70,13 @@ pub fn trace<R: Read + Drop, W: Write + Drop, E: Write + Drop>(
     run(alloc, &mut Diagram {}, input, output, errors)
 }
 
-/// Reads a script, writes what its commands are answered, each behind its line and its number, and returns the status, as
-/// `script` does. To `notes` it writes, behind each answer, for each waker that was handed out where it stood and why it was
-/// told, and then who is registered where, which requests wait or are due, and what the primitive would answer now to such calls as `len`.
+/// Reads a script, writes the answer of each command, behind its line and its number, and returns the status, as
+/// `script` does. Behind each answer it writes to `notes` where each waker that was handed out was registered, and why
+/// it was handed out. Then it writes which wakers are registered where, which requests wait or are due, and what the
+/// primitive would answer now to such calls as `len`.
 ///
-/// Neither is buffered, so `notes` may be where `output` is. No contract says what stands in the notes.
+/// Neither output is buffered, so `notes` may write to the place of `output`. No contract says what stands in the
+/// notes.
 pub fn explain<R: Read + Drop, W: Write + Drop, N: Write + Drop, E: Write + Drop>(
     alloc: Global,
     input: R,
@@ -90,9 +93,12 @@ pub fn explain<R: Read + Drop, W: Write + Drop, N: Write + Drop, E: Write + Drop
 
 /// Plays a whole script, and writes what `telling` tells of it.
 ///
-/// The commands are those that the lines say, the replies are a run of the primitive that line 1 names, and what is written is
-/// what `telling` tells of them. An error says which line is no command, or that a read, a write or memory failed; the lines
-/// before have been played.
+/// The commands are those that the lines say, the replies are a run of the primitive that line 1 names, and the output
+/// is what `telling` tells of them.
+///
+/// # Errors
+///
+/// Returns which line is no command, or that a read, a write or memory failed. The lines before have been played.
 pub fn play_script<T: Telling, R: Read + Drop, W: Write>(
     alloc: Global,
     telling: &mut T,
@@ -107,10 +113,12 @@ pub fn play_script<T: Telling, R: Read + Drop, W: Write>(
     }
 }
 
-/// Plays a whole script that stands in memory, and writes what `telling` tells of it, as `play_script` does. It asks for no memory,
-/// and doesn't flush the output.
+/// Plays a whole script that stands in memory, and writes what `telling` tells of it, as `play_script` does. It takes
+/// no memory, and doesn't flush the output.
 ///
-/// No read of it fails: an error says which line is no command, or that `telling` or a write of the output failed.
+/// # Errors
+///
+/// Returns which line is no command, or that `telling` or a write of the output failed. No read of the script fails.
 pub fn play_bytes<T: Telling, W: Write>(
     telling: &mut T,
     text: &[u8],
@@ -124,7 +132,10 @@ pub fn play_bytes<T: Telling, W: Write>(
 
 /// Plays a whole script that stands in memory, and appends what `telling` tells of it, as `play_script` does.
 ///
-/// No read or write of it fails: an error says which line is no command, or that memory was refused, be it for `output`.
+/// # Errors
+///
+/// Returns which line is no command, or that memory was refused, be it for `output`. No read or write of the script
+/// fails.
 pub fn play_text<T: Telling>(telling: &mut T, text: &str, output: &mut Vec<u8>) -> Result<(), Fault>
     ensures plays { PlaysScript ⟦<u64 as PartialEq>⟧.eq ⟦<Max as Kind<u32>>⟧.above ⟦<Min as Kind<u32>>⟧.above T.story (Some text.now) (Some output.old.items) (Some output.new.items) result }
     ensures err { IfErr result (λ fault. fault ≡ Fault.InputOutput → ⊥) }
@@ -147,7 +158,7 @@ fn run<T: Telling, R: Read + Drop, W: Write + Drop, E: Write + Drop>(
     status(play_buffered(alloc, telling, input, output), errors)
 }
 
-// The status that tells how a script ended, and to `errors` why, where it didn't end with its last line.
+// Returns the status that tells how a script ended. Writes the reason to `errors` if it didn't end with its last line.
 fn status<E: Write + Drop>(outcome: Result<(), Fault>, mut errors: E) -> u8
     ensures { result ≡ status_of_outcome outcome }
 {
@@ -166,6 +177,10 @@ fn report<E: Write>(errors: &mut E, fault: &Fault) -> io::Result<()> {
 }
 
 /// Plays a whole script, as `play_script` does, and writes in pieces: before a read that may wait, and at the end.
+///
+/// # Errors
+///
+/// Returns which line is no command, or that a read, a write or memory failed.
 pub fn play_buffered<T: Telling, R: Read + Drop, W: Write + Drop>(
     alloc: Global,
     telling: &mut T,

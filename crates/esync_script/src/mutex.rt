@@ -75,7 +75,7 @@ impl Vocabulary for MutexWords {
 }
 
 impl Scripted<MutexWords> for MutexRun<(u32, u32), u32, Second, u64, REQS, 1> {
-    /// The two values.
+    /// The two values at first.
     type First = (u32, u32);
 
     ghost use Rattle.esync_script.specs.Mutex.{mutex_setting};

@@ -43,7 +43,7 @@ use esync_words::vocabulary::REQS;
 use esync_words::words::Words;
 use std::io::Write;
 
-/// How much a primitive holds, of the capacities that a script can ask for.
+/// A capacity of a primitive that a script can ask for.
 #[derive(Clone, Copy, Debug, PartialEq, Eq)]
 pub enum Capacity {
     One,
@@ -53,7 +53,7 @@ pub enum Capacity {
     Eight,
 }
 
-// The capacity of this number of places.
+// Returns the capacity of this number of places, if a script can ask for it.
 fn capacity_of(places: u64) -> Option<Capacity>
     ensures { result ≡ capacity places }
 {
@@ -134,7 +134,7 @@ impl Opens for Opening {
     }
 }
 
-// An expression of a capacity, which has to be written for each: a number of places is part of a machine's type.
+// An expression over a capacity, written out for each capacity: a number of places is part of a machine's type.
 macro_rules! at_capacity {
     ($capacity:expr => $serve:ident!($($argument:tt)*)) => {
         match $capacity {
@@ -147,7 +147,7 @@ macro_rules! at_capacity {
     };
 }
 
-// A call of a function of a number of places, at this one.
+// A call of a function whose type parameter is the number of places.
 macro_rules! at_places {
     ($n:literal, $serve:ident::<$($of:ident),*>($($argument:ident),*)) => {
         $serve::<$n, $($of),*>($($argument),*)
@@ -281,8 +281,8 @@ fn serve_watch<P: Player<R, W>, R: ByteSource, W: Write>(
     at_capacity!(capacity => at_places!(serve_value::<P, R, W>(player, value, lines, output)))
 }
 
-// A script over this pub-sub channel, which begins with this number. The log is a type parameter, and the machine is there: of a log of
-// `N` messages the checker meets its limit of steps at the call.
+// A script over this pub-sub channel, whose first message has this number. The log is a type parameter, and the machine
+// is handed in: with a log of `N` messages the checker meets its limit of steps at the call.
 fn serve_topic<L: LogStore<Message = u32> + Kept, P: Player<R, W>, R: ByteSource, W: Write>(
     player: &mut P,
     machine: Topic<L>,
@@ -378,7 +378,7 @@ fn serve_opening<P: Player<R, W>, R: ByteSource, W: Write>(
     }
 }
 
-// Writes what comes behind lines that were played so, unless a write has failed.
+// Writes the text behind lines with this outcome, unless a write has failed.
 fn close<T: Telling, W: Write>(
     telling: &mut T,
     played: Result<(), Fault>,
@@ -393,7 +393,12 @@ fn close<T: Telling, W: Write>(
     played
 }
 
-/// Tells of a whole script, whose lines haven't been read: of line 1, of each line that is played behind it, and at the end.
+/// Tells of a whole script, none of whose lines has been read: of line 1, of each line that is played behind it, and of
+/// the end.
+///
+/// # Errors
+///
+/// Returns which line is no command, or that a read, a write or memory failed.
 pub fn play_lines<T: Telling, R: ByteSource, W: Write>(
     telling: &mut T,
     lines: &mut Lines<R>,
@@ -411,7 +416,12 @@ pub fn play_lines<T: Telling, R: ByteSource, W: Write>(
     }
 }
 
-/// Gives the player the machine that line 1 names, and the lines behind it. None has been read, and nothing is written of line 1.
+/// Gives the player the machine that line 1 names, and the lines behind line 1. No line has been read before, and
+/// nothing is written of line 1.
+///
+/// # Errors
+///
+/// Returns `NotACommand` if line 1 names no primitive, and otherwise the player's fault or that of a read.
 pub fn play_with<P: Player<R, W>, R: ByteSource, W: Write>(
     player: &mut P,
     lines: &mut Lines<R>,

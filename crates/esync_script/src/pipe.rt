@@ -14,19 +14,19 @@ use esync_words::vocabulary::{Place, REQS, Vocabulary};
 use esync_words::words::Words;
 use std::io::{self, Write};
 
-// How many bytes a command or an answer has at most.
+// The greatest number of bytes of a command or an answer.
 const PLACES: usize = 16;
 
 type Row = Bytes<PLACES>;
 
-// The bytes that the last word writes.
+// Returns the bytes that the last word writes.
 fn read_bytes(words: Words<'_>) -> Option<Row>
     ensures { result ≡ row 16 words.entry }
 {
     Some(Bytes::from_slice(words.bytes()?.as_slice()))
 }
 
-// How many bytes are asked for, of those that an answer has room for.
+// Returns how many bytes are asked for, if an answer has room for them.
 fn read_count(words: Words<'_>) -> Option<usize>
     ensures { result ≡ a_count words.entry }
 {
@@ -43,7 +43,7 @@ fn print_ready<W: Write>(bytes: &Row, output: &mut W) -> io::Result<()>
     write!(output, ")")
 }
 
-// Prints the bytes that a call that doesn't wait answers, or that there are none.
+// Prints the bytes that a call answers at once, or that there are none.
 fn print_tried<W: Write>(tried: &Result<Row, TryReadError>, output: &mut W) -> io::Result<()>
     ensures { OnOk result (Appends (W.contents output.old) (W.contents output.new) (tried_text tried.now)) }
 {

@@ -1,4 +1,4 @@
-//! What goes through the lines of a script, whichever primitive line 1 names.
+//! The loop over the lines of a script, whichever primitive line 1 names.
 ghost use Rattle.std.specs.Prelude.{ℕ, List, Option, Result};
 ghost use Rattle.esync_machine.specs.Runs.{Meaning};
 ghost use Rattle.esync_machine.specs.declared.primitive.Answer.{Answer as AnswerOf};
@@ -17,8 +17,8 @@ use esync_words::play::{Parts, Telling, play};
 use esync_words::vocabulary::Vocabulary;
 use std::io::Write;
 
-/// Goes through the lines behind line 1, over the machine that line 1 names. Each `Telling` does so: it gives each line to the
-/// machine as a command, and tells what comes of it.
+/// A player: it goes through the lines behind line 1, over the machine that line 1 names. Each `Telling` is a player:
+/// it gives each line to the machine as a command, and tells of the answer.
 pub trait Player<R: ByteSource, W: Write> {
     ghost use Rattle.std.specs.Prelude.{ℕ, List, Option, Result};
     ghost use Rattle.esync_machine.specs.Runs.{Meaning};
@@ -26,12 +26,17 @@ pub trait Player<R: ByteSource, W: Write> {
     ghost use Rattle.esync_machine.specs.declared.primitive.Command.{Command as CommandOf};
     ghost use Rattle.esync_words.specs.declared.fault.Fault.{Fault as FaultOf};
 
-    /// How a script is gone through, by a player before and after it: of a machine that means this, where a line says a command,
-    /// an answer has a text, and a reply an answer and wakers; from an object and the wakers that are registered, behind line n,
-    /// with what is left of the text, and the output before and after it.
+    /// The statement that a script was played, by the player before and after it. It is over the meaning of the
+    /// machine, the command that a line says, the text of an answer, and the answer and the wakers of a reply. It
+    /// begins from an object and its registered wakers, behind line n, with the text that is left. It has the output
+    /// before and after.
     ghost plays: { Self → Self → (Q C A Reply : Type 0) (M : Meaning (CommandOf Q ℕ C) Reply ℕ) → (List ℕ → Option (CommandOf Q ℕ C)) → (A → List ℕ) → (Reply → AnswerOf A) → (Reply → List ℕ) → M.Object → M.Registered → ℕ → Option (List ℕ) → Option (List ℕ) → Option (List ℕ) → Result (Unit {0}) FaultOf → Type 0 };
 
-    /// Goes through the lines that are left.
+    /// Plays the lines that are left.
+    ///
+    /// # Errors
+    ///
+    /// Returns the fault at which it stopped.
     fn play<V, M>(&mut self, machine: M, lines: &mut Lines<R>, output: &mut W) -> Result<(), Fault>
     where
         V: Vocabulary,

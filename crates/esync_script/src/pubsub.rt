@@ -112,7 +112,7 @@ impl Vocabulary for PubSubWords {
     }
 }
 
-// Prints what was read.
+// Prints the text of a read.
 fn print_read<W: Write>(answer: &WaitResult<u32>, output: &mut W) -> io::Result<()>
     ensures { OnOk result (Appends (W.contents output.old) (W.contents output.new) (read_text answer.now)) }
 {
@@ -122,7 +122,7 @@ fn print_read<W: Write>(answer: &WaitResult<u32>, output: &mut W) -> io::Result<
     }
 }
 
-// Prints what a poll read.
+// Prints the text of a poll that read.
 fn print_ready<W: Write>(answer: &WaitResult<u32>, output: &mut W) -> io::Result<()>
     ensures { OnOk result (Appends (W.contents output.old) (W.contents output.new) (codes "Ready(" ++ read_text answer.now ++ codes ")")) }
 {
@@ -134,7 +134,7 @@ fn print_ready<W: Write>(answer: &WaitResult<u32>, output: &mut W) -> io::Result
 /// A pub-sub channel over this log, with four places for subscribers and four for publishers.
 pub type Topic<L> = Requests<Events<L, Wakes<u64, 4>, Wakes<u64, 4>, REQS>, REQS, 4>;
 
-/// A pub-sub channel over this log in which nobody is, and whose first message has this number.
+/// Returns a pub-sub channel over this log without subscribers and publishers, whose first message has this number.
 ///
 /// A topic isn't `Scripted`: over an open log it can't be shown that the machine which `serve` makes fits in memory.
 pub fn topic<L: LogStore<Message = u32>>(first: u64) -> Topic<L>

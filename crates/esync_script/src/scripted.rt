@@ -18,16 +18,16 @@ pub trait Scripted<V: Vocabulary>: Machine<Command = Command<V::Ask, u64, V::Cal
     + Copied
     + Registered<Waker = u64>
     + Drop {
-    /// What line 1 says of the primitive beside its capacity.
+    /// What line 1 says of the primitive besides its capacity.
     type First;
 
-    /// A machine can begin so.
+    /// The condition under which a machine can begin like this.
     ghost CanBegin: { Self.First → Type 0 } = { λ first. Unit {0} };
 
-    /// It is as line 1 says, without requests and with no waker registered.
+    /// The statement that a machine is as line 1 says, without requests and without registered wakers.
     ghost IsNew: { Self.First → Self → Type 0 };
 
-    /// The machine at first.
+    /// Returns the machine as line 1 says, without requests.
     fn begin(first: Self::First) -> Self
         requires { CanBegin first }
         ensures { IsNew first result };
@@ -35,7 +35,11 @@ pub trait Scripted<V: Vocabulary>: Machine<Command = Command<V::Ask, u64, V::Cal
 
 /// Gives the player the machine that line 1 names, and the lines behind line 1.
 ///
-/// It is played from whatever object, and with whoever registered, each new machine has.
+/// The contract is over any object and registrations that each new machine has.
+///
+/// # Errors
+///
+/// Returns the player's fault.
 pub fn serve<V, M, P, R, W>(
     player: &mut P,
     first: M::First,

@@ -15,7 +15,7 @@ use esync_words::vocabulary::{Place, REQS, Vocabulary};
 use esync_words::words::Words;
 use std::io::{self, Write};
 
-// What is asked of either semaphore.
+// Reads what a request asks of a semaphore, greedy or fair.
 fn read_ask(name: &str, words: Words<'_>) -> Option<Amount>
     ensures { result ≡ permit_asks name.now words.entry }
 {
@@ -26,7 +26,7 @@ fn read_ask(name: &str, words: Words<'_>) -> Option<Amount>
     }
 }
 
-// A call of either semaphore.
+// Reads a call of a semaphore, greedy or fair.
 fn read_call(name: &str, words: Words<'_>) -> Option<PermitCall>
     ensures { result ≡ permit_calls name.now words.entry }
 {
@@ -155,7 +155,7 @@ impl Vocabulary for FairWords {
 }
 
 impl Scripted<GreedyWords> for GreedyRun<u64, REQS, 1> {
-    /// How many permits there are.
+    /// The number of permits at first.
     type First = usize;
 
     ghost use Rattle.esync_script.specs.Semaphore.{greedy_setting};
@@ -172,7 +172,7 @@ impl Scripted<GreedyWords> for GreedyRun<u64, REQS, 1> {
 pub type Queued<const N: usize> = FairRun<u64, N, REQS, 1>;
 
 impl<const N: usize> Scripted<FairWords> for Queued<N> {
-    /// How many permits there are.
+    /// The number of permits at first.
     type First = usize;
 
     ghost use Rattle.std.specs.Prelude.{◌≤◌};

@@ -11,7 +11,8 @@ use esync_words::vocabulary::{Place, REQS, Vocabulary};
 use esync_words::words::Words;
 use std::io::{self, Write};
 
-/// Adds this much to a value, modulo 2^32. Where there is no value, or nothing to add, it does nothing and says so.
+/// A change that adds this much to a value, modulo 2^32. Without a value, or with nothing to add, it changes nothing
+/// and doesn't tell.
 #[derive(Clone, Copy, Debug, PartialEq, Eq)]
 pub struct Adds {
     pub amount: u32,
@@ -38,7 +39,7 @@ impl Change<u32> for Adds {
     ghost a_change_tells = { λ c v told. adds_tells c.amount v told };
 }
 
-/// A value below the limit passes.
+/// A test that a value below the limit passes.
 #[derive(Clone, Copy, Debug, PartialEq, Eq)]
 pub struct Below {
     pub limit: u32,
@@ -57,7 +58,7 @@ impl Judge<u32> for Below {
 /// The words of a watch of values.
 pub struct WatchWords {}
 
-// What a receiver asks.
+// Reads what a receiver waits for.
 fn read_ask(name: &str, words: Words<'_>) -> Option<Await<Below>>
     ensures { result ≡ watch_asks name.now words.entry }
 {
@@ -88,7 +89,7 @@ fn read_ask(name: &str, words: Words<'_>) -> Option<Await<Below>>
     }
 }
 
-// What a receiver tries to read.
+// Reads what a receiver tries to read.
 fn read_call(name: &str, words: Words<'_>) -> Option<WatchCall<u32, Adds, Below>>
     ensures { result ≡ watch_reads name.now words.entry }
 {
@@ -171,7 +172,7 @@ impl Vocabulary for WatchWords {
 pub type Counted<const N: usize> = WatchRun<u32, u64, Adds, Below, N, REQS, REQS, N>;
 
 impl<const N: usize> Scripted<WatchWords> for Counted<N> {
-    /// The value, if there is one.
+    /// The value at first, if there is one.
     type First = Option<u32>;
 
     ghost use Rattle.std.specs.Prelude.{◌≤◌};

@@ -12,7 +12,7 @@ use esync_zerocopy::zerocopy_channel::machine::{Lent, ZeroCall, ZeroHeard};
 use esync_zerocopy::zerocopy_channel::{RowState, Side, SlotLent};
 use std::io::{self, Write};
 
-// Prints the number of a slot, and the value that a receiver is shown.
+// Prints the number of a slot, and the value that a receiver reads there.
 fn print_lent<W: Write>(lent: &Lent<u32>, output: &mut W) -> io::Result<()>
     ensures { OnOk result (Appends (W.contents output.old) (W.contents output.new) (lent_text lent.now)) }
 {
@@ -95,7 +95,7 @@ impl Vocabulary for ZeroWords {
     }
 }
 
-/// A zero-copy channel of `N` slots, which stand in a row of their own.
+/// A zero-copy channel of `N` slots, which stand in the state itself.
 pub type Slotted<const N: usize> = Requests<RowState<ArrayVec<u32, N>, u64>, REQS, 1>;
 
 impl<const N: usize> Scripted<ZeroWords> for Slotted<N> {

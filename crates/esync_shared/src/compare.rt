@@ -8,12 +8,12 @@ use std::alloc::Global;
 use std::fmt::{self, Display, Formatter};
 use std::sync::Wait;
 
-/// How a shared form's replies go with those of the machine.
+/// The outcome of a comparison of a shared form's replies with the machine's.
 #[derive(Clone, Copy)]
 pub enum Found {
-    /// So many replies, all alike.
+    /// All replies are alike. This is their number.
     Alike(usize),
-    /// So many are alike, and then comes another, where this way was taken first.
+    /// This many replies are alike, and the next one differs, with this way first.
     Another(usize, Door),
 }
 
@@ -34,11 +34,12 @@ impl Display for Found {
     }
 }
 
-/// Plays the script over the machine, and over the shared form, three times, each time with another way first.
+/// Plays the script over the machine, and three times over the shared form, each time with another way first, and
+/// compares the replies.
 ///
 /// # Errors
 ///
-/// That of the script, where the machine doesn't come to its end.
+/// Returns the fault of the script if the machine doesn't come to its end.
 pub fn compare<R: Wait>(rt: &R, alloc: Global, script: &str) -> Result<Found, Fault> {
     let mut machine = Vec::new(alloc);
     play_text(&mut Replies {}, script, &mut machine)?;
@@ -54,7 +55,7 @@ pub fn compare<R: Wait>(rt: &R, alloc: Global, script: &str) -> Result<Found, Fa
     Ok(Found::Alike(machine.lines().count()))
 }
 
-// How many lines are alike before the first that isn't.
+// Returns how many lines are alike before the first that differs.
 fn alike(one: &str, other: &str) -> usize {
     one.lines()
         .zip(other.lines())

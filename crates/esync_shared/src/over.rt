@@ -1,4 +1,4 @@
-//! What a script is played over: each primitive in its shared form.
+//! The shared form of each primitive that a script is played over.
 ghost use Rattle.std.specs.Prelude.{◌<◌, ◌≤◌, IfOk, length};
 
 use crate::play::{Script, Stage, serve};
@@ -44,7 +44,7 @@ use std::alloc::{AllocError, Global};
 use std::io::Write;
 use std::sync::Wait;
 
-/// Over the primitive that line 1 names.
+/// Plays the script over the shared form of the primitive that line 1 names.
 pub fn named<R: Wait, W: Write>(
     stage: Stage<'_, '_, R>,
     opening: Opening,
@@ -61,7 +61,8 @@ pub fn named<R: Wait, W: Write>(
         Opening::Pipe(capacity) => pipe(stage, capacity, script, output),
         Opening::PubSub(capacity, first) => pubsub(stage, capacity, first, script, output),
         Opening::Once => once(stage, script, output),
-        // Its calls ask that its closure can be called, which can't be said of a value that a form keeps. Tests show what it does.
+        // The calls of a lazy value ask that its closure can be called, which can't be said of a value that a form
+        // keeps. Tests show what it does.
         Opening::Lazy(_) => Err(Fault::NotACommand(1)),
         Opening::Mutex(value, part) => mutex(stage, value, part, script, output),
         Opening::Watch(capacity, value) => watch(stage, capacity, value, script, output),
@@ -69,8 +70,8 @@ pub fn named<R: Wait, W: Write>(
     }
 }
 
-// An expression of a capacity, which has to be written for each: a number of places is part of a type. The number stands where
-// `N` does, or first among what a macro is given.
+// An expression over a capacity, written out for each capacity: a number of places is part of a type. The number stands
+// in place of `N`, or first among a macro's arguments.
 macro_rules! at_capacity {
     ($capacity:ident, [$($before:tt)*] N [$($after:tt)*]) => {
         match $capacity {
@@ -92,7 +93,7 @@ macro_rules! at_capacity {
     };
 }
 
-// Over a channel that keeps its messages so.
+// Plays the script over a channel that keeps its messages in this way.
 fn mailbox<S: Store<Message = u32>, R: Wait, W: Write>(
     stage: Stage<'_, '_, R>,
     script: &mut Script<'_>,
@@ -103,7 +104,7 @@ fn mailbox<S: Store<Message = u32>, R: Wait, W: Write>(
     serve::<ChannelWords, _, R, W>(stage, form, script, output)
 }
 
-// Over a channel.
+// Plays the script over a channel.
 fn channel<R: Wait, W: Write>(
     stage: Stage<'_, '_, R>,
     capacity: Capacity,
@@ -113,7 +114,7 @@ fn channel<R: Wait, W: Write>(
     at_capacity!(capacity, [mailbox::<Deque<u32,] N [>, R, W>(stage, script, output)])
 }
 
-// Over a priority channel of this kind.
+// Plays the script over a priority channel of this kind.
 fn priority<K: Kind<u32>, R: Wait, W: Write>(
     stage: Stage<'_, '_, R>,
     capacity: Capacity,
@@ -123,7 +124,7 @@ fn priority<K: Kind<u32>, R: Wait, W: Write>(
     at_capacity!(capacity, [mailbox::<PrioQueue<u32, K,] N [>, R, W>(stage, script, output)])
 }
 
-// Over a signal.
+// Plays the script over a signal.
 fn signal<R: Wait, W: Write>(
     stage: Stage<'_, '_, R>,
     script: &mut Script<'_>,
@@ -134,7 +135,7 @@ fn signal<R: Wait, W: Write>(
     serve::<SignalWords, _, R, W>(stage, form, script, output)
 }
 
-// Over a semaphore of this state, told of in these words.
+// Plays the script over a semaphore with this state, in these words.
 fn semaphore<S, V, G, R, W>(
     stage: Stage<'_, '_, R>,
     permits: usize,
@@ -154,7 +155,7 @@ where
     serve::<V, _, R, W>(stage, form, script, output)
 }
 
-// Over a greedy semaphore.
+// Plays the script over a greedy semaphore.
 fn greedy<R: Wait, W: Write>(
     stage: Stage<'_, '_, R>,
     permits: usize,
@@ -164,7 +165,7 @@ fn greedy<R: Wait, W: Write>(
     semaphore::<GreedyState<u64>, GreedyWords, _, R, W>(stage, permits, script, output)
 }
 
-// Over a fair semaphore with a queue of `N` places.
+// Plays the script over a fair semaphore with a queue of `N` places.
 fn queue<const N: usize, R: Wait, W: Write>(
     stage: Stage<'_, '_, R>,
     permits: usize,
@@ -176,7 +177,7 @@ fn queue<const N: usize, R: Wait, W: Write>(
     semaphore::<FairState<u64, N>, FairWords, _, R, W>(stage, permits, script, output)
 }
 
-// Over a fair semaphore.
+// Plays the script over a fair semaphore.
 fn fair<R: Wait, W: Write>(
     stage: Stage<'_, '_, R>,
     capacity: Capacity,
@@ -187,7 +188,7 @@ fn fair<R: Wait, W: Write>(
     at_capacity!(capacity, [queue::<] N [, R, W>(stage, permits, script, output)])
 }
 
-// Over a pipe that is split anew for each call.
+// Plays the script over a pipe that is split anew for each call.
 fn split<B: ByteStore, R: Wait, W: Write>(
     stage: Stage<'_, '_, R>,
     script: &mut Script<'_>,
@@ -198,7 +199,7 @@ fn split<B: ByteStore, R: Wait, W: Write>(
     serve::<PipeWords, _, R, W>(stage, form, script, output)
 }
 
-// Over a pipe whose futures last.
+// Plays the script over a pipe whose futures last.
 fn lasting<B: ByteStore, R: Wait, W: Write>(
     stage: Stage<'_, '_, R>,
     script: &mut Script<'_>,
@@ -214,7 +215,7 @@ fn lasting<B: ByteStore, R: Wait, W: Write>(
     serve::<PipeWords, _, R, W>(stage, form, script, output)
 }
 
-// Over a pipe over such a ring, as the first way says.
+// Plays the script over a pipe with this buffer: the first way says whether it is split anew or its futures last.
 fn bytes<B: ByteStore, R: Wait, W: Write>(
     stage: Stage<'_, '_, R>,
     script: &mut Script<'_>,
@@ -227,7 +228,7 @@ fn bytes<B: ByteStore, R: Wait, W: Write>(
     }
 }
 
-// Over a pipe.
+// Plays the script over a pipe.
 fn pipe<R: Wait, W: Write>(
     stage: Stage<'_, '_, R>,
     capacity: Capacity,
@@ -237,7 +238,7 @@ fn pipe<R: Wait, W: Write>(
     at_capacity!(capacity, [bytes::<ByteRing<] N [>, R, W>(stage, script, output)])
 }
 
-// Over this pub-sub channel, at which nobody is.
+// Plays the script over this pub-sub channel, which has no subscribers and publishers.
 fn log<
     G: LogStore<Message = u32>,
     S: WakerList<Waker = u64>,
@@ -258,7 +259,7 @@ fn log<
     }
 }
 
-// Over the pub-sub channel of so many messages. It is spelled out, so that its bytes are known.
+// A pub-sub channel of so many messages. It is spelled out, so that its size in bytes is known.
 macro_rules! topic {
     ($n:literal, $of:ident, $stage:ident, $script:ident, $output:ident) => {{
         let channel: PubSubChannel<u32, u64, &Notes<'_, $of>, $n, 4, 4, 4> =
@@ -267,7 +268,7 @@ macro_rules! topic {
     }};
 }
 
-// Over a pub-sub channel, whose first message has the number 0: a shared channel begins nowhere else.
+// Plays the script over a pub-sub channel whose first message has the number 0: a shared channel begins nowhere else.
 fn pubsub<R: Wait, W: Write>(
     stage: Stage<'_, '_, R>,
     capacity: Capacity,
@@ -281,7 +282,7 @@ fn pubsub<R: Wait, W: Write>(
     at_capacity!(capacity, topic!(R, stage, script, output))
 }
 
-// Over a value that is set once.
+// Plays the script over a value that is set once.
 fn once<R: Wait, W: Write>(
     stage: Stage<'_, '_, R>,
     script: &mut Script<'_>,
@@ -291,7 +292,7 @@ fn once<R: Wait, W: Write>(
     serve::<OnceWords, _, R, W>(stage, form, script, output)
 }
 
-// Over a mutex.
+// Plays the script over a mutex.
 fn mutex<R: Wait, W: Write>(
     stage: Stage<'_, '_, R>,
     value: u32,
@@ -303,7 +304,7 @@ fn mutex<R: Wait, W: Write>(
     serve::<MutexWords, _, R, W>(stage, Guarded::new(&mutex), script, output)
 }
 
-// Over this watch, which has no receivers.
+// Plays the script over this watch, which has no receivers.
 fn latest<L: WakerList<Waker = u64>, H: Hand<u64>, R: Wait, W: Write, const K: usize>(
     stage: Stage<'_, '_, R>,
     watch: &SharedWatch<u32, L, H, K>,
@@ -316,7 +317,7 @@ fn latest<L: WakerList<Waker = u64>, H: Hand<u64>, R: Wait, W: Write, const K: u
     }
 }
 
-// Over a watch with places for so many receivers.
+// Plays the script over a watch with places for `N` receivers.
 fn value<const N: usize, R: Wait, W: Write>(
     stage: Stage<'_, '_, R>,
     value: Option<u32>,
@@ -332,7 +333,7 @@ fn value<const N: usize, R: Wait, W: Write>(
     latest(stage, &watch, script, output)
 }
 
-// Over a watch.
+// Plays the script over a watch.
 fn watch<R: Wait, W: Write>(
     stage: Stage<'_, '_, R>,
     capacity: Capacity,
@@ -347,7 +348,7 @@ fn slot(number: usize) -> Slot<Numbered> {
     Slot::new(Numbered { number, value: 0 })
 }
 
-// As many slots of value 0.
+// Returns as many slots of value 0 as the capacity says.
 fn slots(alloc: Global, capacity: Capacity) -> Result<Vec<Slot<Numbered>>, AllocError>
     ensures { IfOk result (λ slots. 0 < length slots.items) }
 {
@@ -371,7 +372,7 @@ fn slots(alloc: Global, capacity: Capacity) -> Result<Vec<Slot<Numbered>>, Alloc
     }
 }
 
-// Over a zero-copy channel.
+// Plays the script over a zero-copy channel.
 fn zerocopy<R: Wait, W: Write>(
     stage: Stage<'_, '_, R>,
     capacity: Capacity,

@@ -1,4 +1,4 @@
-//! Plays a script over the shared form of the primitive that its first line names.
+//! The loop over a script's lines, for the shared form of the primitive that line 1 names.
 use crate::over;
 use esync_forms::form::{Doors, Form, NUMBERS, Places, turn};
 use esync_machine::primitive::Command;
@@ -25,7 +25,7 @@ pub struct Script<'t> {
 }
 
 impl<'t> Script<'t> {
-    /// The whole text.
+    /// Returns all lines of the text.
     pub fn new(text: &'t str) -> Self {
         Script {
             rest: text,
@@ -33,7 +33,7 @@ impl<'t> Script<'t> {
         }
     }
 
-    // The next line, without its line feed.
+    // Returns the next line, without its line feed.
     fn next(&mut self) -> Option<&'t str> {
         self.number = self.number.saturating_add(1);
         if self.rest.is_empty() {
@@ -44,13 +44,13 @@ impl<'t> Script<'t> {
         Some(line)
     }
 
-    // The line that was taken last is no command.
+    // Returns the fault that the line that was taken last is no command.
     fn not_a_command(&self) -> Fault {
         Fault::NotACommand(self.number)
     }
 }
 
-/// Plays the script over the shared form by these ways, and prints its replies as `syncrun` does.
+/// Plays the script over the shared form, called in these ways, and prints its replies as `syncrun` does.
 pub fn play<R: Wait, W: Write>(
     rt: &R,
     alloc: Global,
@@ -71,22 +71,22 @@ pub fn play<R: Wait, W: Write>(
     over::named(stage, opening, &mut script, output)
 }
 
-/// What every shared form is played with.
+/// The hand and the ways with which every shared form is played.
 #[derive(Clone, Copy)]
 pub struct Stage<'n, 'r, R> {
     pub alloc: Global,
-    /// What its hand is given.
+    /// The notes of the wakers that the form's hand is given.
     pub notes: &'n Notes<'r, R>,
-    /// By which ways it is called.
+    /// The ways in which the form is called.
     pub doors: Doors,
 }
 
-// The words of a line, which may have so many bytes and no more.
+// Returns the words of a line, unless it has too many bytes.
 fn words_of(line: &str) -> Option<Words<'_>> {
     (line.len() <= LONGEST).then_some(Words::of(line))
 }
 
-// The command that a line says.
+// Returns the command that a line says, if it says one.
 fn command_of<V: Vocabulary>(line: &str) -> Option<Command<V::Ask, u64, V::Call>> {
     read_command::<V>(words_of(line)?)
 }
@@ -97,7 +97,8 @@ fn opening_of(line: &str) -> Option<Opening> {
     Opening::opening(name, words)
 }
 
-/// Gives each line that is left to the shared form, in these words, and prints what it answers and the wakers that its hand was given.
+/// Gives each line that is left to the shared form, in these words, and prints its answer and the wakers that its hand
+/// was given.
 pub fn serve<V, F, R, W>(
     stage: Stage<'_, '_, R>,
     mut form: F,

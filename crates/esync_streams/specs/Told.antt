@@ -6,12 +6,12 @@ use Rattle.esync_base.specs.declared.waitqueue.Poll.TheVariants.{Pending, Ready}
 use Rattle.futures.specs.declared.task.Poll.{Poll as TaskPoll}
 use Rattle.futures.specs.declared.task.Poll.TheVariants.{Pending as StillPending, Ready as NowReady}
 
--- the same answer
+-- the channel's answer to a poll, in the words of `futures`
 abbrev pub told : {A : Type 0} → Poll A → TaskPoll A
 told (Ready a) = NowReady a
 told Pending = StillPending
 
--- an answer of `futures`, as a poll of the channel says it
+-- an answer in the words of `futures`, as the channel's answer
 abbrev pub as_poll : {A : Type 0} → TaskPoll A → Poll A
 as_poll (NowReady a) = Ready a
 as_poll StillPending = Pending

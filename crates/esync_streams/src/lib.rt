@@ -1,4 +1,4 @@
-//! Subscribers as streams of the crate `futures`, and publishers as its sinks, for its executors.
+//! Subscribers as streams of the crate `futures`, and publishers as its sinks, for the executors of `futures`.
 #![tactic(auto)]
 
 ghost use Rattle.std.specs.Prelude.{◌≡◌, Some, None, Ok, IfSome};
@@ -16,7 +16,7 @@ use std::alloc::{AllocError, Global};
 use std::marker::Model;
 use std::sync::{Mutex, Wait};
 
-/// Where a task of `futures` leaves its waker.
+/// The place where a task of `futures` leaves its waker.
 #[derive(Drop)]
 pub struct Registration {
     source: Source,
@@ -24,7 +24,7 @@ pub struct Registration {
 }
 
 impl Registration {
-    // No waker.
+    // Returns a place without a waker.
     fn new() -> Self {
         Registration {
             source: Source::new(),
@@ -32,7 +32,8 @@ impl Registration {
         }
     }
 
-    // Leaves the waker of the task that is polled. Where another thread keeps the place for ever, the task asks to be polled again.
+    // Registers the waker of the task that is polled. If another thread keeps the place for ever, the task asks to be
+    // polled again.
     fn register(&self, cx: &mut TaskContext<'_>)
         ensures registered { Covers cx.new (λ s. s ≡ self.now.source.id) }
         ensures kept { Keeps cx.old cx.new }
@@ -43,14 +44,14 @@ impl Registration {
         };
     }
 
-    // Wakes the task that left its waker, once the place is free for another.
+    // Takes the waker that a task left, frees the place for the next one, and then wakes the task.
     fn wake(&self) {
         let waker = lock(&self.waker).map(|mut waker| waker.take());
         drop(waker);
     }
 }
 
-/// A hand that wakes tasks of `futures`: the waker `TaskId(k)` stands for the task that left its own at place k.
+/// A hand that wakes tasks of `futures`: the waker `TaskId(k)` stands for the task that left its own waker at place k.
 #[derive(Drop)]
 pub struct Registrations<'a, R> {
     rt: &'a R,
@@ -58,11 +59,11 @@ pub struct Registrations<'a, R> {
 }
 
 impl<'a, R: Wait> Registrations<'a, R> {
-    /// So many places, at which nobody left a waker.
+    /// Returns a hand with `count` places, all without a waker.
     ///
     /// # Errors
     ///
-    /// `AllocError` where there is no memory for them.
+    /// Returns `AllocError` if there is no memory for the places.
     pub fn new(rt: &'a R, alloc: Global, count: usize) -> Result<Self, AllocError> {
         let mut places = Vec::new(alloc);
         for _ in 0..count {
@@ -71,7 +72,7 @@ impl<'a, R: Wait> Registrations<'a, R> {
         Ok(Registrations { rt, places })
     }
 
-    // The place of a task.
+    // Returns the place of a task, if the hand has one.
     fn place(&self, task: TaskId) -> Option<&Registration> {
         self.places.get(task.0 as usize)
     }
@@ -91,8 +92,8 @@ impl<R: Wait> Hand<TaskId> for &Registrations<'_, R> {
     }
 }
 
-/// The messages of a subscriber as a stream of `futures`, which has no end. A message is an error where its clone had no memory; it
-/// comes again then.
+/// The messages of a subscriber as a stream of `futures`, which has no end. A message whose clone had no memory is an
+/// error, and comes again at the next poll.
 #[derive(Drop)]
 pub struct SubStream<'h, 'a, B: PubSubBehavior<Waker = TaskId>> {
     subscriber: Sub<'a, B>,
@@ -101,8 +102,8 @@ pub struct SubStream<'h, 'a, B: PubSubBehavior<Waker = TaskId>> {
 }
 
 impl<'h, 'a, B: PubSubBehavior<Waker = TaskId>> SubStream<'h, 'a, B> {
-    /// The messages of the subscriber, whose channel wakes by this hand. Whoever polls the stream leaves its waker at the task's place.
-    /// `None` where the hand has no such place.
+    /// Returns a stream of the subscriber's messages, whose channel wakes by this hand. A poll of the stream leaves its
+    /// task's waker at the place of `task`. Returns `None` if the hand has no such place.
     pub fn new<R: Wait>(
         subscriber: Sub<'a, B>,
         hand: &'h Registrations<'_, R>,
@@ -135,7 +136,7 @@ impl<B: PubSubBehavior<Waker = TaskId>> Stream for SubStream<'_, '_, B> {
     }
 }
 
-/// A sink of a publisher as a sink of `futures`. It stores one message, and each poll publishes the stored one.
+/// A publisher's sink as a sink of `futures`. It stores one message, and each poll publishes the stored one.
 #[derive(Drop)]
 pub struct SinkAdapter<'h, 's, B: PubSubBehavior<Waker = TaskId>> {
     sink: PubSink<'s, B>,
@@ -154,8 +155,9 @@ impl<'h, 's, B: PubSubBehavior<Waker = TaskId>> Model for SinkAdapter<'h, 's, B>
 }
 
 impl<'h, 's, B: PubSubBehavior<Waker = TaskId>> SinkAdapter<'h, 's, B> {
-    /// The sink of a publisher, whose channel wakes by this hand, with the message that it stores. Whoever polls the adapter leaves its
-    /// waker at the task's place. `None` where the hand has no such place.
+    /// Returns the publisher's sink as a sink of `futures`, with the message that it stores. Its channel wakes by this
+    /// hand. A poll of the sink leaves its task's waker at the place of `task`. Returns `None` if the hand has no such
+    /// place.
     pub fn new<R: Wait>(
         sink: PubSink<'s, B>,
         hand: &'h Registrations<'_, R>,
@@ -174,7 +176,7 @@ impl<'h, 's, B: PubSubBehavior<Waker = TaskId>> SinkAdapter<'h, 's, B> {
     }
 }
 
-// The answer of a poll, as `futures` tells it.
+// Returns the answer of a poll in the words of `futures`.
 fn told<A>(poll: Poll<A>) -> TaskPoll<A>
     ensures { result ≡ told poll }
 {
@@ -193,11 +195,12 @@ impl<B: PubSubBehavior<Waker = TaskId>> Sink<B::Message> for SinkAdapter<'_, '_,
 
     ghost needs = { λ adapter s. s ≡ adapter.source };
 
-    /// Publishes the stored message. Ready once none is stored; Pending while the channel is full.
+    /// Polls whether the sink can take a message: publishes the stored one first, if any. Pending while the channel is
+    /// full.
     ///
     /// # Errors
     ///
-    /// `Exhausted` with the stored message where the numbers of messages have run out. No message is stored then.
+    /// Returns `Exhausted` with the stored message if the numbers of messages have run out. The sink then stores none.
     fn poll_ready(&mut self, cx: &mut TaskContext<'_>) -> TaskPoll<Result<(), Self::Error>>
         ensures flushes { Flushes self.old.stored (as_poll result) self.new.stored }
         ensures registered { OnPending result (Covers cx.new (λ s. s ≡ self.new.source)) }
@@ -207,7 +210,7 @@ impl<B: PubSubBehavior<Waker = TaskId>> Sink<B::Message> for SinkAdapter<'_, '_,
         told(self.sink.poll_ready(&Context::from_waker(self.task)))
     }
 
-    /// Stores a message, which is never refused. One that is still stored is replaced, and lost.
+    /// Stores a message, which is never refused. It replaces a message that is still stored, which is lost.
     fn start_send(&mut self, item: B::Message) -> Result<(), Self::Error>
         ensures accepted { result ≡ Ok tt }
         ensures stored { self.new.stored ≡ Some item }
@@ -216,11 +219,12 @@ impl<B: PubSubBehavior<Waker = TaskId>> Sink<B::Message> for SinkAdapter<'_, '_,
         Ok(())
     }
 
-    /// Publishes the stored message. Ready once none is stored; Pending while the channel is full.
+    /// Polls whether the sink stores no message: publishes the stored one first, if any. Pending while the channel is
+    /// full.
     ///
     /// # Errors
     ///
-    /// `Exhausted` with the stored message where the numbers of messages have run out. No message is stored then.
+    /// Returns `Exhausted` with the stored message if the numbers of messages have run out. The sink then stores none.
     fn poll_flush(&mut self, cx: &mut TaskContext<'_>) -> TaskPoll<Result<(), Self::Error>>
         ensures flushes { Flushes self.old.stored (as_poll result) self.new.stored }
         ensures registered { OnPending result (Covers cx.new (λ s. s ≡ self.new.source)) }
@@ -230,11 +234,12 @@ impl<B: PubSubBehavior<Waker = TaskId>> Sink<B::Message> for SinkAdapter<'_, '_,
         told(self.sink.poll_flush(&Context::from_waker(self.task)))
     }
 
-    /// Publishes the stored message. Ready once none is stored; Pending while the channel is full.
+    /// Polls whether the sink can end without loss: publishes the stored message first, if any. Pending while the
+    /// channel is full.
     ///
     /// # Errors
     ///
-    /// `Exhausted` with the stored message where the numbers of messages have run out. No message is stored then.
+    /// Returns `Exhausted` with the stored message if the numbers of messages have run out. The sink then stores none.
     fn poll_close(&mut self, cx: &mut TaskContext<'_>) -> TaskPoll<Result<(), Self::Error>>
         ensures flushes { Flushes self.old.stored (as_poll result) self.new.stored }
         ensures registered { OnPending result (Covers cx.new (λ s. s ≡ self.new.source)) }

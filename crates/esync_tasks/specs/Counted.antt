@@ -16,7 +16,7 @@ unended_one Resting = 1
 unended_one Running = 1
 unended_one Woken = 1
 
--- The tasks are in order, the queue is as long as tasks are queued, and so many tasks aren't over.
+-- The tasks are in order, the queue is as long as tasks are queued, and `count` tasks aren't over.
 pub record IsCounted (n : ℕ) (states : List TaskState) (queue : List ℕ) (count : ℕ) : Type 0 where
   pub orderly : IsOrderly n (record { states = states; queue = queue })
   pub queued : length queue ≡ sum_by queued_one states

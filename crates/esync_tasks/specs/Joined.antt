@@ -4,19 +4,19 @@ use Rattle.esync_tasks.specs.declared.future.joined.Half.{Half}
 use Rattle.esync_tasks.specs.declared.future.joined.Half.TheVariants.{Waits, Ready, Taken}
 
 module _ {F X : Type 0} where
-  -- its future may be polled, or its output is there
+  -- a half's future may be polled, or its output is there
   abbrev pub CanAdvance : (F → Type 0) → Half F X → Type 0
   CanAdvance can_poll (Waits future) = can_poll future
   CanAdvance can_poll (Ready output) = ⊤
   CanAdvance can_poll Taken = ⊥
 
-  -- its output is there
+  -- a half's output is there
   abbrev pub IsReady : Half F X → Type 0
   IsReady (Ready output) = ⊤
   IsReady (Waits future) = ⊥
   IsReady Taken = ⊥
 
-  -- the output is one that its future may give, or the one that is kept
+  -- the output is one that the half's future may give, or the one that it keeps
   abbrev pub MayGive : (F → X → Type 0) → Half F X → X → Type 0
   MayGive gives (Waits future) output = gives future output
   MayGive gives (Ready kept) output = output ≡ kept

@@ -1,11 +1,11 @@
--- The tasks of a runtime, and the queue of those that were woken.
+-- The tasks of a runtime, and the queue of the tasks that were woken.
 use Rattle.std.specs.Prelude.{◌≡◌, ℕ, ◌==◌, List, [], ◌∷◌, ◌++◌, Option, Some, None, ⊤, length, slice_get, slice_set, count_by}
 use Rattle.std.specs.List.{range_with_len}
 use Rattle.std.proofs.Math.ListN.{replicate}
 use Rattle.esync_tasks.specs.declared.run_queue.TaskState.{TaskState}
 use Rattle.esync_tasks.specs.declared.run_queue.TaskState.TheVariants.{Resting, Queued, Running, Woken, Ended}
 
--- Where each task stands, and the numbers of those that wait for their turn, the next one first.
+-- The state of each task, and the numbers of the tasks that wait for their turn, the next one first.
 pub record Tasks : Type 0 where
   pub states : List TaskState
   pub queue : List ℕ
@@ -14,11 +14,11 @@ pub record Tasks : Type 0 where
 abbrev pub all_queued : ℕ → Tasks
 all_queued n = record { states = replicate n Queued; queue = range_with_len 0 n }
 
--- the task is in this state
+-- the tasks with this one in the state
 abbrev pub in_state : Tasks → ℕ → TaskState → Tasks
 in_state tasks k state = record { states = slice_set tasks.states k state; queue = tasks.queue }
 
--- the task stands in the queue, behind the others
+-- the tasks with this one at the back of the queue
 abbrev pub queued_last : Tasks → ℕ → Tasks
 queued_last tasks k = record { states = slice_set tasks.states k Queued; queue = tasks.queue ++ k ∷ [] }
 
@@ -30,7 +30,7 @@ woken_from (Some Woken) tasks k = tasks
 woken_from (Some Ended) tasks k = tasks
 woken_from None tasks k = tasks
 
--- after a wake of the task: one that rests is queued last, one that has its turn is marked, and any other stays as it is
+-- the tasks after a wake: one that rests is queued last, one that has its turn is marked, and any other stays as it is
 abbrev pub woken : Tasks → ℕ → Tasks
 woken tasks k = woken_from (slice_get tasks.states k) tasks k
 
@@ -42,15 +42,15 @@ rested_from (Some Queued) tasks k = tasks
 rested_from (Some Ended) tasks k = tasks
 rested_from None tasks k = tasks
 
--- after a turn of the task that wasn't its last: one that was woken meanwhile is queued last
+-- the tasks after a turn that wasn't the task's last: a task that was woken meanwhile is queued last
 abbrev pub rested : Tasks → ℕ → Tasks
 rested tasks k = rested_from (slice_get tasks.states k) tasks k
 
--- after the last turn of the task
+-- the tasks after the last turn of the task
 abbrev pub ended : Tasks → ℕ → Tasks
 ended tasks k = in_state tasks k Ended
 
--- the task is there, isn't over and isn't queued
+-- there is such a task, which is neither over nor queued
 abbrev pub IsOutside : Option TaskState → Type 0
 IsOutside (Some Resting) = ⊤
 IsOutside (Some Running) = ⊤
@@ -99,7 +99,7 @@ IsOwedIn (Some Running) = ⊥
 IsOwedIn (Some Ended) = ⊥
 IsOwedIn None = ⊥
 
--- the task is owed a turn: it waits for it in the queue, or goes there as soon as the turn that it has is over
+-- the task is owed a turn: it waits for it in the queue, or goes there once its present turn is over
 abbrev pub IsOwed : Tasks → ℕ → Type 0
 IsOwed tasks k = IsOwedIn (slice_get tasks.states k)
 
@@ -119,6 +119,6 @@ CanBeOwed tasks k = CanBeOwedIn (slice_get tasks.states k)
 abbrev pub StayOwed : Tasks → Tasks → Type 0
 StayOwed old new = (k : ℕ) → IsOwed old k → IsOwed new k
 
--- each other task that was owed a turn still is
+-- each task but this one that was owed a turn still is
 abbrev pub OthersStayOwed : ℕ → Tasks → Tasks → Type 0
 OthersStayOwed task old new = (k : ℕ) → (k ≡ task → ⊥) → IsOwed old k → IsOwed new k

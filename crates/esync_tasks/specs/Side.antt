@@ -7,6 +7,6 @@ use Rattle.esync_tasks.specs.declared.future.selected.Either.TheVariants.{First,
 abbrev pub task : ℕ → TaskId
 task k = record { 0 = k }
 
--- task k of the first hand, which has the tasks below n; or else task k - n of the second
+-- the hand and the task there: task k of the first hand if k is below n, and otherwise task k - n of the second
 abbrev pub side_of : ℕ → ℕ → Either TaskId TaskId
 side_of n k = if nat_lt k n then First (task k) else Second (task (k - n))

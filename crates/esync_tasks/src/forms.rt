@@ -1,6 +1,6 @@
 //! The futures of the shared forms as `Future`s.
 //!
-//! Where a poll may find no memory for a clone, the output is a `Result`: the future is then ready with the error.
+//! If a poll may find no memory for a clone, the output is a `Result`: the future is then ready with the error.
 ghost use Rattle.std.specs.Prelude.{◌≡◌};
 ghost use Rattle.esync_tasks.specs.Answered.{answered};
 
@@ -16,7 +16,7 @@ use esync_base::waitqueue::Poll;
 pub use permits::Permits;
 use std::alloc::AllocError;
 
-// A poll that may find no memory, as one that is ready with the error.
+// Returns a poll that may find no memory as the poll of a future that is then ready with the error.
 fn ready_or_refused<T>(answer: Result<Poll<T>, AllocError>) -> Poll<Result<T, AllocError>>
     ensures { result ≡ answered answer }
 {

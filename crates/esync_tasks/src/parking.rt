@@ -1,4 +1,4 @@
-//! Threads that sleep while they wait, and are woken as tasks.
+//! Threads that sleep while they block, and are woken as tasks.
 ghost use Rattle.std.specs.Prelude.{◌≡◌, ◌<◌, IfSome};
 ghost use Rattle.esync_base.specs.Room.{WakesFitInMemory};
 ghost use Rattle.esync_tasks.specs.Side.{side_of};
@@ -11,7 +11,7 @@ use std::sync::Wait;
 use std::sync::atomic::{AtomicBool, Ordering};
 use std::thread::Parker;
 
-// Where a thread sleeps, and whether one has sat down there.
+// The place where a thread sleeps, and whether a thread has this seat.
 #[derive(Drop)]
 struct Place {
     parker: Parker,
@@ -29,7 +29,8 @@ impl Place {
 
 /// Seats for `N` threads that block on futures. The thread at seat `k` is the task whose waker is `TaskId(k)`.
 ///
-/// A reference to it is the hand of the shared forms that these threads use. A waker that names no seat wakes nobody.
+/// A reference to the `Parking` is the hand of the shared forms that these threads use. A waker that names no seat
+/// wakes nothing.
 #[derive(Drop)]
 pub struct Parking<'a, R, const N: usize> {
     rt: &'a R,
@@ -37,7 +38,7 @@ pub struct Parking<'a, R, const N: usize> {
 }
 
 impl<'a, R, const N: usize> Parking<'a, R, N> {
-    /// All seats are free.
+    /// Returns a `Parking` whose seats are all free.
     pub fn new(rt: &'a R) -> Self {
         Parking {
             rt,
@@ -45,8 +46,8 @@ impl<'a, R, const N: usize> Parking<'a, R, N> {
         }
     }
 
-    /// The seat of this number, until it is dropped. `None` where there is no such seat, or where it is taken: at most one thread
-    /// sits at a seat, so that no other gets the wakes that are meant for it.
+    /// Returns the seat of this number, which is taken until it is dropped. Returns `None` if there is no such seat, or
+    /// if it is taken: at most one thread has a seat, so no other thread gets its wakes.
     pub fn seat(&self, number: usize) -> Option<Seat<'_, R>>
         ensures number { IfSome result (λ seat. seat ≡ number) }
         ensures below { IfSome result (λ seat. number < N) }
@@ -63,7 +64,7 @@ impl<'a, R, const N: usize> Parking<'a, R, N> {
     }
 }
 
-/// Wakes the thread at the seat of the waker's number. One that isn't asleep finds its next sleep over at once.
+/// Wakes the thread at the seat of the waker's number. If the thread isn't asleep, its next sleep is over at once.
 impl<R: Wait, const N: usize> Hand<TaskId> for &Parking<'_, R, N> {
     type Rt = R;
 
@@ -78,7 +79,7 @@ impl<R: Wait, const N: usize> Hand<TaskId> for &Parking<'_, R, N> {
     }
 }
 
-/// A seat of a `Parking`, and the thread that has it. It is free again once this is dropped.
+/// A seat of a `Parking`, for the thread that has it. Dropping the seat frees it.
 pub struct Seat<'p, R> {
     rt: &'p R,
     place: &'p Place,
@@ -108,7 +109,7 @@ impl<R> Drop for Seat<'_, R> {
 }
 
 impl<R> Seat<'_, R> {
-    /// The task that the thread at this seat is.
+    /// Returns the task that stands for the thread at this seat.
     pub fn task(&self) -> TaskId
         ensures { result ≡ record { 0 = self.now } }
     {
@@ -117,10 +118,11 @@ impl<R> Seat<'_, R> {
 }
 
 impl<R: Wait> Seat<'_, R> {
-    /// What the future gives. The thread sleeps while that isn't there, and polls again each time that it is woken.
+    /// Blocks the thread until the future is ready, and returns its output. The thread sleeps between polls, and polls
+    /// again each time it is woken.
     ///
-    /// A wake that comes before the thread falls asleep isn't lost: the sleep is then over at once. One that an earlier future
-    /// left at this seat costs a poll.
+    /// A wake that comes before the thread falls asleep isn't lost: the sleep is then over at once. A wake that is left
+    /// of an earlier future of this seat costs a poll.
     pub fn block_on<F: Future<TaskId>>(&mut self, future: F) -> F::Output
         requires { F.can_poll future }
         ensures { F.gives future result }
@@ -137,9 +139,9 @@ impl<R: Wait> Seat<'_, R> {
     }
 }
 
-/// Two hands as one. The tasks below `at` are those of the first hand, and task `at + k` is task `k` of the second.
+/// Two hands as one. The tasks below `at` belong to the first hand, and task `at + k` is task `k` of the second.
 ///
-/// So threads that block at the seats of a `Parking` and tasks of a `Runtime` share one primitive.
+/// With it, threads at the seats of a `Parking` and tasks of a `Runtime` share one primitive.
 #[derive(Clone, Copy)]
 pub struct Split<A, B> {
     first: A,
@@ -158,14 +160,15 @@ impl<A, B> Model for Split<A, B> {
 }
 
 impl<A, B> Split<A, B> {
-    /// The tasks below `at` are those of the first hand, and the others those of the second, less `at`.
+    /// Returns a hand whose tasks below `at` belong to the first hand, and whose further tasks belong to the second,
+    /// with numbers less `at`.
     pub fn new(first: A, at: u64, second: B) -> Self
         ensures { result ≡ (first, at, second) }
     {
         Split { first, at, second }
     }
 
-    /// Which hand wakes a task, and as which of its own.
+    /// Returns the hand that wakes a task, and the task's number there.
     pub fn side(&self, task: TaskId) -> Either<TaskId, TaskId>
         ensures { result ≡ side_of self.now.1 task.0 }
     {
@@ -177,7 +180,7 @@ impl<A, B> Split<A, B> {
     }
 }
 
-/// Wakes a task by the hand that has it.
+/// Wakes a task by the hand that it belongs to.
 impl<A: Hand<TaskId>, B: Hand<TaskId>> Hand<TaskId> for Split<A, B> {
     type Rt = A::Rt;
 

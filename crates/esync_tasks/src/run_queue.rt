@@ -6,22 +6,22 @@ ghost use Rattle.esync_tasks.specs.RunQueue.{all_queued, queued_last, in_state, 
 use esync_base::deque::Deque;
 use std::marker::Model;
 
-/// Where a task stands.
+/// The state of a task.
 #[derive(Clone, Copy, Debug, PartialEq, Eq)]
 pub enum TaskState {
-    /// It waits to be woken.
+    /// The task waits to be woken.
     Resting,
-    /// It was woken, and waits for its turn.
+    /// The task was woken, and waits for its turn.
     Queued,
-    /// It has its turn, and was not woken since that began.
+    /// The task has its turn, and wasn't woken since the turn began.
     Running,
-    /// It has its turn, and was woken since that began.
+    /// The task has its turn, and was woken since the turn began.
     Woken,
-    /// It is over.
+    /// The task is over.
     Ended,
 }
 
-// Where each of N tasks stands.
+// The state of each of N tasks.
 #[derive(Drop)]
 struct States<const N: usize> {
     places: [TaskState; N],
@@ -50,7 +50,8 @@ impl<const N: usize> States<N> {
     }
 }
 
-/// Where each of `N` tasks stands, and the queue of those that were woken, of which the first has the next turn.
+/// The state of each of `N` tasks, and the queue of the tasks that were woken. The first one in the queue has the next
+/// turn.
 ///
 /// A call takes no memory and looks at one task alone.
 #[derive(Drop)]
@@ -72,7 +73,7 @@ impl<const N: usize> Model for RunQueue<N> {
 }
 
 impl<const N: usize> RunQueue<N> {
-    /// All tasks stand in the queue, in order.
+    /// Returns a queue in which all tasks stand, in order.
     pub fn new() -> Self
         ensures queued { result ≡ all_queued N }
         ensures orderly { IsOrderly N result }
@@ -108,8 +109,9 @@ impl<const N: usize> RunQueue<N> {
         self.states.put(task, state);
     }
 
-    /// Wakes a task: one that rests goes to the end of the queue, and one that has its turn is marked. Another is owed a turn
-    /// already, or is over, or there is none of this number: nothing changes then. Says whether the task went to the queue.
+    /// Wakes a task: a task that rests goes to the end of the queue, and a task that has its turn is marked. Any other
+    /// task is owed a turn already, is over, or doesn't exist: nothing is changed then. Returns whether the task went
+    /// to the queue.
     pub fn wake(&mut self, task: usize) -> bool
         ensures woken { self.new ≡ woken self.old task }
         ensures queued { IsTrue result ↔ (slice_get self.old.states task ≡ Some TaskState.Resting) }
@@ -130,7 +132,8 @@ impl<const N: usize> RunQueue<N> {
         }
     }
 
-    /// Begins the turn of the task that is first in the queue.
+    /// Begins the turn of the task that is first in the queue, and returns its number. Returns `None` if the queue is
+    /// empty.
     pub fn take(&mut self) -> Option<usize>
         ensures first { IfSome result (λ task. self.old.queue ≡ task ∷ self.new.queue) }
         ensures runs { IfSome result (λ task. self.new.states ≡ slice_set self.old.states task TaskState.Running) }
@@ -145,14 +148,14 @@ impl<const N: usize> RunQueue<N> {
         Some(task)
     }
 
-    /// How many tasks wait for their turn.
+    /// Returns the number of tasks that wait for their turn.
     pub fn len(&self) -> usize
         ensures { result ≡ length self.now.queue }
     {
         self.queue.len()
     }
 
-    /// The task has its turn.
+    /// Returns whether the task has its turn.
     pub fn is_running(&self, task: usize) -> bool
         ensures { IsTrue result ↔ IsRunning self.now task }
     {
@@ -162,8 +165,8 @@ impl<const N: usize> RunQueue<N> {
         }
     }
 
-    /// Ends the turn of a task that waits to be woken. One that was woken since its turn began goes to the end of the queue.
-    /// Says whether it did.
+    /// Ends the turn of a task that waits to be woken. If it was woken since its turn began, it goes to the end of the
+    /// queue. Returns whether it did.
     pub fn rest(&mut self, task: usize) -> bool
         requires { IsRunning self.old task }
         ensures rested { self.new ≡ rested self.old task }
@@ -180,7 +183,7 @@ impl<const N: usize> RunQueue<N> {
         }
     }
 
-    /// Ends a task, and with it its turn.
+    /// Ends a task, and with it the task's turn.
     pub fn end(&mut self, task: usize)
         requires { IsRunning self.old task }
         ensures ended { self.new ≡ ended self.old task }
@@ -191,7 +194,7 @@ impl<const N: usize> RunQueue<N> {
         self.left -= 1;
     }
 
-    /// All tasks are over. It looks at no task.
+    /// Returns whether all tasks are over, without looking at any task.
     pub fn is_over(&self) -> bool
         ensures { IsTrue result ↔ All HasEnded self.now.states }
     {

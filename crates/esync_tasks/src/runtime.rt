@@ -1,4 +1,4 @@
-//! Tasks that are polled when they were woken, on one thread or on several.
+//! A runtime that polls tasks when they were woken, on one thread or on several.
 ghost use Rattle.std.specs.Prelude.{ℕ, ◌≡◌, ◌↔◌, slice_get, Some, IsTrue, true, false, ◌+◌, ◌<◌, ◌≤◌, ◌^◌, [], All, IfOk, IfErr, IfSome, vec_len, vec_capacity};
 ghost use Rattle.std.specs.Bool.{OnTrue, OnFalse};
 ghost use Rattle.esync_tasks.specs.Refused.{tasks_of};
@@ -18,23 +18,23 @@ use std::sync::{Condvar, Mutex, Wait};
 use std::thread::{self, Threads};
 use thiserror::Error;
 
-/// Why tasks weren't run. They come back, and none of them was polled.
+/// The reason why a run was refused. The tasks come back, and none of them was polled.
 #[derive(Clone, Copy, Debug, PartialEq, Eq, Error)]
 #[error_bound(T: Debug)]
 pub enum RunError<T> {
     /// Another run of this runtime isn't over.
     #[error("the runtime runs other tasks")]
     Busy(T),
-    /// There are more tasks than the runtime runs at a time, or fewer.
+    /// The runtime runs another number of tasks at a time.
     #[error("the runtime runs another number of tasks")]
     Count(T),
-    /// There was no memory for what the tasks give.
+    /// There was no memory for the outputs of the tasks.
     #[error("there was no memory for the tasks")]
     NoMemory(T),
 }
 
 impl<T> RunError<T> {
-    /// The tasks that came back.
+    /// Returns the tasks.
     pub fn into_tasks(self) -> T
         ensures { result ≡ tasks_of self }
     {
@@ -44,17 +44,17 @@ impl<T> RunError<T> {
     }
 }
 
-// Where the tasks of a run stand, and whether there is a run.
+// The states of the tasks of a run, and whether a run goes on.
 #[derive(Drop)]
 struct Board<const N: usize> {
     queue: RunQueue<N>,
     is_busy: bool,
-    // How many of its threads aren't asleep. No clause says that the count is right.
+    // The number of the runtime's threads that aren't asleep. No clause says that the count is right.
     awake: usize,
 }
 
 impl<const N: usize> Board<N> {
-    // Begins a run, unless there is one.
+    // Begins a run, unless one goes on. Returns whether it began.
     fn begin(&mut self) -> bool
         ensures free { IsTrue result ↔ (self.old.is_busy ≡ false) }
         ensures begun { OnTrue result (self.new.queue ≡ all_queued N) }
@@ -70,8 +70,8 @@ impl<const N: usize> Board<N> {
         true
     }
 
-    // Wakes a task. Says whether a thread that sleeps has to be called: a thread that is awake takes a task that is alone in the
-    // queue as soon as its own turn is over.
+    // Wakes a task. Returns whether a sleeping thread has to be woken for it: a thread that is awake takes a task that
+    // is alone in the queue as soon as its present turn is over.
     fn wake(&mut self, task: usize) -> bool
         ensures woken { self.new.queue ≡ woken self.old.queue task }
         ensures busy { self.new.is_busy ≡ self.old.is_busy }
@@ -82,7 +82,7 @@ impl<const N: usize> Board<N> {
         is_queued && (self.awake == 0 || self.queue.len() > 1)
     }
 
-    // A thread comes to be awake, or falls asleep.
+    // Counts a thread that is awake now, or one that falls asleep.
     fn count(&mut self, is_awake: bool)
         ensures queue { self.new.queue ≡ self.old.queue }
         ensures busy { self.new.is_busy ≡ self.old.is_busy }
@@ -94,7 +94,7 @@ impl<const N: usize> Board<N> {
         };
     }
 
-    // Ends the turn of a task, and the task if it is over. Says whether it was the last.
+    // Ends the turn of a task, and the task if it is over. Returns whether it was the last.
     fn settle(&mut self, task: usize, is_over: bool) -> bool
         ensures ended { IsRunning self.old.queue task → is_over ≡ true → self.new.queue ≡ ended self.old.queue task }
         ensures rested { IsRunning self.old.queue task → is_over ≡ false → self.new.queue ≡ rested self.old.queue task }
@@ -114,10 +114,12 @@ impl<const N: usize> Board<N> {
     }
 }
 
-/// Runs `N` tasks at a time. Task `k` of a run polls with the waker `TaskId(k)`, or `TaskId(at + k)` behind other tasks.
+/// A runtime of `N` tasks at a time. Task `k` of a run polls with the waker `TaskId(k)`, or `TaskId(at + k)` behind
+/// further tasks.
 ///
-/// A reference to it is the hand of the shared forms that the tasks use. A waker that names no task wakes nobody, and so does
-/// each between two runs. One of an earlier run wakes the task of its number, which is polled once more.
+/// A reference to the runtime is the hand of the shared forms that the tasks use. A waker that names no task wakes
+/// nothing, and neither does any waker between two runs. A waker of an earlier run wakes the task of its number, which
+/// is polled once more.
 #[derive(Drop)]
 pub struct Runtime<'a, R, const N: usize> {
     rt: &'a R,
@@ -140,14 +142,15 @@ impl<'a, R, const N: usize> Model for Runtime<'a, R, N> {
 }
 
 impl<'a, R, const N: usize> Runtime<'a, R, N> {
-    /// It runs nothing yet.
+    /// Returns a runtime that runs nothing yet.
     pub fn new(rt: &'a R) -> Self
         ensures { result ≡ 0 }
     {
         Runtime::behind(rt, 0)
     }
 
-    /// Its tasks stand behind `at` others, as the second of a `Split`: task `k` polls with the waker `TaskId(at + k)`.
+    /// Returns a runtime that is the second hand of a `Split`, behind `at` tasks: task `k` polls with the waker
+    /// `TaskId(at + k)`.
     pub fn behind(rt: &'a R, at: u64) -> Self
         requires { at + N < 2 ^ 64 }
         ensures { result ≡ at }
@@ -164,7 +167,7 @@ impl<'a, R, const N: usize> Runtime<'a, R, N> {
         }
     }
 
-    // What a task of a run polls with.
+    // Returns the context with which a task of a run polls.
     fn context(&self, task: usize) -> Context<TaskId>
         requires { task < N }
         ensures { result ≡ record { 0 = self.now + task } }
@@ -173,7 +176,7 @@ impl<'a, R, const N: usize> Runtime<'a, R, N> {
     }
 }
 
-/// Wakes the task of this number. One that has its turn gets another.
+/// Wakes the task of the waker's number. A task that has its turn gets another turn.
 impl<R: Wait, const N: usize> Hand<TaskId> for &Runtime<'_, R, N> {
     type Rt = R;
 
@@ -190,7 +193,8 @@ impl<R: Wait, const N: usize> Hand<TaskId> for &Runtime<'_, R, N> {
 }
 
 impl<R: Wait, const N: usize> Runtime<'_, R, N> {
-    // The task that is first in the queue, or `None` once all are over. It sleeps while there is none.
+    // Takes the task that is first in the queue, or returns `None` once all tasks are over. Sleeps while the queue is
+    // empty.
     fn next(&self) -> Option<usize>
         ensures { IfSome result (λ task. task < N) }
     {
@@ -211,7 +215,7 @@ impl<R: Wait, const N: usize> Runtime<'_, R, N> {
         unreachable!()
     }
 
-    // A turn of this task.
+    // Gives this task a turn.
     fn turn<F: Future<TaskId, Output: Drop>>(&self, slot: &Mutex<Slot<F, F::Output>>, task: usize)
         requires { task < N }
     {
@@ -227,14 +231,14 @@ impl<R: Wait, const N: usize> Runtime<'_, R, N> {
         self.board.lock(self.rt).is_busy = false;
     }
 
-    /// Runs `N` tasks on this thread, until all are over, and gives what each of them gave, in order.
+    /// Runs `N` tasks on this thread until all are over, and returns their outputs, in order.
     ///
-    /// A task is polled once at first, and then only when it was woken. The board's lock isn't held meanwhile.
+    /// A task is polled once at first, and then only when it was woken. No poll runs under the board's lock.
     ///
     /// # Errors
     ///
-    /// `Count` where there aren't `N` tasks, `Busy` where another run isn't over, and `NoMemory` where there is no memory: no task
-    /// was polled, and all come back.
+    /// Returns the tasks, none of which was polled: `Count` if there aren't `N` of them, `Busy` if another run isn't
+    /// over, and `NoMemory` if there is no memory.
     pub fn run<F: Future<TaskId, Output: Drop>>(
         &self,
         alloc: Global,
@@ -253,16 +257,16 @@ impl<R: Wait, const N: usize> Runtime<'_, R, N> {
     }
 }
 
-/// What a run on several threads needs of a runtime, whatever the number of its tasks.
+/// The turns of a runtime: what a run on several threads needs of it, whatever the number of its tasks.
 pub trait Turns {
-    /// How many tasks it runs at a time.
+    /// The number of tasks that the runtime runs at a time.
     ghost places: { ℕ };
 
-    /// Begins a run of these tasks, with room for what they give.
+    /// Begins a run of these tasks, and returns them with room for their outputs.
     ///
     /// # Errors
     ///
-    /// Those of `Runtime::run`: no task was polled, and all come back.
+    /// Returns the tasks, none of which was polled, for the reasons that `Runtime::run` has.
     fn begin<F: Future<TaskId, Output: Drop>>(
         &self,
         alloc: Global,
@@ -281,7 +285,7 @@ pub trait Turns {
     fn work<F: Future<TaskId, Output: Drop>>(&self, slots: &Vec<Mutex<Slot<F, F::Output>>>)
         requires { vec_len slots.now ≡ places };
 
-    /// Ends the run, and gives what the tasks gave, in order.
+    /// Ends the run, and returns the outputs of the tasks, in order.
     fn finish<F: Future<TaskId, Output: Drop>>(
         &self,
         slots: Vec<Mutex<Slot<F, F::Output>>>,
@@ -330,7 +334,7 @@ impl<R: Wait, const N: usize> Turns for Runtime<'_, R, N> {
         }
     }
 
-    // All tasks are over by now. No clause carries that out of the locks, so it polls one that isn't.
+    // All tasks are over by now. No clause carries that out of the locks, so a task that isn't over is polled here.
     fn finish<F: Future<TaskId, Output: Drop>>(
         &self,
         slots: Vec<Mutex<Slot<F, F::Output>>>,
@@ -346,19 +350,19 @@ impl<R: Wait, const N: usize> Turns for Runtime<'_, R, N> {
     }
 }
 
-/// Runs the tasks on so many threads, as `Runtime::run` does on one. No two threads poll one task at a time.
+/// Runs the tasks on `threads` threads, as `Runtime::run` does on one, and returns their outputs, in order. No two
+/// threads poll one task at a time.
 ///
-/// A thread that sleeps is called where two tasks wait for their turn, or where no thread is awake. So a poll that takes long
-/// can keep one other task waiting that was woken meanwhile. A poll that blocks until that task has had its turn never returns:
-/// a task that has to wait answers Pending.
+/// A thread that sleeps is woken if two tasks wait for their turn, or if no thread is awake. So a poll that takes long
+/// can keep one task waiting that was woken meanwhile. A poll that blocks until that task has had its turn never
+/// returns: a task that has to wait must answer Pending. If a thread can't be made, fewer threads run the tasks, and at
+/// least the caller's own does.
 ///
-/// Where a thread can't be made, fewer threads run the tasks, and at least this one does.
-///
-/// It is no method of `Runtime`: beside that type's number the checker doesn't find that the tasks may be sent.
+/// `run_on` is no method of `Runtime`: beside that type's number the checker doesn't find that the tasks may be sent.
 ///
 /// # Errors
 ///
-/// Those of `Runtime::run`: no task was polled, and all come back.
+/// Returns the tasks, none of which was polled, for the reasons that `Runtime::run` has.
 pub fn run_on<B: Turns + Sync, T: Threads + Sync, F: Future<TaskId, Output: Drop + Send> + Send>(
     runtime: &B,
     rt: &T,

@@ -12,7 +12,7 @@ spaces_behind n = drop n (codes "                            ")
 abbrev pub column_text : List ℕ → List ℕ
 column_text line = line ++ spaces_behind (length line) ++ codes " "
 
--- a line, and what it is answered
+-- a line, and its answer in a column of its own
 abbrev pub beside_text : {A : Type 0} → (A → List ℕ) → List ℕ → Answer A → List ℕ → List ℕ
 beside_text text line answer wakers = column_text line ++ line_text (answer_text text answer) wakers
 

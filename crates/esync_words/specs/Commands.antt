@@ -14,11 +14,11 @@ abbrev pub named : {C : Type 0} → (List ℕ → List (List ℕ) → Option C) 
 named said [] = None
 named said (name ∷ words) = said name words
 
--- what a line says, where a name with the words behind it says that
+-- what a line says, if `said` reads a name with the words behind it
 abbrev pub says : {C : Type 0} → (List ℕ → List (List ℕ) → Option C) → List ℕ → Option C
 says said line = if is_readable line then named said (words_of line) else None
 
--- A command, where the asks and the calls of a primitive are said so.
+-- A command of a primitive whose asks and calls are read by these two functions.
 module _ {Ask Calls : Type 0} (asks : List ℕ → List (List ℕ) → Option Ask) (calls : List ℕ → List (List ℕ) → Option Calls) where
   abbrev pub start_at : ℕ → List ℕ → List (List ℕ) → Option (Command Ask ℕ Calls)
   start_at r name words = option_map (λ ask. Start r ask) (asks name words)

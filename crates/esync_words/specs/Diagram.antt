@@ -11,7 +11,7 @@ use Rattle.esync_words.specs.declared.play.Giver.TheVariants.{Task, Starter, Dro
 use Rattle.esync_words.specs.Story.{Story, without_notes}
 use Rattle.esync_words.specs.Text.{answer_text, each_text}
 
--- the lane of who gives a command
+-- the lane of the giver of a command
 abbrev pub lane_text : Giver → List ℕ
 lane_text (Task r w) = codes "task_" ++ decimal w
 lane_text (Starter r) = codes "caller"
@@ -25,7 +25,7 @@ arrow_text (Starter r) = codes "->>object: "
 arrow_text Caller = codes "->>object: "
 arrow_text (Dropper r) = codes "-xobject: "
 
--- what it says: the line, but for the word that drops a request, which the language has as a word of its own
+-- the text of a command's arrow: the line, with `drop` for `end`, which is a word of Mermaid
 abbrev pub said_text : Giver → List ℕ → List ℕ
 said_text (Task r w) line = line
 said_text (Starter r) line = line
@@ -45,7 +45,7 @@ back_text giver = codes "    object-->>" ++ lane_text giver ++ codes ": "
 abbrev pub note_text : Giver → List ℕ
 note_text giver = codes "    Note over " ++ lane_text giver ++ (codes ": waits" ++ 10 ∷ [])
 
--- who is answered Pending waits
+-- the note that the giver of a command waits, if it is answered Pending
 abbrev pub wait_text : {A : Type 0} → Giver → Answer A → List ℕ
 wait_text giver Pending = note_text giver
 wait_text giver Done = []
@@ -78,14 +78,14 @@ fence_text = codes "```mermaid" ++ 10 ∷ []
 abbrev pub fence_end : List ℕ
 fence_end = codes "```" ++ 10 ∷ []
 
--- What a document notes of the lines before.
+-- What a document notes of the lines before a line.
 pub record Noted : Type 0 where
-  -- line 1
+  -- line 1, which names the primitive
   pub name : List ℕ
   -- for each number of a request, the waker with which it waits
   pub waits : List (Option ℕ)
 
--- line 1 alone: no request waits
+-- the note of line 1: no request waits
 abbrev pub noted_first : List ℕ → Noted
 noted_first line = record { name = line; waits = replicate 16 None }
 
@@ -97,7 +97,7 @@ waker_if_pending w NoSuch = None
 waker_if_pending w NoMemory = None
 waker_if_pending w (Gives a) = None
 
--- who waits behind a command: of a request that was polled its last poll says so, and one that was started or dropped doesn't
+-- the requests that wait behind a command: a polled one waits if it is Pending, and a started or dropped one doesn't
 abbrev pub waits_behind : {A : Type 0} → List (Option ℕ) → Giver → Answer A → List (Option ℕ)
 waits_behind waits (Task r w) answer = slice_set waits r (waker_if_pending w answer)
 waits_behind waits (Starter r) Done = slice_set waits r None
@@ -108,11 +108,11 @@ waits_behind waits (Starter r) (Gives a) = waits
 waits_behind waits (Dropper r) answer = slice_set waits r None
 waits_behind waits Caller answer = waits
 
--- one of these wakers is equal to this
+-- one of the wakers is w
 abbrev pub is_woken : List ℕ → ℕ → Bool
 is_woken wakers w = list_any (λ v. v == w) wakers
 
--- who still waits, once these wakers were handed out
+-- the requests that still wait after these wakers were handed out
 abbrev pub waits_still : List (Option ℕ) → List ℕ → List (Option ℕ)
 waits_still waits wakers = swept (is_woken wakers) waits
 
@@ -127,7 +127,7 @@ waits_text w = codes "    Note over task_" ++ decimal w ++ (codes ": waits" ++ 1
 abbrev pub between_text : ℕ → List ℕ
 between_text number = codes "```\n\nFrom line " ++ decimal number ++ codes ":\n\n"
 
--- every page but the first begins so: with line 1, and a note for each request that waits
+-- the head of every page but the first: line 1, and a note for each request that waits
 abbrev pub page_text : ℕ → Noted → List ℕ
 page_text number noted = ((between_text number ++ fence_text) ++ head_text noted.name) ++ each_text waits_text (items_of noted.waits)
 

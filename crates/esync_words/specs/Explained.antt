@@ -8,7 +8,7 @@ use Rattle.esync_words.specs.Text.{answer_text, line_text}
 abbrev pub numbered_text : ℕ → List ℕ → List ℕ
 numbered_text number line = decimal number ++ codes ": " ++ line ++ 10 ∷ []
 
--- and what it is answered, in a line of its own
+-- the line behind its number, and the answer in a line of its own
 abbrev pub explained_text : {A : Type 0} → (A → List ℕ) → ℕ → List ℕ → Answer A → List ℕ → List ℕ
 explained_text text number line answer wakers = (numbered_text number line ++ codes "   ") ++ line_text (answer_text text answer) wakers
 

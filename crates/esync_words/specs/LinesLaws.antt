@@ -16,7 +16,7 @@ not_feed c cs h = elim (true_or_false (c == 10)) [ inl e ↦ (let k = rw e at h 
 plain_behind : (c : ℕ) (cs : List ℕ) → first_line (c ∷ cs) ≡ c ∷ cs → first_line cs ≡ cs
 plain_behind c cs h = (let k = rw (not_feed c cs h) at h in cc)
 
--- a text that goes on behind letters without a line feed
+-- the first line of a text that goes on behind letters without a line feed
 pub line_before : (xs ys : List ℕ) → first_line xs ≡ xs → first_line (xs ++ ys) ≡ xs ++ first_line ys
 line_before [] ys h = refl
 line_before (c ∷ cs) ys h = rw (not_feed c cs h, line_before cs ys (plain_behind c cs h)) refl
@@ -25,7 +25,7 @@ others_before : (xs ys : List ℕ) → first_line xs ≡ xs → other_lines (xs 
 others_before [] ys h = refl
 others_before (c ∷ cs) ys h = rw (not_feed c cs h) (others_before cs ys (plain_behind c cs h))
 
--- another letter of the line
+-- the first line grows by a letter that is no line feed
 pub plain_more : (xs : List ℕ) (b : ℕ) → (b ≡ 10 → ⊥) → first_line xs ≡ xs → first_line (xs ++ b ∷ []) ≡ xs ++ b ∷ []
 plain_more xs b n h = line_before xs (b ∷ []) h ∙ (let e : (b == 10) ≡ false = grind (arith, nat_tests) in rw e refl)
 
@@ -42,7 +42,7 @@ last_line n number ended [] a e plain l = e
 last_line n number ended (x ∷ xs) a e plain l =
     (λ z. (let k = sym e ∙ z in absurd cc), λ _. (sym (ap first_line e ∙ plain), ap Some (sym (ap other_lines (e ∙ sym (append-nil (x ∷ xs))) ∙ others_before (x ∷ xs) [] plain))), λ m. omega (arith, ap length (ap first_line e ∙ plain)))
 
--- What was read of a text, where these letters were taken from its front.
+-- What was read of a text from whose front these letters were taken.
 module _ (n number : ℕ) (ended : Bool) (line : List ℕ) (plain : first_line line ≡ line) where
   -- a line and its line feed
   pub read_feed : (old new : Option (List ℕ)) → Consumes old new (line ++ 10 ∷ []) → length line ≤ n → IfSome old (λ text. IsRead n text true (record { number = number; line = line; left = new; ended = ended }))

@@ -23,7 +23,7 @@ abbrev pub line_number : ℕ → List (List ℕ) → ℕ
 line_number n [] = n
 line_number n (line ∷ lines) = line_number (next_number n) lines
 
--- these are the first lines of the text, one after another, and that is left behind them
+-- these are the first lines of the text, one after another, and `rest` is left behind them
 abbrev pub Reads : List ℕ → List (List ℕ) → List ℕ → Type 0
 Reads text [] rest = rest ≡ text
 Reads text (line ∷ lines) rest = (text ≡ [] → ⊥) × (line ≡ first_line text) × Reads (other_lines text) lines rest
@@ -36,28 +36,28 @@ module _ {Command Reply Waker : Type 0} (M : Meaning Command Reply Waker) (comma
   AreSaid [] (c ∷ cs) = ⊥
   AreSaid (line ∷ lines) [] = ⊥
 
-  -- what is noted behind these commands and their replies
+  -- the note behind these commands and their replies
   abbrev pub noted : T.Notes → List Command → List Reply → T.Notes
   noted was (c ∷ cs) (a ∷ as') = noted (T.next_notes was c a) cs as'
   noted was [] as' = was
   noted was (c ∷ cs) [] = was
 
-  -- what is written of each line behind the first n, its command and its reply, by what is noted of those before
+  -- what is written of each line behind line n, by its command, its reply and the note of the lines before
   abbrev pub told : T.Notes → ℕ → List (List ℕ) → List Command → List Reply → List ℕ
   told was n (line ∷ lines) (c ∷ cs) (a ∷ as') = T.tells was (next_number n) line c a ++ told (T.next_notes was c a) (next_number n) lines cs as'
   told was n [] cs as' = []
   told was n (line ∷ lines) [] as' = []
   told was n (line ∷ lines) (c ∷ cs) [] = []
 
-  -- where a script ended so behind line n, of which this is left: at the end, or at the first line that is no command
+  -- where a script ended behind line n, with `rest` still unread: at the end, or at the first line that is no command
   abbrev pub Ends : ℕ → List ℕ → Result (Unit {0}) Fault → Type 0
   Ends n rest (Ok _) = rest ≡ []
   Ends n rest (Err (NotACommand number)) = (number ≡ next_number n) × (rest ≡ [] → ⊥) × (command (first_line rest) ≡ None)
   Ends n rest (Err InputOutput) = Unit {0}
   Ends n rest (Err OutOfMemory) = Unit {0}
 
-  -- A script was played behind its first n lines, of which this was noted, from this object, with these wakers registered. At its end, or at
-  -- a line that is no command, this is noted.
+  -- A script was played behind its first n lines, from this object with these registered wakers. `was` is noted of the
+  -- lines before, and `now` of all lines up to the script's end or to a line that is no command.
   pub record Played (was now : T.Notes) (old : M.Object) (registered : M.Registered) (n : ℕ) (left : Option (List ℕ)) (before after : Option (List ℕ)) (outcome : Result (Unit {0}) Fault) : Type 0 where
     pub lines : List (List ℕ)
     pub commands : List Command
@@ -72,11 +72,11 @@ module _ {Command Reply Waker : Type 0} (M : Meaning Command Reply Waker) (comma
     pub printed : IsJudged outcome → Appends before after (told was n lines commands replies)
     pub remembered : IsJudged outcome → now ≡ noted was commands replies
 
--- Line 1 of a script names this, and this is noted of it.
+-- Line 1 of a script names the opening, and these are the notes of it.
 pub record Opened {Opening : Type 0} (says : List ℕ → Option Opening) (S : Story) (opening : Opening) (notes : S.Notes) (left rest before after : Option (List ℕ)) : Type 0 where
   pub line : List ℕ
   pub said : says line ≡ Some opening
-  -- it is the first line of the text, and the others are left
+  -- line 1 is the first line of the text, and the lines behind it are left
   pub read : IfSome left (λ all. (all ≡ [] → ⊥) × (line ≡ first_line all) × (rest ≡ Some (other_lines all)))
   pub printed : Appends before after (S.head line)
   pub noted : notes ≡ S.first_notes line

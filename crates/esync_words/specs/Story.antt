@@ -1,4 +1,4 @@
--- What is written of a script, where what is written of a line may depend on the lines before it.
+-- What is written of a script. What is written of a line may depend on the lines before it.
 use Rattle.std.specs.Prelude.{ℕ, List, []}
 use Rattle.esync_machine.specs.declared.primitive.Answer.{Answer}
 use Rattle.esync_machine.specs.declared.primitive.Command.{Command}
@@ -7,18 +7,18 @@ use Rattle.esync_words.specs.declared.play.Giver.{Giver}
 use Rattle.esync_words.specs.declared.play.Giver.TheVariants.{Task, Starter, Dropper, Caller}
 use Rattle.esync_words.specs.Text.{answer_text, line_text}
 
--- What is written of a script.
+-- The text of a script, line by line.
 pub record Story : Type 1 where
-  -- what is noted of the lines before
+  -- what is noted of the lines before a line
   pub Notes : Type 0
   -- what is written of line 1, which names the primitive
   pub head : List ℕ → List ℕ
-  -- what is noted of it
+  -- what is noted of line 1
   pub first_notes : List ℕ → Notes
-  -- what is written of a line: by what is noted of those before, by its number, by who gives its command, by its answer, where that is the
-  -- text of what a primitive tells, and by the wakers that are handed out
+  -- what is written of a line: by the notes of the lines before, its number, the giver of its command, its answer,
+  -- whose text the primitive's words have, and the wakers that are handed out
   pub tells : (A : Type 0) → (A → List ℕ) → Notes → ℕ → List ℕ → Giver → Answer A → List ℕ → List ℕ
-  -- what is noted behind it
+  -- what is noted of the lines up to this one
   pub next_notes : (A : Type 0) → Notes → Giver → Answer A → List ℕ → Notes
   -- what is written behind the last line
   pub foot : List ℕ
@@ -34,11 +34,11 @@ without_notes head tells foot = record {
   foot = foot;
 }
 
--- nothing at all
+-- a story that writes nothing
 abbrev pub silent_story : Story
 silent_story = without_notes (λ line. []) (λ A text number line giver answer wakers. []) []
 
--- the answers alone, a line each
+-- a story of the answers alone, a line each
 abbrev pub replies_story : Story
 replies_story = without_notes (λ line. []) (λ A text number line giver answer wakers. line_text (answer_text text answer) wakers) []
 
@@ -48,14 +48,14 @@ pub record Transcript (Command Reply : Type 0) : Type 1 where
   pub tells : Notes → ℕ → List ℕ → Command → Reply → List ℕ
   pub next_notes : Notes → Command → Reply → Notes
 
--- who gives a command
+-- the giver of a command
 abbrev pub giver_of : {Q C : Type 0} → Command Q ℕ C → Giver
 giver_of (Start r ask) = Starter r
 giver_of (Poll r w) = Task r w
 giver_of (End r) = Dropper r
 giver_of (Call call) = Caller
 
--- of a story, where a reply has that answer and hands out those wakers
+-- the transcript of a story, for replies with this answer and these wakers
 abbrev pub transcript_of : {Q C A Reply : Type 0} (S : Story) → (A → List ℕ) → (Reply → Answer A) → (Reply → List ℕ) → Transcript (Command Q ℕ C) Reply
 transcript_of {A = A} S text answer wakes = record {
   Notes = S.Notes;

@@ -3,7 +3,7 @@ use Rattle.std.specs.Prelude.{ℕ, List, [], ◌∷◌, ◌++◌, codes, decimal
 use Rattle.esync_machine.specs.declared.primitive.Answer.{Answer}
 use Rattle.esync_machine.specs.declared.primitive.Answer.TheVariants.{Done, Pending, NoSuch, NoMemory, Gives}
 
--- an answer, where `heard` is the text of what the primitive tells
+-- the text of an answer; `heard` is the text of what the primitive tells
 abbrev pub answer_text : {A : Type 0} → (A → List ℕ) → Answer A → List ℕ
 answer_text heard Done = codes "Ok"
 answer_text heard Pending = codes "Pending"
@@ -11,12 +11,12 @@ answer_text heard NoSuch = codes "Err(NoSuch)"
 answer_text heard NoMemory = []
 answer_text heard (Gives a) = heard a
 
--- a number that may be missing
+-- the text of a number that may be missing
 abbrev pub option_text : Option ℕ → List ℕ
 option_text (Some n) = codes "Some(" ++ decimal n ++ codes ")"
 option_text None = codes "None"
 
--- what is written of each waker, one after another
+-- the text of each waker, one after another
 abbrev pub each_text : (ℕ → List ℕ) → List ℕ → List ℕ
 each_text text [] = []
 each_text text (w ∷ ws) = text w ++ each_text text ws
@@ -27,12 +27,12 @@ spaced w = codes " " ++ decimal w
 abbrev pub listed : ℕ → List ℕ
 listed b = codes "," ++ decimal b
 
--- bytes, or a dash
+-- the text of bytes, or a dash
 abbrev pub bytes_text : List ℕ → List ℕ
 bytes_text [] = codes "-"
 bytes_text (b ∷ bs) = decimal b ++ each_text listed bs
 
--- the wakers that a step hands out, or a dash
+-- the text of the wakers that a step hands out, or a dash
 abbrev pub wakers_text : List ℕ → List ℕ
 wakers_text [] = codes " -"
 wakers_text (w ∷ ws) = each_text spaced (w ∷ ws)

@@ -8,12 +8,12 @@ abbrev pub with_letter : ℕ → List (List ℕ) → List (List ℕ)
 with_letter c [] = (c ∷ []) ∷ []
 with_letter c (w ∷ ws) = (c ∷ w) ∷ ws
 
--- what stands between the letters s of a text
+-- the parts of a text between its letters s
 abbrev pub parts_of : ℕ → List ℕ → List (List ℕ)
 parts_of s [] = [] ∷ []
 parts_of s (c ∷ cs) = if c == s then [] ∷ parts_of s cs else with_letter c (parts_of s cs)
 
--- the words of a line: what stands between its spaces
+-- the words of a line: its parts between spaces
 abbrev pub words_of : List ℕ → List (List ℕ)
 words_of line = parts_of 32 line
 
@@ -46,7 +46,7 @@ abbrev pub behind : List (List ℕ) → List (List ℕ)
 behind [] = []
 behind (w ∷ ws) = ws
 
--- what was found, where no word is left
+-- a value that was found, if no word is left
 abbrev pub only : {A : Type 0} → Option A → List (List ℕ) → Option A
 only None ws = None
 only (Some x) [] = Some x
@@ -56,7 +56,7 @@ abbrev pub and_then : {A B : Type 0} → Option A → (A → Option B) → Optio
 and_then None f = None
 and_then (Some x) f = f x
 
--- What words say and no more of them: nothing, a number, or two of them, each of so many bits.
+-- What all words together say: nothing, one number or two numbers, of so many bits each.
 abbrev pub nothing : List (List ℕ) → Option (Unit {0})
 nothing ws = only (Some tt) ws
 
@@ -70,7 +70,7 @@ two j k ws = and_then (first_number j ws) (λ m. and_then (one k (behind ws)) (�
 abbrev pub number_and_values : List (List ℕ) → Option (ℕ × ℕ × ℕ)
 number_and_values ws = and_then (first_number 64 ws) (λ r. and_then (first_number 32 (behind ws)) (λ v. and_then (one 32 (behind (behind ws))) (λ x. Some (r, v, x))))
 
--- whether two texts are the same
+-- two texts are equal
 abbrev pub is_text : List ℕ → List ℕ → Bool
 is_text [] [] = true
 is_text (x ∷ xs) (y ∷ ys) = if x == y then is_text xs ys else false
@@ -85,7 +85,7 @@ numbers k (w ∷ ws) = and_then (number k w) (λ n. option_map (λ ns. n ∷ ns)
 abbrev pub at_most : ℕ → List ℕ → Option (List ℕ)
 at_most most ns = if nat_lt most (length ns) then None else Some ns
 
--- the bytes that a word writes, of which there can be so many: with commas between them, and a dash where there are none
+-- the bytes that a word writes, at most so many: numbers with commas between them, or a dash for no byte
 abbrev pub bytes_of : ℕ → List ℕ → Option (List ℕ)
 bytes_of most w = if is_text w (codes "-") then Some [] else and_then (numbers 8 (parts_of 44 w)) (at_most most)
 
@@ -93,6 +93,6 @@ abbrev pub first_bytes : ℕ → List (List ℕ) → Option (List ℕ)
 first_bytes most [] = None
 first_bytes most (w ∷ ws) = bytes_of most w
 
--- The bytes that words say and no more of them.
+-- The bytes that all words together say.
 abbrev pub row : ℕ → List (List ℕ) → Option (List ℕ)
 row most ws = only (first_bytes most ws) (behind ws)

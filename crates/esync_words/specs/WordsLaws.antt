@@ -28,7 +28,7 @@ take_next n c cs = (let e : 1 + n ≡ suc n = omega arith in rw e refl)
 drop_next : (n c : ℕ) (cs : List ℕ) → drop (1 + n + 1) (c ∷ cs) ≡ drop (n + 1) cs
 drop_next n c cs = (let e : 1 + n + 1 ≡ suc (n + 1) = omega arith in rw e refl)
 
--- What stands between the letters s of a text.
+-- Parts of a text between its letters s.
 module _ (s : ℕ) where
   -- a text without such a letter is one part
   pub parts_of_one : (t : List ℕ) → position_or_len (λ b. b == s) t ≡ length t → parts_of s t ≡ t ∷ []
@@ -38,7 +38,7 @@ module _ (s : ℕ) where
     | inr e ↦ (let k = rw e at h in rw (e, parts_of_one cs (omega (arith, k))) refl)
   ]
 
-  -- another one is a part, and the parts behind the first such letter
+  -- a text with such a letter is the part before the first one, and the parts behind it
   pub parts_of_more : (t : List ℕ) → position_or_len (λ b. b == s) t < length t → parts_of s t ≡ before_first (λ b. b == s) t ∷ parts_of s (after_first (λ b. b == s) t)
   parts_of_more [] h = absurd (omega arith)
   parts_of_more (c ∷ cs) h = elim (true_or_false (c == s)) [

@@ -12,7 +12,7 @@ use crate::vocabulary::Vocabulary;
 use esync_machine::primitive::Answer;
 use std::io::{self, Write};
 
-/// Each line, and behind it in a column of its own what it is answered.
+/// A telling of each line with its answer behind it, in a column of its own.
 #[derive(Clone, Copy, Debug, PartialEq, Eq)]
 pub struct Beside {}
 
@@ -46,7 +46,7 @@ impl Telling for Beside {
     }
 }
 
-// The spaces behind a line of so many bytes, up to a column of 28.
+// Returns the spaces behind a line of so many bytes, up to a column of 28.
 fn spaces_behind(len: usize) -> &'static [u8]
     ensures { result.now ≡ spaces_behind len }
 {

@@ -7,9 +7,9 @@ use esync_machine::requests::Requests;
 use esync_machine::run::{Keep, Machine};
 use std::alloc::AllocError;
 
-/// A machine of which a copy is made, to try on it what the machine itself goes on without.
+/// A machine that can be copied: a trial on the copy leaves the machine itself unchanged.
 pub trait Copied: Sized {
-    /// This is a copy of that: it has the same object, and the same wakers registered.
+    /// A copy has the same object as its machine, and the same registered wakers.
     ghost IsCopy: { Self → Self → Type 0 };
 
     fn copied(&self) -> Result<Self, AllocError>

@@ -13,8 +13,9 @@ use crate::vocabulary::Vocabulary;
 use esync_machine::primitive::Answer;
 use std::io::{self, Write};
 
-/// A diagram: a lane for the primitive, for each task, by its waker, and for who calls; an arrow for each command with the number
-/// of its line, for its answer, and for each waker that is handed out; and a note where a task waits.
+/// A telling as a diagram. It has a lane for the primitive, for each task, by its waker, and for callers. It has an
+/// arrow for each command with the number of its line, for its answer, and for each waker that is handed out. A note
+/// says where a task waits.
 #[derive(Clone, Copy, Debug, PartialEq, Eq)]
 pub struct Diagram {}
 
@@ -47,7 +48,7 @@ impl Telling for Diagram {
     }
 }
 
-/// Prints the head of a picture, whose primitive line 1 names.
+/// Prints the head of a diagram, whose primitive line 1 names.
 pub(crate) fn print_head<W: Write>(line: &str, output: &mut W) -> io::Result<()>
     ensures { OnOk result (Appends (W.contents output.old) (W.contents output.new) (head_text line.now)) }
 {
@@ -56,7 +57,8 @@ pub(crate) fn print_head<W: Write>(line: &str, output: &mut W) -> io::Result<()>
     Ok(())
 }
 
-/// Prints a command, its answer, whether who gives it waits, and the wakers that are handed out, in a row that may have empty places.
+/// Prints a command, its answer, whether its giver waits, and the wakers that are handed out. The row of wakers may
+/// have empty places.
 pub(crate) fn print_step<V: Vocabulary, W: Write>(
     number: u64,
     line: &str,
@@ -148,7 +150,7 @@ fn print_said<W: Write>(giver: Giver, line: &str, output: &mut W) -> io::Result<
     }
 }
 
-// Notes that a task waits, where it is answered so.
+// Prints a note that a task waits, if the answer is Pending.
 fn print_wait<A, W: Write>(giver: Giver, answer: &Answer<A>, output: &mut W) -> io::Result<()>
     ensures { OnOk result (Appends (W.contents output.old) (W.contents output.new) (wait_text giver answer.now)) }
 {

@@ -1,5 +1,5 @@
-//! A script with an explanation of each line: why each waker was handed out, who is registered where behind it, what a
-//! poll of each request would hear then, and what the primitive would answer.
+//! A script with an explanation of each line: why each waker was handed out, which wakers are registered where after
+//! the line, what a poll of each request would hear then, and what the primitive would answer.
 ghost use Rattle.std.specs.Prelude.{◌≡◌, ◌≤◌, ◌⊎◌, ℕ, List, [], ◌∷◌, length, true, false, OnOk, IfErr, Err, ◌++◌, codes};
 ghost use Rattle.std.specs.Io.KnownBytes.{Appends};
 ghost use Rattle.esync_base.specs.Rows.{items_of};
@@ -18,18 +18,18 @@ use esync_machine::primitive::{Answer, Command};
 use esync_machine::run::Machine;
 use std::io::{self, Write};
 
-// Who is registered at a place.
+// A waker that is registered at a place.
 #[derive(Clone, Copy, Default, PartialEq, Eq)]
 struct Standing {
     place: usize,
     waker: u64,
 }
 
-// Who is registered, place by place. No primitive of a script has room for more than 8 wakers.
+// The wakers that are registered, place by place. No primitive of a script has room for more than 8 wakers.
 #[derive(Drop)]
 struct Standings {
     row: ArrayVec<Standing, REQS>,
-    // There was no room for somebody.
+    // There was no room for some waker.
     others: bool,
 }
 
@@ -44,7 +44,7 @@ impl Standings {
         }
     }
 
-    // Adds somebody, or else that there are others.
+    // Adds a waker, or notes that there are further ones.
     fn add(&mut self, standing: Standing)
         ensures { ((self.new.row.items ≡ self.old.row.items ++ standing ∷ []) × (self.new.others ≡ self.old.others)) ⊎ ((REQS ≤ length self.old.row.items) × (self.new ≡ record self.old { others = true })) }
     {
@@ -56,7 +56,7 @@ impl Standings {
     }
 }
 
-// Where notes are written, and whether each begins with the number of its line.
+// The output for notes, and whether each note begins with the number of its line.
 #[derive(Drop)]
 struct Notes<N: Write + Drop> {
     output: N,
@@ -65,7 +65,7 @@ struct Notes<N: Write + Drop> {
 }
 
 impl<N: Write + Drop> Notes<N> {
-    // Writes what stands before a note.
+    // Writes the text in front of a note.
     fn begin(&mut self) -> io::Result<()> {
         if self.is_numbered {
             write!(self.output, "{}: ", self.number)
@@ -75,22 +75,23 @@ impl<N: Write + Drop> Notes<N> {
     }
 }
 
-/// Each line with its number, and what it is answered; and to its notes, why each waker was handed out, who is registered then, and what
-/// requests and questions would hear.
+/// A telling of each line with its number and its answer. It writes notes: why each waker was handed out, which wakers
+/// are registered then, and what requests and questions would hear.
 #[derive(Drop)]
 pub struct Explained<N: Write + Drop> {
     notes: Notes<N>,
-    // Who was registered behind the line before.
+    // The wakers that were registered behind the line before.
     before: Standings,
 }
 
 impl<N: Write + Drop> Explained<N> {
-    /// Writes its notes there, each behind three spaces, as they stand under their lines. At first nobody is registered.
+    /// Returns a telling that writes its notes to `notes`, each behind three spaces. At first no waker is registered.
     pub fn new(notes: N) -> Self {
         Explained::with(notes, false)
     }
 
-    /// Writes its notes there, each behind the number of its line and a colon.
+    /// Returns a telling that writes its notes to `notes`, each behind the number of its line and a colon. At first no
+    /// waker is registered.
     pub fn numbered(notes: N) -> Self {
         Explained::with(notes, true)
     }
@@ -171,7 +172,7 @@ fn print_line<W: Write>(number: u64, line: &str, output: &mut W) -> io::Result<(
     writeln!(output, "{number}: {line}")
 }
 
-// All who are registered, place by place.
+// Returns all wakers that are registered, place by place.
 fn registered<V: Vocabulary, M: Registered<Waker = u64>>(machine: &M) -> Standings {
     let mut all = Standings::new();
     for place in 0..usize::MAX {
@@ -188,10 +189,10 @@ fn registered<V: Vocabulary, M: Registered<Waker = u64>>(machine: &M) -> Standin
     all
 }
 
-// Why a waker that stood at a place was handed out, if that was the place.
+// The reason why a waker that was registered at a place was handed out, if that place is the cause.
 #[derive(Clone, Copy)]
 enum Reason {
-    // What who stands there waits for has come.
+    // The event that the waker waits for has come.
     Told,
     // The task of this waker took its place.
     Displaced(u64),
@@ -224,7 +225,7 @@ fn reason_of(
     }
 }
 
-// Notes why the waker was handed out: for each place that it left, or else that the step was its own.
+// Notes why the waker was handed out: for each place that it left, or else that the step handed out its own waker.
 fn explain<V: Vocabulary, N: Write + Drop>(
     waker: u64,
     giver: Giver,
@@ -252,7 +253,7 @@ fn explain<V: Vocabulary, N: Write + Drop>(
     Ok(())
 }
 
-// Notes who is registered at each place that has somebody.
+// Notes the wakers at each place that has one.
 fn note_standing<V: Vocabulary, N: Write + Drop>(
     now: &[Standing],
     notes: &mut Notes<N>,
@@ -299,10 +300,10 @@ fn note<N: Write + Drop>(
     }
 }
 
-// The waker with which a copy is polled. Nobody is told by it.
+// The waker with which a copy is polled. It wakes nothing.
 const NOBODY: u64 = u64::MAX;
 
-// What a copy of the machine answers to this command.
+// Returns the reply of a copy of the machine to this command.
 fn reply_of<V, M>(machine: &M, command: M::Command) -> Result<M::Reply, Fault>
 where
     V: Vocabulary,
@@ -346,7 +347,7 @@ fn note_request<V: Vocabulary, N: Write + Drop>(
     Ok(())
 }
 
-// Notes in a line what the questions of these words would be answered now.
+// Notes in one line the answers that these words' questions would get now.
 fn note_questions<V, M, N>(machine: &M, notes: &mut Notes<N>) -> Result<(), Fault>
 where
     V: Vocabulary,
@@ -370,7 +371,7 @@ where
     Ok(())
 }
 
-// Notes what a question would be answered, behind the one before it. `false` where it asks for what isn't there.
+// Notes the answer that a question would get, behind the question before it. Returns `false` if the answer is NoSuch.
 fn note_question<V: Vocabulary, N: Write + Drop>(
     is_first: bool,
     question: &str,

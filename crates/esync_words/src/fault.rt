@@ -1,10 +1,10 @@
-//! What ends a script before its last line.
+//! The faults that end a script before its last line.
 ghost use Rattle.std.specs.Prelude.{◌≡◌};
 
 use std::error::Error;
 use std::{fmt, io};
 
-/// Why a script was not read to its end.
+/// The fault that ended a script before its last line.
 #[derive(Clone, Copy, Debug, PartialEq, Eq)]
 pub enum Fault {
     /// The line of this number is no command.
@@ -18,7 +18,7 @@ pub enum Fault {
 impl Fault {
     ghost use Rattle.esync_words.specs.Fault.{status_of};
 
-    /// The status of a script that ends so.
+    /// Returns the status of a script that ends with this fault.
     pub fn status(self) -> u8
         ensures { result ≡ status_of self }
     {

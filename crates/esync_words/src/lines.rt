@@ -10,28 +10,32 @@ use std::alloc::Global;
 use std::io::{self, BufRead, BufReader, ErrorKind, Read, Write};
 use std::marker::Model;
 
-/// How many bytes a line may have, without its line feed.
+/// The greatest number of bytes of a line, without its line feed.
 pub const LONGEST: usize = 256;
 
-// How many are read of a line.
+// The greatest number of bytes that are read of a line.
 const ROOM: usize = 257;
 
-/// Where the bytes of a script come from, one after the other.
+/// A source of a script's bytes, one after another.
 pub trait ByteSource: Drop {
     ghost use Rattle.std.specs.Prelude.{ℕ, List, Option};
 
-    /// The bytes that are left, where they are known.
+    /// The bytes that are left, if they are known.
     ghost remaining: { Self → Option (List ℕ) };
 
-    /// Takes the next byte, if there is one.
+    /// Takes the next byte. Returns `None` at the end.
+    ///
+    /// # Errors
+    ///
+    /// Returns the error if a read failed.
     fn next_byte(&mut self) -> io::Result<Option<u8>>
         ensures { IfOk result (λ byte. MatchOption byte (Consumes (remaining self.old) (remaining self.new) [] × IsAtEnd (remaining self.new)) (λ b. Consumes (remaining self.old) (remaining self.new) (b ∷ []))) };
 
-    /// No read of the next line waits for input.
+    /// Returns whether no read of the next line waits for input.
     fn has_line(&self) -> bool;
 }
 
-/// What a reader gives, in pieces. No read of a line waits that stands whole in the buffer.
+/// The bytes of a reader, read in pieces. A line that stands whole in the buffer is read without waiting.
 impl<R: Read + Drop> ByteSource for BufReader<R> {
     ghost use Rattle.std.specs.Io.Buffered.{reader_remaining};
 
@@ -46,7 +50,7 @@ impl<R: Read + Drop> ByteSource for BufReader<R> {
     }
 }
 
-/// What stands in memory. No read of it waits, and none asks for memory.
+/// The bytes of a text in memory. No read waits, and none takes memory.
 impl ByteSource for &[u8] {
     ghost use Rattle.std.specs.Prelude.{Some};
 
@@ -88,7 +92,11 @@ impl<R: ByteSource> Model for Lines<R> {
 }
 
 impl<R: Read + Drop> Lines<BufReader<R>> {
-    /// The lines of what a reader gives. No line is read yet. All memory that is needed for them is taken here.
+    /// Returns the lines of a reader, none of which is read yet. Takes all memory that they need.
+    ///
+    /// # Errors
+    ///
+    /// Returns `OutOfMemory` if there is no memory for a line.
     pub fn buffered(alloc: Global, input: R) -> Result<Self, Fault>
         ensures ok { IfOk result (λ lines. lines ≡ record { number = 0; line = []; left = R.remaining input; ended = false }) }
         ensures err { IfErr result (λ fault. fault ≡ Fault.OutOfMemory) }
@@ -99,7 +107,7 @@ impl<R: Read + Drop> Lines<BufReader<R>> {
 }
 
 impl<R: ByteSource> Lines<R> {
-    /// No line is read yet. No memory is asked for, now or later.
+    /// Returns the lines of a source, none of which is read yet. No memory is taken, now or later.
     pub fn new(input: R) -> Self
         ensures { result ≡ record { number = 0; line = []; left = R.remaining input; ended = false } }
     {
@@ -111,8 +119,12 @@ impl<R: ByteSource> Lines<R> {
         }
     }
 
-    /// Reads the next line, if there is one, without its line feed. The output is flushed before a read that may wait for more
-    /// input.
+    /// Reads the next line, without its line feed, and returns whether there was one. Flushes the output before a read
+    /// that may wait for input.
+    ///
+    /// # Errors
+    ///
+    /// Returns `InputOutput` if the read or the flush failed.
     pub fn read<W: Write>(&mut self, output: &mut W) -> Result<bool, Fault>
         ensures output { Keeps (W.contents output.old) (W.contents output.new) }
         ensures number { self.new.number ≡ min (self.old.number + 1) (2 ^ 64 - 1) }
@@ -150,14 +162,18 @@ impl<R: ByteSource> Lines<R> {
         Ok(true)
     }
 
-    /// The number of the line that was read last. Numbers stop at the greatest.
+    /// Returns the number of the line that was read last. Numbers stop at the greatest.
     pub fn number(&self) -> u64
         ensures { result ≡ self.now.number }
     {
         self.number
     }
 
-    /// The line that was read last, which is a text of at most so many bytes.
+    /// Returns the line that was read last, which is a text of at most `LONGEST` bytes.
+    ///
+    /// # Errors
+    ///
+    /// Returns `NotACommand` if the line is longer, or no text.
     pub fn line(&self) -> Result<&str, Fault>
         ensures { MatchResult result (λ line. (line.now ≡ self.now.line) × IsUtf8 line.now × (length line.now ≤ LONGEST)) (λ fault. (fault ≡ Fault.NotACommand self.now.number) × (IsUtf8 self.now.line → LONGEST < length self.now.line)) }
     {
@@ -167,7 +183,7 @@ impl<R: ByteSource> Lines<R> {
         }
     }
 
-    /// The fault of the line that was read last: that it is no command.
+    /// Returns the fault that the line that was read last is no command.
     pub fn not_a_command(&self) -> Fault
         ensures { result ≡ Fault.NotACommand self.now.number }
     {
@@ -175,7 +191,7 @@ impl<R: ByteSource> Lines<R> {
     }
 }
 
-// The next byte, if there is one.
+// Reads the next byte. Returns `None` at the end.
 fn read_byte<R: Read>(input: &mut BufReader<R>) -> io::Result<Option<u8>>
     ensures { IfOk result (λ byte. MatchOption byte (Consumes (⟦<BufReader<R> as Read>⟧.remaining input.old) (⟦<BufReader<R> as Read>⟧.remaining input.new) [] × IsAtEnd (⟦<BufReader<R> as Read>⟧.remaining input.new)) (λ b. Consumes (⟦<BufReader<R> as Read>⟧.remaining input.old) (⟦<BufReader<R> as Read>⟧.remaining input.new) (b ∷ []))) }
 {

@@ -18,12 +18,12 @@ use esync_machine::primitive::Answer;
 use std::io::{self, Write};
 use std::marker::Model;
 
-/// Diagrams in a document of Markdown, each in a fence, of at most 50 lines. Viewers of Mermaid take no more than 50,000 bytes of a
-/// diagram, and a line is drawn by at most 840.
+/// A telling as diagrams in a document of Markdown, each in a fence, of at most 50 lines. Viewers of Mermaid take no
+/// more than 50,000 bytes of a diagram, and a line is drawn by at most 840.
 ///
-/// Each page names the primitive as line 1 does, and begins with a note for each request that waits: whose last poll was answered
-/// Pending, and whose waker wasn't handed out since. One that the leaving of its subscriber or its publisher ended stays noted until its
-/// number is started, polled or ended again.
+/// Each page names the primitive as line 1 does, and begins with a note for each request that waits: its last poll was
+/// answered Pending, and its waker wasn't handed out since. A request that ended when its subscriber or its publisher
+/// left stays noted until its number is started, polled or ended again.
 #[derive(Drop)]
 pub struct Pages {
     name: ArrayString<LONGEST>,
@@ -40,7 +40,7 @@ impl Model for Pages {
 }
 
 impl Pages {
-    /// Nothing is noted yet.
+    /// Returns a telling that has noted nothing yet.
     pub fn new() -> Self
         ensures { result ≡ noted_first [] }
     {
@@ -50,7 +50,7 @@ impl Pages {
         }
     }
 
-    // Begins another page where this line is the first of one.
+    // Begins a new page if this line is the first of one.
     fn turn<W: Write>(&self, number: u64, output: &mut W) -> io::Result<()>
         ensures { OnOk result (Appends (W.contents output.old) (W.contents output.new) (break_text number self.now)) }
     {
@@ -60,7 +60,7 @@ impl Pages {
         Ok(())
     }
 
-    // Notes who waits behind a command, which got this answer and handed out these wakers.
+    // Notes which requests wait behind a command with this answer and these wakers.
     fn hear<A>(&mut self, giver: Giver, answer: &Answer<A>, wakers: &[Option<u64>])
         ensures { self.new ≡ noted_next self.old giver answer.now (items_of wakers.now) }
     {
@@ -130,7 +130,7 @@ fn waker_if_pending<A>(waker: u64, answer: &Answer<A>) -> Option<u64>
     }
 }
 
-// Where the number is none of a request, nothing is noted.
+// Notes a request's waker. A number that is no request's changes nothing.
 fn put(waits: &mut [Option<u64>; REQS], request: usize, waker: Option<u64>)
     ensures { waits.new ≡ slice_set waits.old request waker }
 {
@@ -139,7 +139,7 @@ fn put(waits: &mut [Option<u64>; REQS], request: usize, waker: Option<u64>)
     }
 }
 
-// Who was woken waits no more.
+// Forgets the requests whose wakers were handed out.
 fn hear_wakers(waits: &mut [Option<u64>; REQS], wakers: &[Option<u64>])
     ensures { waits.new ≡ waits_still waits.old (items_of wakers.now) }
 {
@@ -191,7 +191,7 @@ fn print_fence<W: Write>(output: &mut W) -> io::Result<()>
     writeln!(output, "```mermaid")
 }
 
-// Notes who waits.
+// Prints a note for each request that waits.
 fn print_waits<W: Write>(waits: &[Option<u64>], output: &mut W) -> io::Result<()>
     ensures { OnOk result (Appends (W.contents output.old) (W.contents output.new) (each_text waits_text (items_of waits.now))) }
 {

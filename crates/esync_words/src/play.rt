@@ -17,20 +17,20 @@ use esync_machine::primitive::{Answer, Command};
 use esync_machine::run::{Machine, Reply};
 use std::io::Write;
 
-/// Who gives a command.
+/// The giver of a command.
 #[derive(Clone, Copy, Debug, PartialEq, Eq)]
 pub enum Giver {
     /// The task that the waker wakes, which polls the request of this number.
     Task { request: usize, waker: u64 },
-    /// Somebody who starts a request of this number.
+    /// The one who starts a request of this number.
     Starter(usize),
-    /// Somebody who drops the request of this number.
+    /// The one who drops the request of this number.
     Dropper(usize),
-    /// Somebody who calls the primitive.
+    /// The one who calls the primitive.
     Caller,
 }
 
-// Who gives the command.
+// Returns the giver of the command.
 fn given_by<Q, C>(command: &Command<Q, u64, C>) -> Giver
     ensures { result ≡ giver_of command.now }
 {
@@ -45,21 +45,30 @@ fn given_by<Q, C>(command: &Command<Q, u64, C>) -> Giver
     }
 }
 
-/// What is written of a script while it is gone through. It may note of each line what it writes of those behind it.
+/// The telling of a script: what is written while the script is played. It may note of each line what later lines need.
 pub trait Telling {
-    /// What is written of a script, and noted.
+    /// The text that is written of a script, and the notes of it.
     ghost story: { Story };
 
-    /// What is noted of the lines before.
+    /// The notes of the lines so far.
     ghost noted: { Self → story.Notes };
 
-    /// Writes what it tells of line 1. It is noted even where that fails.
+    /// Writes the text of line 1. Line 1 is noted even if the write fails.
+    ///
+    /// # Errors
+    ///
+    /// Returns the fault of a write, or of refused memory.
     fn open<W: Write>(&mut self, line: &str, output: &mut W) -> Result<(), Fault>
         ensures ok { OnOk result (Appends (W.contents output.old) (W.contents output.new) (story.head line.now)) }
         ensures err { IfErr result (λ fault. IsJudged (Err fault) → ⊥) }
         ensures noted { length line.now ≤ LONGEST → noted self.new ≡ story.first_notes line.now };
 
-    /// Writes what it tells of a line, whose wakers stand in a row that may have empty places. The line is noted even where that fails.
+    /// Writes the text of a line. Its wakers stand in a row that may have empty places. The line is noted even if the
+    /// write fails.
+    ///
+    /// # Errors
+    ///
+    /// Returns the fault of a write, or of refused memory.
     fn tell<V: Vocabulary, W: Write>(
         &mut self,
         number: u64,
@@ -73,7 +82,8 @@ pub trait Telling {
         ensures err { IfErr result (λ fault. IsJudged (Err fault) → ⊥) }
         ensures noted { noted self.new ≡ story.next_notes V.Heard (noted self.old) giver answer.now (items_of wakers.now) };
 
-    /// Looks at the machine behind a line that was told. It may keep what it sees, but writes nothing to the output, and notes nothing.
+    /// Looks at the machine after a line that was told. It may keep what it sees, but writes nothing to the output, and
+    /// notes nothing.
     fn look<V, M>(
         &mut self,
         _giver: Giver,
@@ -93,13 +103,17 @@ pub trait Telling {
         Ok(())
     }
 
-    /// Writes what comes behind the last line.
+    /// Writes the text behind the last line.
+    ///
+    /// # Errors
+    ///
+    /// Returns the fault of a write, or of refused memory.
     fn close<W: Write>(&self, output: &mut W) -> Result<(), Fault>
         ensures ok { OnOk result (Appends (W.contents output.old) (W.contents output.new) story.foot) }
         ensures err { IfErr result (λ fault. IsJudged (Err fault) → ⊥) };
 }
 
-/// The answers alone, a line each.
+/// A telling of the answers alone, a line each.
 #[derive(Clone, Copy, Debug, PartialEq, Eq)]
 pub struct Replies {}
 
@@ -131,7 +145,7 @@ impl Telling for Replies {
     }
 }
 
-/// A reply in its parts.
+/// The parts of a reply: its answer and its wakers.
 pub trait Parts<A> {
     ghost use Rattle.std.specs.Prelude.{ℕ, List};
     ghost use Rattle.esync_machine.specs.declared.primitive.Answer.{Answer as AnswerOf};
@@ -140,11 +154,11 @@ pub trait Parts<A> {
 
     ghost wakes: { Self → List ℕ };
 
-    /// What the command is answered.
+    /// Returns the answer to the command.
     fn answer(&self) -> &Answer<A>
         ensures { result.now ≡ answer self.now };
 
-    /// The wakers that are handed out, in order, in a row that may have empty places behind them.
+    /// Returns the wakers that are handed out, in order, in a row that may have empty places behind them.
     fn wakers(&self) -> &[Option<u64>]
         ensures { items_of result.now ≡ wakes self.now };
 }
@@ -163,19 +177,19 @@ impl<A, const K: usize> Parts<A> for Reply<Answer<A>, u64, K> {
     }
 }
 
-/// What line 1 of a script names.
+/// The primitive that line 1 of a script names.
 pub trait Opens: Sized + Drop {
     ghost use Rattle.std.specs.Prelude.{ℕ, List, Option};
 
-    /// What a name and the words behind it say.
+    /// The primitive that a name and the words behind it say.
     ghost opens: { List ℕ → List (List ℕ) → Option Self };
 
-    /// What the name of a primitive and the words behind it name.
+    /// Returns the primitive that a name and the words behind it say, if they say one.
     fn opening(name: &str, words: Words<'_>) -> Option<Self>
         ensures { result ≡ opens name.now words.entry };
 }
 
-// What a line of these words names.
+// Returns the primitive that a line of these words names, if it names one.
 fn read_opening<O: Opens>(mut words: Words<'_>) -> Option<O>
     ensures { result ≡ named O.opens words.entry }
 {
@@ -183,7 +197,12 @@ fn read_opening<O: Opens>(mut words: Words<'_>) -> Option<O>
     O::opening(name, words)
 }
 
-/// Reads line 1 of a script, and tells of it.
+/// Reads line 1 of a script, tells of it, and returns the primitive that it names.
+///
+/// # Errors
+///
+/// Returns `NotACommand` if there is no line 1 or it names no primitive, and otherwise the fault of a read, a write or
+/// refused memory.
 pub fn open<O: Opens, T: Telling, R: ByteSource, W: Write>(
     telling: &mut T,
     lines: &mut Lines<R>,
@@ -205,8 +224,12 @@ pub fn open<O: Opens, T: Telling, R: ByteSource, W: Write>(
     Ok(opening)
 }
 
-/// Gives each line that is left of a script to the machine as a command, until its end or the first line that is none, and tells what
-/// comes of it.
+/// Gives each line that is left of a script to the machine as a command, and tells of its answer, until the end.
+///
+/// # Errors
+///
+/// Returns `NotACommand` at the first line that is no command, and otherwise the fault of a read, a write or refused
+/// memory.
 pub fn play<V, M, T, R, W>(
     telling: &mut T,
     machine: &mut M,

@@ -1,4 +1,4 @@
-//! What is printed of an answer.
+//! Prints answers and replies.
 ghost use Rattle.std.specs.Prelude.{◌≡◌, ℕ, List, [], OnOk, IfErr, IsTrue, ◌↔◌, is_none, ◌++◌, codes};
 ghost use Rattle.std.specs.List.{list_all};
 ghost use Rattle.std.specs.Io.KnownBytes.{Appends};
@@ -11,7 +11,11 @@ use crate::vocabulary::Vocabulary;
 use esync_machine::primitive::Answer;
 use std::io::{self, Write};
 
-/// Prints an answer. What tells of want of memory isn't printed, but ends the script.
+/// Prints an answer. A refusal of memory isn't printed, but ends the script.
+///
+/// # Errors
+///
+/// Returns the fault of a write, or of refused memory.
 pub fn print_answer<V: Vocabulary, W: Write>(
     answer: &Answer<V::Heard>,
     output: &mut W,
@@ -29,7 +33,11 @@ pub fn print_answer<V: Vocabulary, W: Write>(
     Ok(())
 }
 
-/// Prints the line of a reply: its answer, and the wakers that it hands out, in a row that may have empty places.
+/// Prints the line of a reply: its answer, and the wakers that it hands out. The row of wakers may have empty places.
+///
+/// # Errors
+///
+/// Returns the fault of a write, or of refused memory.
 pub fn print_reply<V: Vocabulary, W: Write>(
     answer: &Answer<V::Heard>,
     wakers: &[Option<u64>],
@@ -58,7 +66,7 @@ pub fn print_option<W: Write>(number: Option<u64>, output: &mut W) -> io::Result
     }
 }
 
-/// Prints bytes with commas between them, or a dash where there are none.
+/// Prints bytes with commas between them, or a dash for no bytes.
 pub fn print_bytes<W: Write>(bytes: &[u8], output: &mut W) -> io::Result<()>
     ensures { OnOk result (Appends (W.contents output.old) (W.contents output.new) (bytes_text bytes.now)) }
 {
@@ -81,14 +89,14 @@ fn print_list<W: Write>(bytes: &[u8], output: &mut W) -> io::Result<()>
     Ok(())
 }
 
-// The row has no waker.
+// Returns whether the row has no waker.
 fn is_empty(wakers: &[Option<u64>]) -> bool
     ensures { IsTrue result ↔ (items_of wakers.now ≡ []) }
 {
     are_free(wakers)
 }
 
-// All places of the row are empty.
+// Returns whether all places of the row are empty.
 fn are_free(wakers: &[Option<u64>]) -> bool
     ensures { result ≡ list_all is_none wakers.now }
 {

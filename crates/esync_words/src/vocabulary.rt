@@ -9,21 +9,21 @@ use crate::words::Words;
 use esync_machine::primitive::Command;
 use std::io::{self, Write};
 
-/// How many requests a script can have at a time. Their numbers are those below.
+/// How many requests a script can have at a time: their numbers are below this.
 pub const REQS: usize = 16;
 
 /// A place at which wakers are registered, in the words of an explanation.
 #[derive(Clone, Copy, Debug, PartialEq, Eq)]
 pub struct Place {
     pub name: &'static str,
-    /// Why who stands there is told.
+    /// Why a waker that is registered there is handed out.
     pub event: &'static str,
-    /// Who is told stays there.
+    /// Whether a waker that is handed out stays registered there.
     pub stays: bool,
 }
 
 impl Place {
-    /// One that who is told leaves.
+    /// Returns a place that a waker leaves when it is handed out.
     pub fn of(name: &'static str, event: &'static str) -> Self {
         Place {
             name,
@@ -33,7 +33,7 @@ impl Place {
     }
 }
 
-/// The words of a primitive: how its asks and its calls are said, and what is printed of what it answers.
+/// The words of a primitive: how its asks and its calls are said, and how its answers are printed.
 pub trait Vocabulary {
     type Ask: Drop;
 
@@ -41,39 +41,43 @@ pub trait Vocabulary {
 
     type Heard: Drop;
 
-    /// What a name and the words behind it say as an ask.
+    /// The ask that a name and the words behind it say.
     ghost asks: { List ℕ → List (List ℕ) → Option Self.Ask };
 
-    /// What a name and the words behind it say as a call.
+    /// The call that a name and the words behind it say.
     ghost calls: { List ℕ → List (List ℕ) → Option Self.Call };
 
     /// The text of an answer.
     ghost text: { Self.Heard → List ℕ };
 
-    /// Reads an ask.
+    /// Reads an ask. Returns `None` if the words say none.
     fn ask(name: &str, words: Words<'_>) -> Option<Self::Ask>
         ensures { result ≡ asks name.now words.entry };
 
-    /// Reads a call.
+    /// Reads a call. Returns `None` if the words say none.
     fn call(name: &str, words: Words<'_>) -> Option<Self::Call>
         ensures { result ≡ calls name.now words.entry };
 
     /// Writes the text of an answer.
+    ///
+    /// # Errors
+    ///
+    /// Returns the error if the write failed.
     fn print<W: Write>(heard: &Self::Heard, output: &mut W) -> io::Result<()>
         ensures { OnOk result (Appends (W.contents output.old) (W.contents output.new) (text heard.now)) };
 
-    /// What an explanation asks a copy of the machine behind each line, in these words.
+    /// Returns the questions, in these words, that an explanation asks a copy of the machine after each line.
     fn questions() -> &'static [&'static str] {
         &[]
     }
 
-    /// The place of this number at which its wakers are registered, if there is one. The numbers have no gap.
+    /// Returns the place of this number at which wakers are registered, if there is one. The numbers have no gap.
     fn place(_number: usize) -> Option<Place> {
         None
     }
 }
 
-/// The command that a line of these words says.
+/// Reads the command that a line of these words says. Returns `None` if it says none.
 pub fn read_command<V: Vocabulary>(mut words: Words<'_>) -> Option<Command<V::Ask, u64, V::Call>>
     ensures { result ≡ named (command V.asks V.calls) words.entry }
 {

@@ -7,12 +7,12 @@ ghost use Rattle.esync_words.specs.Perhaps.{perhaps, one_or_two};
 use arrayvec::ArrayVec;
 use std::marker::Model;
 
-/// How many bytes a word can write.
+/// The greatest number of bytes that a word can write.
 pub const BYTES: usize = 16;
 
 const PLUS: char = '+';
 
-/// The words of a line that are still to be read: what stands between its spaces. Two spaces side by side, or a space at an
+/// The words of a line that are still to be read: its parts between spaces. Two spaces side by side, or a space at an
 /// end, make an empty word, which is no name and no number.
 #[derive(Drop)]
 pub struct Words<'a> {
@@ -29,14 +29,14 @@ impl<'a> Model for Words<'a> {
 }
 
 impl<'a> Words<'a> {
-    /// All words of the line.
+    /// Returns all words of the line.
     pub fn of(line: &'a str) -> Self
         ensures { result ≡ words_of line.now }
     {
         Words { rest: Some(line) }
     }
 
-    /// The next word.
+    /// Takes the next word, if one is left.
     pub fn word(&mut self) -> Option<&'a str>
         ensures { MatchOption result ((self.old ≡ []) × (self.new ≡ [])) (λ word. self.old ≡ word.now ∷ self.new) }
     {
@@ -53,7 +53,7 @@ impl<'a> Words<'a> {
         }
     }
 
-    /// The number that the next word writes.
+    /// Takes the next word, and returns the number that it writes, if it writes one.
     pub fn next_number(&mut self) -> Option<u64>
         ensures number { result ≡ first_number 64 self.old }
         ensures rest { self.new ≡ behind self.old }
@@ -61,7 +61,7 @@ impl<'a> Words<'a> {
         read_number(self.word()?)
     }
 
-    // A value that the next word writes.
+    // Takes the next word, and returns the value that it writes, if it writes one.
     fn next_value(&mut self) -> Option<u32>
         ensures number { result ≡ first_number 32 self.old }
         ensures rest { self.new ≡ behind self.old }
@@ -69,21 +69,21 @@ impl<'a> Words<'a> {
         read_value(self.word()?)
     }
 
-    // No word is left.
+    // Returns whether no word is left.
     fn is_over(mut self) -> bool
         ensures { IsTrue result ↔ (self.entry ≡ []) }
     {
         self.word().is_none()
     }
 
-    /// No word is left.
+    /// Returns `Some` if no word is left.
     pub fn nothing(self) -> Option<()>
         ensures { result ≡ nothing self.entry }
     {
         self.is_over().then_some(())
     }
 
-    /// The number that the last word writes, which may be any.
+    /// Returns the number that the last word writes. Returns `None` if it writes none, or more words are left.
     pub fn number(mut self) -> Option<u64>
         ensures { result ≡ one 64 self.entry }
     {
@@ -91,7 +91,7 @@ impl<'a> Words<'a> {
         self.is_over().then_some(number)
     }
 
-    /// The value that the last word writes.
+    /// Returns the value that the last word writes. Returns `None` if it writes none, or more words are left.
     pub fn value(mut self) -> Option<u32>
         ensures { result ≡ one 32 self.entry }
     {
@@ -99,7 +99,7 @@ impl<'a> Words<'a> {
         self.is_over().then_some(value)
     }
 
-    /// The numbers that the last two words write.
+    /// Returns the numbers that the last two words write, if they are the last and write numbers.
     pub fn two_numbers(mut self) -> Option<(u64, u64)>
         ensures { result ≡ two 64 64 self.entry }
     {
@@ -108,7 +108,7 @@ impl<'a> Words<'a> {
         Some((first, second))
     }
 
-    /// A number and a value, which the last two words write.
+    /// Returns the number and the value that the last two words write, if they are the last and write these.
     pub fn number_and_value(mut self) -> Option<(u64, u32)>
         ensures { result ≡ two 64 32 self.entry }
     {
@@ -117,7 +117,7 @@ impl<'a> Words<'a> {
         Some((number, value))
     }
 
-    // The value that the last word writes, if there is a word.
+    // Returns the value that the last word writes, if there is a word.
     fn value_if_any(mut self) -> Option<Option<u32>>
         ensures { result ≡ perhaps 32 self.entry }
     {
@@ -130,7 +130,7 @@ impl<'a> Words<'a> {
         }
     }
 
-    // The number that the last word writes, if there is a word.
+    // Returns the number that the last word writes, if there is a word.
     fn number_if_any(mut self) -> Option<Option<u64>>
         ensures { result ≡ perhaps 64 self.entry }
     {
@@ -143,7 +143,7 @@ impl<'a> Words<'a> {
         }
     }
 
-    /// A number, and behind it another, if there is a word for one.
+    /// Returns a number, and a second one if there is a word for it.
     pub fn one_or_two_numbers(mut self) -> Option<(u64, Option<u64>)>
         ensures { result ≡ one_or_two 64 64 self.entry }
     {
@@ -152,7 +152,7 @@ impl<'a> Words<'a> {
         Some((first, if_any))
     }
 
-    /// A number, and behind it a value, if there is a word for one.
+    /// Returns a number, and a value if there is a word for it.
     pub fn number_and_value_if_any(mut self) -> Option<(u64, Option<u32>)>
         ensures { result ≡ one_or_two 64 32 self.entry }
     {
@@ -161,7 +161,7 @@ impl<'a> Words<'a> {
         Some((number, if_any))
     }
 
-    /// A number and two values, which the last three words write.
+    /// Returns the number and the two values that the last three words write, if they are the last and write these.
     pub fn number_and_two_values(mut self) -> Option<(u64, u32, u32)>
         ensures { result ≡ number_and_values self.entry }
     {
@@ -171,7 +171,7 @@ impl<'a> Words<'a> {
         Some((number, first, second))
     }
 
-    /// The bytes that the last word writes: numbers below 256 with commas between them, or a dash where there are none.
+    /// Returns the bytes that the last word writes: numbers below 256 with commas between them, or a dash for no bytes.
     pub fn bytes(mut self) -> Option<ArrayVec<u8, BYTES>>
         ensures { option_map (λ bytes. bytes.items) result ≡ row 16 self.entry }
     {
@@ -180,7 +180,8 @@ impl<'a> Words<'a> {
     }
 }
 
-// The number that the digits write, unless it is too large for its type. `parse` would also take a plus before them.
+// Returns the number that the digits write, unless it is too large for its type. `parse` would also take a plus before
+// them.
 fn read_number(word: &str) -> Option<u64>
     ensures { result ≡ number 64 word.now }
 {
@@ -202,7 +203,7 @@ fn read_byte(word: &str) -> Option<u8>
     u8::try_from(read_number(word)?).ok()
 }
 
-// The bytes that the word writes, unless they are too many.
+// Returns the bytes that the word writes, unless they are too many.
 fn read_bytes(word: &str) -> Option<ArrayVec<u8, BYTES>>
     ensures { option_map (λ bytes. bytes.items) result ≡ bytes_of 16 word.now }
 {
@@ -212,7 +213,7 @@ fn read_bytes(word: &str) -> Option<ArrayVec<u8, BYTES>>
     }
 }
 
-// The bytes that stand between the commas.
+// Returns the bytes between the commas.
 fn read_list(word: &str) -> Option<ArrayVec<u8, BYTES>>
     ensures { option_map (λ bytes. bytes.items) result ≡ and_then (numbers 8 (parts_of 44 word.now)) (at_most 16) }
 {

@@ -8,12 +8,12 @@ use Rattle.esync_base.specs.declared.waitqueue.Poll.TheVariants.{Pending, Ready}
 use Rattle.esync_zerocopy.specs.Slots.{Sides, sides_code, Waiting, waiting_code, before, with_out}
 use Rattle.esync_zerocopy.specs.declared.zerocopy_channel.Side.{Side}
 
--- the slots: which are whose, and the value of each by its number
+-- the slots: whose turn each is, and the value of each by its number
 pub record Slots (T : Type 0) : Type 0 where
   pub sides : Sides
   pub values : List T
 
--- and who waits for one
+-- the slots, and the wakers of the sides that wait for one
 pub record Lending (T W : Type 0) : Type 0 where
   pub slots : Slots T
   pub waiting : Waiting W
@@ -31,21 +31,21 @@ module _ {T : Type 0} where
   first_value [] values = None
   first_value (i ∷ is) values = slice_get values i
 
-  -- the values after it was written
+  -- the values after the first of these slots was written
   abbrev pub first_written : List ℕ → List T → T → List T
   first_written [] values v = values
   first_written (i ∷ is) values v = slice_set values i v
 
-  -- the slots after a side took its next one out, and left this value in it
+  -- the slots after a side took its next one out and left the value v in it
   abbrev pub lent_with : Side → Slots T → T → Slots T
   lent_with side s v = record { sides = with_out side true s.sides; values = first_written (before side s.sides) s.values v }
 
-  -- what is lent, if a slot is
+  -- the value of the slot that a try lends, if any
   abbrev pub value_lent : Option (MutBor T) → Option T
   value_lent None = None
   value_lent (Some r) = Some r.now
 
-  -- the same of a poll
+  -- the value of the slot that a poll lends, if any
   abbrev pub value_polled : Poll (MutBor T) → Option T
   value_polled Pending = None
   value_polled (Ready r) = Some r.now

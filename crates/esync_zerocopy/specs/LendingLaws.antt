@@ -1,4 +1,4 @@
--- A slot that is lent and left as it was.
+-- The laws of a slot that is lent and left as it was.
 use Rattle.std.specs.Prelude.{◌≡◌, ℕ, List, [], ◌∷◌, Some, None, slice_get, slice_set, refl}
 use Rattle.std.proofs.Common.{sym, ap, ◌∙◌}
 use Rattle.std.proofs.lemmas.List.{set-get_or}

@@ -18,7 +18,7 @@ use Rattle.esync_zerocopy.specs.declared.zerocopy_channel.machine.ZeroHeard.{Zer
 abbrev pub OwesSlot : {T W : Type 0} → (W → W → Bool) → Lending T W → Side → W → Type 0
 OwesSlot eq l side w = (before side l.slots.sides ≡ []) × IsAmong eq w (waits_at side l.waiting)
 
--- the waker of a poll that found no slot waits
+-- the waker of a poll that found no slot is registered
 pub waits_registered : {W : Type 0} (eq : W → W → Bool) → ((x : W) → eq x x ≡ true) → (side : Side) (w : W) (g : Waiting W) → IsAmong eq w (waits_at side (with_waits side (registered eq 1 (waits_at side g) w) g))
 waits_registered eq same Sender w g = has_registered eq same 1 g.senders w
 waits_registered eq same Receiver w g = has_registered eq same 1 g.receivers w

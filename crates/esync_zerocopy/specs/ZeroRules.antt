@@ -17,7 +17,7 @@ use Rattle.esync_zerocopy.specs.declared.zerocopy_channel.machine.ZeroHeard.{Zer
 use Rattle.esync_zerocopy.specs.declared.zerocopy_channel.machine.ZeroHeard.TheVariants.{Lends, Tried, Cleared, Count}
 
 module _ {T : Type 0} where
-  -- a sender is told the number of its slot, and a receiver its value too
+  -- a sender is told the number of its slot, and a receiver the number and the value
   abbrev pub spare_slot : List ℕ → Option (Lent T)
   spare_slot [] = None
   spare_slot (i ∷ is) = Some (Spare i)
@@ -30,16 +30,16 @@ module _ {T : Type 0} where
   held_slot [] values = None
   held_slot (i ∷ is) values = held_with i (slice_get values i)
 
-  -- what a side is lent, if there is a slot for it
+  -- the slot that a side is lent, if it has one
   abbrev pub lent_to : Side → Slots T → Option (Lent T)
   lent_to Sender s = spare_slot s.sides.spare
   lent_to Receiver s = held_slot s.sides.held s.values
 
-  -- the slots after this was made of whose is out
+  -- the slots after a side's slot was marked as out, or as in
   abbrev pub out_of : Side → Bool → Slots T → Slots T
   out_of side out s = record { sides = with_out side out s.sides; values = s.values }
 
-  -- a poll, and a try, by what is lent
+  -- a poll, and a try, by the slot that is lent
   abbrev pub PollsLent : Option (Lent T) → Slots T → Side → Answer (ZeroHeard T) → Slots T → Option Side → Type 0
   PollsLent None s side a s2 p = (a ≡ Pending) × (s2 ≡ s) × (p ≡ Some side)
   PollsLent (Some lent) s side a s2 p = (a ≡ Gives (Lends lent)) × (s2 ≡ out_of side true s) × (p ≡ None)
@@ -51,22 +51,22 @@ module _ {T : Type 0} where
   TriesLent None s side a s2 = (a ≡ Gives (Tried None)) × (s2 ≡ s)
   TriesLent (Some lent) s side a s2 = (a ≡ Gives (Tried (Some lent))) × (s2 ≡ out_of side true s)
 
-  -- a write into the sender's slot, by whether it is out
+  -- a write into the sender's slot, by whether that slot is out
   abbrev pub Writes : Bool → T → Slots T → Answer (ZeroHeard T) → Slots T → Type 0
   Writes true v s a s2 = (a ≡ Done) × (s2 ≡ record { sides = s.sides; values = first_written s.sides.spare s.values v })
   Writes false v s a s2 = (a ≡ NoSuch) × (s2 ≡ s)
 
-  -- a side is done with its next slot, by what it has before it
+  -- a side is done with its next slot, by the slots before it
   abbrev pub IsDoneBy : List ℕ → Side → Slots T → Answer (ZeroHeard T) → Slots T → Type 0
   IsDoneBy [] side s a s2 = (a ≡ NoSuch) × (s2 ≡ s)
   IsDoneBy (i ∷ is) side s a s2 = (a ≡ Done) × (s2 ≡ record { sides = done_by side s.sides; values = s.values })
 
-  -- the end of a loan, by whether the slot is out
+  -- the end of a loan, by whether the side's slot is out
   abbrev pub EndsLoan : Bool → Side → Slots T → Answer (ZeroHeard T) → Slots T → Type 0
   EndsLoan true side s a s2 = (a ≡ Done) × (s2 ≡ out_of side false s)
   EndsLoan false side s a s2 = (a ≡ NoSuch) × (s2 ≡ s)
 
-  -- a clear, by whether the other side's slot is out
+  -- a clear, by whether the opposite side's slot is out
   abbrev pub Clears : Bool → Slots T → Answer (ZeroHeard T) → Slots T → Type 0
   Clears true s a s2 = (a ≡ Gives (Cleared (Err (record {})))) × (s2 ≡ s)
   Clears false s a s2 = (a ≡ Gives (Cleared (Ok tt))) × (s2 ≡ record { sides = all_spare (count s.sides); values = s.values })
@@ -84,7 +84,7 @@ module _ {T : Type 0} where
 abbrev pub zero_rules : (T : Type 0) → Rules Side Side (ZeroCall T) (ZeroHeard T)
 zero_rules T = asked_rules Polls Calls
 
--- a poll that isn't granted registers, and a slot that is handed on, or a clear, hands out who waits for it
+-- a poll that isn't granted registers its waker; a slot handed on, or a clear, hands out the waker that waits for it
 abbrev pub poll_hands : {W : Type 0} → (W → W → Bool) → Side → Waiting W → W → Bool → Handed (Waiting W) W
 poll_hands eq side g w true = record { wakes = displaced eq 1 (waits_at side g) w; after = with_waits side (registered eq 1 (waits_at side g) w) g }
 poll_hands eq side g w false = nothing g
@@ -106,7 +106,7 @@ module _ {T W : Type 0} where
   call_hands s g Len = nothing g
   call_hands s g FreeCapacity = nothing g
 
-  -- one waker at most is registered for each side
+  -- at most one waker is registered for each side
   abbrev pub zero_wakings : (W → W → Bool) → Wakings (Slots T) Side (ZeroCall T) (ZeroHeard T) W
   zero_wakings eq = record {
     Registered = Waiting W;

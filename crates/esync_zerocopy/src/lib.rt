@@ -1,4 +1,4 @@
-//! A channel whose messages are written and read where they stand.
+//! The zero-copy channel: its messages are written and read where they stand.
 #![tactic(auto)]
 
 pub mod zerocopy_channel;

@@ -1,4 +1,4 @@
-//! A channel of slots that one side writes and the other reads where they stand.
+//! A channel of slots that a sender writes and a receiver reads where they stand.
 ghost use Rattle.std.specs.Prelude.{◌≡◌, ◌<◌, vec_len, slice_set, IfSome};
 ghost use Rattle.std.specs.Borrow.{LendsIf, sem, follows_if};
 
@@ -21,13 +21,13 @@ mod turns;
 /// One of the two sides of a channel.
 #[derive(Clone, Copy, Debug, PartialEq, Eq)]
 pub enum Side {
-    /// Who writes a spare slot and sends it.
+    /// The sender, which writes a spare slot and sends it.
     Sender,
-    /// Who reads a held slot and gives it back.
+    /// The receiver, which reads a held slot and gives it back.
     Receiver,
 }
 
-/// The other side's slot is out.
+/// The error of a clear: the opposite side's slot is lent.
 #[derive(Clone, Copy, Debug, PartialEq, Eq, Error)]
 #[error("the other side's slot is lent")]
 pub struct SlotLent;
@@ -35,7 +35,8 @@ pub struct SlotLent;
 /// The state of a zero-copy channel whose slots stand in a vector.
 pub type ChannelState<T, W> = RowState<Vec<T>, W>;
 
-/// The state of a zero-copy channel: a row of slots, whose turn each of them is, and who waits for one.
+/// The state of a zero-copy channel: a row of slots, whose turn each slot is, and the wakers of the sides that wait for
+/// one.
 #[derive(Debug, Drop)]
 pub struct RowState<S: Row, W> {
     slots: S,
@@ -56,7 +57,7 @@ impl<S: Row, W> Model for RowState<S, W> {
     ghost invariant = { λ a. length (S.items a.slots) ≡ count a.turns.sides };
 }
 
-/// Who waits for a full slot, and who waits for one to fill.
+/// The wakers of a receiver that waits for a held slot, and of a sender that waits for a spare one.
 impl<S: Row, W: Copy + Eq> Registered for RowState<S, W> {
     type Waker = W;
 
@@ -77,7 +78,7 @@ impl<S: Row, W: Copy + Eq> RowState<S, W> {
     ghost use Rattle.esync_zerocopy.specs.contracts.zerocopy_channel.RowState.{the_row};
 
     #[tactic(auto, using(crate::proofs::Rounds::length_numbers))]
-    /// A channel of these slots, all spare, and nobody who waits. There has to be a slot.
+    /// Returns a channel of these slots, all spare, without wakers. The row must have a slot.
     pub fn new(slots: S) -> Self
         requires { 0 < length (S.items slots) }
         ensures sides { result.slots.sides ≡ all_spare (length (S.items slots)) }
@@ -92,7 +93,7 @@ impl<S: Row, W: Copy + Eq> RowState<S, W> {
         }
     }
 
-    // Lends the value in the slot of this number, whosever turn it is, if there is such a slot.
+    // Lends the value in the slot of this number, if there is such a slot, whichever side's turn it is.
     fn lend_at(&mut self, number: usize) -> Option<&mut S::Item>
         ensures* lends { sem 𝓛 (LendsIf (the_row S.row W.row S.Item.row S.Row) S.Item.row self.entry result (λ w. record { slots = record { sides = self.old.slots.sides; values = slice_set self.old.slots.values number w }; waiting = self.old.waiting }) self.old) }
         ensures value { value_lent result ≡ slice_get self.old.slots.values number }
@@ -132,7 +133,8 @@ impl<S: Row, W: Copy + Eq> RowState<S, W> {
         }
     }
 
-    /// Lends the next spare slot, to be written, if there is one. Until it is sent it is lent again, and what was written stays.
+    /// Lends the next spare slot for writing. Returns `None` if no slot is spare. Until it is sent, the slot is lent
+    /// again, with what was written.
     pub fn try_send(&mut self) -> Option<&mut S::Item>
         ensures* lends { sem 𝓛 (LendsIf (the_row S.row W.row S.Item.row S.Row) S.Item.row self.entry result (λ w. record { slots = lent_with Side.Sender self.old.slots w; waiting = self.old.waiting }) self.old) }
         ensures value { value_lent result ≡ first_value self.old.slots.sides.spare self.old.slots.values }
@@ -141,7 +143,7 @@ impl<S: Row, W: Copy + Eq> RowState<S, W> {
         self.lend(Side::Sender)
     }
 
-    /// Lends the next spare slot, to be written, if there is one. Otherwise the context's waker waits for one.
+    /// Polls for the next spare slot and lends it for writing. If no slot is spare, registers the context's waker.
     pub fn poll_send<const K: usize>(
         &mut self,
         cx: &Context<W>,
@@ -156,7 +158,8 @@ impl<S: Row, W: Copy + Eq> RowState<S, W> {
         self.poll_lend(Side::Sender, cx, wakes)
     }
 
-    /// Sends the next spare slot, behind those that are held, and wakes who waits to receive. The channel must not be full.
+    /// Sends the next spare slot, behind those that are held, and hands out the receiver's waker. The channel must not
+    /// be full.
     pub fn send_done<const K: usize>(&mut self, wakes: &mut Wakes<W, K>)
         requires room { length wakes.old < K }
         requires not_full { 0 < length self.old.slots.sides.spare }
@@ -167,7 +170,8 @@ impl<S: Row, W: Copy + Eq> RowState<S, W> {
         self.turns.done(Side::Sender, wakes);
     }
 
-    /// Lends the oldest held slot, to be read or written, if there is one. Until it is given back it is lent again.
+    /// Lends the oldest held slot for reading or writing. Returns `None` if no slot is held. Until it is given back,
+    /// the slot is lent again.
     pub fn try_receive(&mut self) -> Option<&mut S::Item>
         ensures* lends { sem 𝓛 (LendsIf (the_row S.row W.row S.Item.row S.Row) S.Item.row self.entry result (λ w. record { slots = lent_with Side.Receiver self.old.slots w; waiting = self.old.waiting }) self.old) }
         ensures value { value_lent result ≡ first_value self.old.slots.sides.held self.old.slots.values }
@@ -176,7 +180,8 @@ impl<S: Row, W: Copy + Eq> RowState<S, W> {
         self.lend(Side::Receiver)
     }
 
-    /// Lends the oldest held slot, to be read or written, if there is one. Otherwise the context's waker waits for one.
+    /// Polls for the oldest held slot and lends it for reading or writing. If no slot is held, registers the context's
+    /// waker.
     pub fn poll_receive<const K: usize>(
         &mut self,
         cx: &Context<W>,
@@ -191,7 +196,8 @@ impl<S: Row, W: Copy + Eq> RowState<S, W> {
         self.poll_lend(Side::Receiver, cx, wakes)
     }
 
-    /// Gives the oldest held slot back, behind those that are spare, and wakes who waits to send. The channel must not be empty.
+    /// Gives the oldest held slot back, behind those that are spare, and hands out the sender's waker. The channel must
+    /// not be empty.
     pub fn receive_done<const K: usize>(&mut self, wakes: &mut Wakes<W, K>)
         requires room { length wakes.old < K }
         requires not_empty { 0 < length self.old.slots.sides.held }
@@ -202,28 +208,28 @@ impl<S: Row, W: Copy + Eq> RowState<S, W> {
         self.turns.done(Side::Receiver, wakes);
     }
 
-    /// Each slot stands once in one of the two lists, so that none is lent to both sides. This says so, and does nothing.
+    /// Proves that each slot stands once in one of the two lists, so that none is lent to both sides. Does nothing.
     pub fn once(&self)
         ensures { EachOnce self.now.slots.sides }
     {
         self.turns.once()
     }
 
-    /// The number of the slot that the side is lent next, or has lent, if there is one.
+    /// Returns the number of the side's next slot, lent or not. Returns `None` if the side has no slot.
     pub fn next_slot(&self, side: Side) -> Option<usize>
         ensures { result ≡ slice_get (before side self.now.slots.sides) 0 }
     {
         self.turns.next(side)
     }
 
-    /// The side's slot is lent: it was neither sent or given back nor ended since.
+    /// Returns whether the side's slot is lent: it was neither sent, given back nor ended since.
     pub fn is_lent(&self, side: Side) -> bool
         ensures { result ≡ is_out side self.now.slots.sides }
     {
         self.turns.is_out(side)
     }
 
-    /// Ends the loan of the side's slot, if it is lent. The slot stays where it is, and what was written stays.
+    /// Ends the loan of the side's slot, if it is lent. The slot stays the side's next one, with what was written.
     pub fn end_loan(&mut self, side: Side)
         ensures { self.new ≡ record { slots = record self.old.slots { sides = with_out side false self.old.slots.sides }; waiting = self.old.waiting } }
     {
@@ -231,8 +237,12 @@ impl<S: Row, W: Copy + Eq> RowState<S, W> {
     }
 
     #[tactic(auto, using(crate::proofs::Rounds::count_of_cleared))]
-    /// Makes all slots spare, the first one next, ends the side's own loan, and wakes who waits to send. The values stay. Where the
-    /// other side's slot is lent, that is refused, and nothing changes.
+    /// Makes all slots spare, the first one next, ends the side's own loan, and hands out the sender's waker. The
+    /// values stay.
+    ///
+    /// # Errors
+    ///
+    /// Returns `SlotLent` if the opposite side's slot is lent. Nothing is changed.
     pub fn clear<const K: usize>(
         &mut self,
         side: Side,
@@ -247,28 +257,28 @@ impl<S: Row, W: Copy + Eq> RowState<S, W> {
         self.turns.clear(side, wakes)
     }
 
-    /// How many slots are held.
+    /// Returns the number of slots that are held.
     pub fn len(&self) -> usize
         ensures { result ≡ length self.now.slots.sides.held }
     {
         self.turns.len()
     }
 
-    /// No slot is held.
+    /// Returns whether no slot is held.
     pub fn is_empty(&self) -> bool
         ensures { IsTrue result ↔ (length self.now.slots.sides.held ≡ 0) }
     {
         self.turns.len() == 0
     }
 
-    /// No slot is spare.
+    /// Returns whether no slot is spare.
     pub fn is_full(&self) -> bool
         ensures { IsTrue result ↔ (length self.now.slots.sides.spare ≡ 0) }
     {
         self.turns.free_capacity() == 0
     }
 
-    /// How many slots there are.
+    /// Returns the number of slots.
     pub fn capacity(&self) -> usize
         ensures value { result ≡ length self.now.slots.values }
         ensures all { result ≡ count self.now.slots.sides }
@@ -276,7 +286,7 @@ impl<S: Row, W: Copy + Eq> RowState<S, W> {
         self.turns.capacity()
     }
 
-    /// How many slots are spare.
+    /// Returns the number of slots that are spare.
     pub fn free_capacity(&self) -> usize
         ensures { result ≡ length self.now.slots.sides.spare }
     {

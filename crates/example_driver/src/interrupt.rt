@@ -14,7 +14,7 @@ const LINE: &[u8] = b"21 degrees\n";
 
 type Wire<H> = Pipe<TaskId, H, 32>;
 
-// Puts in what there is room for. The rest is offered again, as a wire with flow control does.
+// Puts in the bytes that there is room for. The rest is offered again, as a wire with flow control does.
 fn interrupt<H: Hand<TaskId>>(wire: &Wire<H>, line: &[u8]) {
     let mut rest = line;
     for _tick in 0..u64::MAX {

@@ -1,5 +1,5 @@
-//! A driver puts the readings of a sensor into a channel. Where it is full the oldest reading makes room, so the newest one is never
-//! lost: that is the driver's contract, and it is proved from the channel's.
+//! A driver puts the readings of a sensor into a channel. If it is full, the oldest reading leaves, so the newest one
+//! is never lost. That is the driver's contract, and it is proved from the channel's.
 
 ghost use Rattle.std.specs.Prelude.{◌≡◌, ◌<◌, [], ◌∷◌, ◌++◌, length};
 ghost use Rattle.example_driver.specs.Readings.{with_room};
@@ -10,7 +10,7 @@ use std::io;
 
 type Readings = ChannelState<u16, u64, 2>;
 
-// Where two readings are there, the oldest leaves. Nobody but the driver sends, so nobody waits for room, and nobody is woken.
+// If two readings are there, the oldest leaves. Only the driver sends, so no task waits for room, and none is woken.
 fn make_room(readings: &mut Readings, wakes: &mut Wakes<u64, 1>)
     requires empty { wakes.old ≡ [] }
     requires alone { readings.old.slots.senders ≡ [] }
@@ -24,8 +24,8 @@ fn make_room(readings: &mut Readings, wakes: &mut Wakes<u64, 1>)
     }
 }
 
-/// Puts the reading in, behind those that are there, of which the oldest makes room where there is none. Who waits for a reading is
-/// handed out.
+/// Puts the reading in, behind those that are there. In a full channel the oldest reading leaves first. Hands out the
+/// waker that waits for a reading.
 fn deliver(readings: &mut Readings, reading: u16, wakes: &mut Wakes<u64, 1>)
     requires empty { wakes.old ≡ [] }
     requires alone { readings.old.slots.senders ≡ [] }

@@ -1,4 +1,5 @@
-//! Two threads call one channel, which keeps a journal of their calls. In the end what each of them was told is held against it.
+//! Two threads call one channel, which keeps a journal of their calls. At the end each thread's receipts are checked
+//! against the journal.
 ghost use Rattle.std.specs.Prelude.{◌≡◌, ◌<◌};
 
 use embassy_sync::channel::ChannelState;
@@ -17,7 +18,7 @@ type Channel = ChannelRun<u32, u64, 4, 16, 1>;
 
 type Told = Receipt<ChannelCommand<u32, u64>, ChannelReply<u32, u64, 1>>;
 
-// Makes this call ten times from the seat. Returns the seat, and what was told each time.
+// Makes this call ten times from the seat. Returns the seat, and the receipt of each call.
 fn call_ten_times<L: Ledger>(
     rt: &impl Wait,
     alloc: Global,
@@ -33,7 +34,8 @@ fn call_ten_times<L: Ledger>(
     Ok((seat, receipts))
 }
 
-// One thread sends, another receives. Returns how many entries the journal has, and whether it has all that the threads were told.
+// One thread sends, another receives. Returns how many entries the journal has, and whether it has all of the threads'
+// receipts.
 fn call_by_two<L: Ledger + Send + Sync, R: Threads + Wait + Sync>(
     rt: &R,
     alloc: Global,

@@ -1,4 +1,4 @@
-//! What a whole run shows: tasks on the executor, and the journal of a channel that threads call.
+//! Whole runs: tasks on the executor, and the journal of a channel that threads call.
 #![tactic(auto)]
 
 mod journal;

@@ -21,14 +21,14 @@ fn tasks(alloc: Global) -> Result<Vec<Task>, AllocError> {
     Ok(vec![in alloc; receives, sends]?)
 }
 
-// How the tasks end, with the executor that ran them, or why they can't begin.
+// Returns how the tasks end, with the executor that ran them, or the error that refuses them.
 fn run_tasks(alloc: Global, turns: usize) -> Result<(Outcome, Tasks), NewError> {
     let channel = Requests::new(ChannelState::new());
     let mut executor = Executor::new(alloc, channel, tasks(alloc)?)?;
     Ok((executor.run(turns), executor))
 }
 
-// The message that the task has received, if it has.
+// Returns the message that the task has received, if any.
 fn received(executor: &Tasks, task: usize) -> Option<u32> {
     match executor.heard(task)?.last()?.answer {
         Answer::Gives(ChannelHeard::Received(message)) => Some(message),

@@ -1,5 +1,5 @@
-//! Primitives on one task, in their state form and in their shared form: a file for each example, to be copied from.
-//! It prints what each call answered and which tasks are to be woken.
+//! Primitives on one task, in their state form and in their shared form: a file for each example, to be copied from. It
+//! prints what each call returned and which tasks are to be woken.
 #![tactic(auto)]
 
 mod shared;

@@ -1,5 +1,5 @@
-//! The shared form: tasks call it through `&self`, and it gives the wakers to their hand, here a [`Bell`](bell::Bell). But for the pool,
-//! these are what upstream's documentation shows of each primitive, written anew.
+//! The shared form: tasks call it through `&self`, and it gives the wakers to their hand, here a [`Bell`](bell::Bell).
+//! Except for the pool, these examples show what upstream's documentation shows of each primitive, written anew.
 mod bell;
 pub mod channel;
 pub mod lazy_lock;

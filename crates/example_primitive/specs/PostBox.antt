@@ -16,17 +16,17 @@ pub record Posted : Type 0 where
   pub is_live : Bool
   pub message : Option ℕ
 
--- a start names what isn't there where the subscriber isn't
+-- a start is refused while the subscriber isn't there
 abbrev pub Begins : Bool → NextMessage → Option NextMessage → Type 0
 Begins true ask p = p ≡ Some ask
 Begins false ask p = p ≡ None
 
--- a poll takes the message, if there is one, and else waits
+-- a poll takes the message, if there is one, and otherwise waits
 abbrev pub Polls : Option ℕ → Posted → NextMessage → Answer ℕ → Posted → Option NextMessage → Type 0
 Polls None o h a o2 p = (a ≡ Pending) × (o2 ≡ o) × (p ≡ Some h)
 Polls (Some x) o h a o2 p = (a ≡ Gives x) × (o2 ≡ record o { message = None }) × (p ≡ None)
 
--- what is posted to nobody is gone
+-- a message that is posted without a subscriber is dropped
 abbrev pub Posts : Bool → Posted → ℕ → Posted
 Posts true o x = record o { message = Some x }
 Posts false o x = o
@@ -54,7 +54,7 @@ post_rules = record {
   WakesItself = ⊥;
 }
 
--- a post hands out the subscriber's waker, and leaving keeps it
+-- a post hands out the subscriber's waker, and a leave keeps it registered
 abbrev pub poll_hands : {W : Type 0} → (W → W → Bool) → Option ℕ → List W → W → Handed (List W) W
 poll_hands eq None reader w = registers eq reader w
 poll_hands eq (Some x) reader w = nothing reader
@@ -76,11 +76,11 @@ post_wakings {W} eq = record {
   calls = λ o reader call p a. call_hands o reader call;
 }
 
--- to whom the registered waker is owed: who waits while there is no message
+-- the registered waker is owed to a request while there is no message
 abbrev pub OwesReader : {W : Type 0} → (W → W → Bool) → Option ℕ → List W → W → Type 0
 OwesReader eq message reader w = (message ≡ None) × IsAmong eq w reader
 
--- the two laws that are to be shown of it: who is owed a waker may be answered Pending, and where that may be, nothing else may
+-- the two laws to be shown: a request that is owed a waker may be answered Pending, and then no other answer is allowed
 pub post_idle : (o : Posted) (h : NextMessage) → o.message ≡ None → IsIdle post_rules o h
 post_idle o h e = rw (e, Polls) (refl, refl, refl)
 

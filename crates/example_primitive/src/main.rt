@@ -1,5 +1,6 @@
-//! A primitive of one's own. Its state and its calls stand in `post_box.rt`, its object, its rules and its table of wakes in
-//! `specs/PostBox.antt`. What it gets for them: requests with numbers, whole runs with the laws of wakes, the executor.
+//! A primitive of one's own. Its state and its calls stand in `post_box.rt`, its object, its rules and its table of
+//! wakes in `specs/PostBox.antt`. What it gets for them: requests with numbers, whole runs with the laws of wakes, the
+//! executor.
 #![tactic(auto)]
 
 use crate::post_box::{NextMessage, PostBox, PostCall, PostRun, run_post};
@@ -12,7 +13,7 @@ use std::io;
 
 mod post_box;
 
-// A subscriber joins and waits twice; a message comes; it leaves, which ends what still waits.
+// A subscriber joins and waits twice; a message comes; the subscriber leaves, which ends the request that still waits.
 fn commands(alloc: Global) -> Result<Vec<Command<NextMessage, u64, PostCall>>, AllocError> {
     Ok(vec![in alloc;
         Command::Start(0, NextMessage {}),
@@ -44,7 +45,7 @@ fn print_replies(rt: &impl Print, alloc: Global) -> anyhow::Result<()> {
 
 type Task = Vec<Act<NextMessage, Command<NextMessage, TaskId, PostCall>>>;
 
-// The first task joins and awaits a message, the second posts it.
+// The first task joins and awaits a message, the second task posts it.
 fn tasks(alloc: Global) -> Result<Vec<Task>, AllocError> {
     let reads = vec![in alloc;
         Act::Call(Command::Call(PostCall::Join)),

@@ -1,4 +1,4 @@
-//! A post box for one subscriber, who may leave: leaving ends all requests that wait for a message.
+//! A post box for one subscriber, which may leave: leaving ends all requests that wait for a message.
 ghost use Rattle.std.specs.Prelude.{◌≡◌, [], None, false, IfOk, OnErr};
 ghost use Rattle.esync_machine.specs.Runs.{GoodRun};
 ghost use Rattle.esync_machine.specs.Object.{requests_meaning};
@@ -14,18 +14,19 @@ use std::alloc::{AllocError, Global};
 #[derive(Clone, Copy, Debug, PartialEq, Eq)]
 pub struct NextMessage {}
 
-/// The other calls.
+/// The calls of a post box beside its requests.
 #[derive(Clone, Copy, Debug, PartialEq, Eq)]
 pub enum PostCall {
-    /// The subscriber joins.
+    /// Adds the subscriber.
     Join,
-    /// The subscriber leaves: its requests end, and its message is gone.
+    /// Removes the subscriber: its requests end, and its message is dropped.
     Leave,
-    /// A message is posted to the subscriber, if there is one, in place of one that it didn't read.
+    /// Posts a message to the subscriber, if it is there, in place of a message that it didn't read.
     Post(u32),
 }
 
-/// Whether the subscriber is there, its message, if there is one, and the waker of who waits for one.
+/// The state of a post box: whether the subscriber is there, its message, if there is one, and the waker of a task that
+/// waits for one.
 #[derive(Debug, Drop)]
 pub struct PostBox<W> {
     is_live: bool,
@@ -34,7 +35,7 @@ pub struct PostBox<W> {
 }
 
 impl<W: Copy + Eq> PostBox<W> {
-    /// Nobody is there.
+    /// Returns a post box without a subscriber.
     pub fn new() -> Self
         ensures { result ≡ record { is_live = false; message = None; reader = [] } }
     {
@@ -152,8 +153,8 @@ impl<W: Copy + Eq, const K: usize> Primitive<K> for PostBox<W> {
 /// The post box as a machine of 16 requests, of which a step hands out at most one waker.
 pub type PostRun<W> = Requests<PostBox<W>, 16, 1>;
 
-/// Gives the commands to the post box, one after another. That the replies are a run of it, that no wake is lost in it, and that
-/// each step hands out exactly the wakers of the table is what `run` says of every machine.
+/// Runs the commands on the post box, one after another, and returns a reply to each. As `run` says of every machine,
+/// the replies are a run of it, no wakeup is lost, and each step hands out exactly the wakers of the table.
 pub fn run_post<W: Copy + Eq>(
     alloc: Global,
     machine: &mut PostRun<W>,

@@ -88,7 +88,7 @@ fn explore_mutexes(alloc: Global, tasks: &[Vec<LockAct>]) -> Result<Verdict, New
     explore_pair(alloc, &compares, mutexes, tasks, 1000)
 }
 
-// Two tasks, each of which takes both mutexes, in the other's order.
+// Two tasks, each of which takes both mutexes, in opposite orders.
 fn opposite_orders(alloc: Global) -> Result<Vec<Vec<LockAct>>, AllocError> {
     Ok(vec![in alloc; left_first(alloc, 0)?, right_first(alloc, 1)?]?)
 }
@@ -102,7 +102,7 @@ fn one_order(alloc: Global, count: u8) -> Result<Vec<Vec<LockAct>>, AllocError> 
     Ok(tasks)
 }
 
-// Philosopher r takes the one fork and then the other, and puts both down. Request r of each fork is the philosopher's.
+// Philosopher r takes one fork and then the next, and puts both down. Request r of each fork is the philosopher's.
 fn dines(alloc: Global, r: u8, first: u8, second: u8) -> Result<Vec<ForkAct>, AllocError> {
     let unlock = Command::End(r as usize);
     Ok(vec![in alloc;
@@ -119,8 +119,8 @@ fn dines(alloc: Global, r: u8, first: u8, second: u8) -> Result<Vec<ForkAct>, Al
     ]?)
 }
 
-// Each of three philosophers takes the fork of the same number first, and then the next one. Where one turns round, the last
-// takes them in the other order.
+// Each of three philosophers takes the fork of the same number first, and then the next one. If `one_turns_round`, the
+// last philosopher takes them in the opposite order.
 fn philosophers(alloc: Global, one_turns_round: bool) -> Result<Vec<Vec<ForkAct>>, AllocError> {
     let last = if one_turns_round {
         dines(alloc, 2, 0, 2)?
@@ -130,7 +130,7 @@ fn philosophers(alloc: Global, one_turns_round: bool) -> Result<Vec<Vec<ForkAct>
     Ok(vec![in alloc; dines(alloc, 0, 0, 1)?, dines(alloc, 1, 1, 2)?, last]?)
 }
 
-// What a step of a mutex answers and leaves is determined, so what is found of three holds of every schedule.
+// Explores three forks. The steps of a mutex are determined, so a verdict on them holds of every schedule.
 fn explore_forks(alloc: Global, forks: Forks, tasks: &[Vec<ForkAct>]) -> Result<Verdict, NewError>
     ensures { (turns : ℕ) → result ≡ Ok (Verdict.AllEnd turns) → EveryScheduleEnds ⟦<Forks as Machine>⟧.semantics.meaning ⟦<Forks as Awaits>⟧.starting turns (opened ⟦<Forks as Machine>⟧.semantics forks (map (λ acts. acts.items) tasks.now)) }
 {
@@ -151,7 +151,7 @@ fn forks(alloc: Global) -> Result<Forks, AllocError> {
     Ok(Several { first, others })
 }
 
-// Each consumer receives one message, and the last task sends so many.
+// Each consumer receives one message, and the last task sends `sent` messages.
 fn consumers(alloc: Global, count: usize, sent: usize) -> Result<Vec<Vec<ChannelAct>>, AllocError> {
     let mut tasks = Vec::new(alloc);
     let mut producer = Vec::new(alloc);
@@ -165,7 +165,7 @@ fn consumers(alloc: Global, count: usize, sent: usize) -> Result<Vec<Vec<Channel
     Ok(tasks)
 }
 
-// What a step of a channel answers and leaves is determined, so what is found holds of every schedule.
+// Explores one channel. The steps of a channel are determined, so a verdict on it holds of every schedule.
 fn explore_channel(
     alloc: Global,
     channel: Channel,

@@ -20,7 +20,7 @@ fn send_all<R: Wait, H: Hand<TaskId>>(parking: &Parking<'_, R, 2>, line: &Line<H
     }
 }
 
-// The sum of the messages, and how many of them came where they were sent. It sleeps while there is none.
+// Returns the sum of the messages, and how many of them came in order. Sleeps while there is no message.
 fn receive_all<R: Wait, H: Hand<TaskId>>(
     parking: &Parking<'_, R, 2>,
     line: &Line<H>,

@@ -1,4 +1,4 @@
-//! A service answers requests until it is told to stop, and sleeps while there is neither.
+//! A service answers requests until it is told to stop, and sleeps while there is neither a request nor a stop.
 use embassy_sync::channel::Channel;
 use embassy_sync::signal::Signal;
 use embassy_sync::waitqueue::{Hand, TaskId};
@@ -14,7 +14,7 @@ type Line<H> = Channel<u64, TaskId, H, 2>;
 
 type Stop<H> = Signal<(), TaskId, H>;
 
-// Doubles each number that is asked for, and tells how many it was asked for.
+// Doubles each number that is asked for, and returns how many requests there were.
 fn serve<R: Wait, H: Hand<TaskId>>(
     rt: &R,
     parking: &Parking<'_, R, 2>,
@@ -36,7 +36,7 @@ fn serve<R: Wait, H: Hand<TaskId>>(
     served
 }
 
-// Asks for all numbers, one after another, and stops the service. Gives the sum of its answers.
+// Asks for all numbers, one after another, and stops the service. Returns the sum of its answers.
 fn ask<R: Wait, H: Hand<TaskId>>(
     parking: &Parking<'_, R, 2>,
     requests: &Line<H>,

@@ -17,7 +17,7 @@ const PERMITS: usize = 3;
 
 const JOBS: u64 = 1000;
 
-/// How many tasks are at work, and whether there ever were too many.
+/// The number of tasks at work, and whether there ever were too many.
 #[derive(Drop)]
 struct Shop {
     at_work: AtomicU64,
@@ -36,7 +36,8 @@ impl Shop {
     }
 }
 
-/// Does its jobs one after another, each with a permit that it keeps for a turn. Gives how many it did.
+/// A worker: it does its jobs one after another, each with a permit that it keeps for a turn. It gives the number of
+/// its jobs.
 #[derive(Drop)]
 struct Worker<'a, S: PermitState<Waker = TaskId>, H: Hand<TaskId>> {
     pool: &'a SharedSemaphore<S, TaskId, H>,
@@ -92,7 +93,7 @@ fn new_worker<'a, S: PermitState<Waker = TaskId>, H: Hand<TaskId>>(
     }
 }
 
-// How many jobs eight workers did on two threads.
+// Returns how many jobs eight workers did on two threads.
 fn run<'a, R: Wait + Threads + Sync, H: Hand<TaskId> + Sync + Send>(
     rt: &R,
     runtime: &Runtime<'_, R, 8>,

@@ -18,21 +18,21 @@ use std::marker::{Model, PhantomData};
 #[derive(Clone, Copy, Debug, PartialEq, Eq)]
 pub struct Lock {}
 
-/// What stands at a number of a mutex.
+/// The holder of a number of a mutex.
 #[derive(Clone, Copy, Debug, PartialEq, Eq)]
 pub enum MutexHeld {
     /// A request for the lock.
     Waiting,
-    /// Whoever has the lock, and with it the value.
+    /// A guard: its holder has the lock, and with it the value.
     Guard,
-    /// The same, narrowed to a part of the value.
+    /// A mapped guard: a guard that is narrowed to a part of the value.
     Mapped,
 }
 
 /// The calls of a mutex beside its requests.
 #[derive(Clone, Copy, Debug, PartialEq, Eq)]
 pub enum MutexCall<T, U> {
-    /// Locks for a free number, if the mutex is not locked.
+    /// Locks the mutex for a free number, if it isn't locked.
     TryLock(usize),
     /// Asks a guard for the value, or a mapped guard for the part.
     Read(usize),
@@ -44,16 +44,16 @@ pub enum MutexCall<T, U> {
     WritePart(usize, U),
 }
 
-/// What a mutex answers.
+/// The answers of a mutex.
 #[derive(Clone, Copy, Debug, PartialEq, Eq)]
 pub enum MutexHeard<T, U> {
-    /// The request has the lock, and is a guard now.
+    /// The request got the lock, and is a guard now.
     Locked,
-    /// Whether a try has the lock.
+    /// The outcome of a try.
     Tried(Result<(), TryLockError>),
-    /// What a guard reads.
+    /// The value that a guard read.
     Value(T),
-    /// What a mapped guard reads.
+    /// The part that a mapped guard read.
     Part(U),
 }
 
@@ -101,7 +101,7 @@ impl<T, U, P, W: Copy + Eq> Registered for Guarded<T, U, P, W> {
 }
 
 impl<T: Copy, U: Copy, P: Projection<T, U>, W: Copy + Eq> Guarded<T, U, P, W> {
-    /// The value under a lock that nobody has.
+    /// Returns the value under a free lock, without a waker.
     pub fn new(value: T, projection: P) -> Self
         ensures value { result.value ≡ value }
         ensures lock { result.lock ≡ record { held = false; waiter = [] } }
@@ -114,7 +114,7 @@ impl<T: Copy, U: Copy, P: Projection<T, U>, W: Copy + Eq> Guarded<T, U, P, W> {
         }
     }
 
-    // Locks for a free number.
+    // Tries to lock the mutex for a free number.
     fn try_at(&mut self, place: &mut Option<MutexHeld>) -> Answer<MutexHeard<T, U>>
         ensures allowed { Tries (record { held = self.old.lock.held; value = self.old.value }) place.old result (record { held = self.new.lock.held; value = self.new.value }) place.new }
         ensures waiter { self.new.lock.waiter ≡ self.old.lock.waiter }
@@ -129,7 +129,7 @@ impl<T: Copy, U: Copy, P: Projection<T, U>, W: Copy + Eq> Guarded<T, U, P, W> {
         Answer::Gives(MutexHeard::Tried(tried))
     }
 
-    // What a guard reads.
+    // Reads through a guard.
     fn read_at(&self, place: &Option<MutexHeld>) -> Answer<MutexHeard<T, U>>
         ensures { Reads P.get (record { held = self.now.lock.held; value = self.now.value }) place.now result (record { held = self.now.lock.held; value = self.now.value }) place.now }
     {
@@ -290,11 +290,15 @@ pub type MutexCommand<T, U, W> = Command<Lock, W, MutexCall<T, U>>;
 /// What a mutex answers to a command, with the wakers that it hands out.
 pub type MutexReply<T, U, W, const K: usize> = Reply<Answer<MutexHeard<T, U>>, W, K>;
 
-/// Gives the commands to the mutex, one after another, as `run` does.
+/// Runs the commands on the mutex, one after another, as `run` does, and returns a reply to each.
 ///
-/// Each answer is one that the lock and its value allow. No live request that last heard Pending would now be answered Ready,
-/// unless its waker was handed out in that poll or since. No Pending poll that changes nothing hands out its own waker. And at
-/// most one number has a guard or a mapped guard.
+/// Each answer is one that the lock and its value allow. No live request that last heard Pending would now be answered
+/// Ready, unless its waker was handed out in that poll or since. No Pending poll that changes nothing hands out its own
+/// waker. At the end at most one number has a guard or a mapped guard.
+///
+/// # Errors
+///
+/// Returns the error if there is no memory for the replies. The machine is then unchanged.
 pub fn run_mutex<
     T: Copy,
     U: Copy,

@@ -6,34 +6,35 @@ use std::marker::PhantomData;
 
 /// A part of a value, which a guard can be narrowed to.
 ///
-/// What is lent for reading and for writing is the same part, and writing it leaves the rest of the value.
+/// Reading and writing lend the same part, and writing the part leaves the rest of the value.
 pub trait Projection<T, U> {
     /// The part of a value.
     ghost get: { T → U };
 
-    /// A value with another part.
+    /// The value with another part.
     ghost set: { T → U → T };
 
-    /// Lends the part.
+    /// Lends the part for reading.
     fn read<'a>(&'a self, value: &'a T) -> &'a U
         ensures { result.now ≡ get value.now };
 
-    /// Lends the part to be written. The value comes first, since it is what ends as the part is left.
+    /// Lends the part for writing. The value is the first parameter, since the loan's end decides how the value is
+    /// left.
     fn write<'a>(value: &'a mut T, projection: &'a Self) -> &'a mut U
         ensures* writes_back { sem 𝓛 (Lends T.row U.row value.entry result (set value.old)) }
         ensures part { result.now ≡ get value.old };
 
-    /// The part is what was written.
+    /// The part read after a write is what was written.
     ghost get_set: { (v : T) (u : U) → get (set v u) ≡ u };
 
-    /// Writing what is there changes nothing.
+    /// A write of the part that is there changes nothing.
     ghost set_get: { (v : T) → set v (get v) ≡ v };
 
-    /// Of two writes the later counts.
+    /// The later of two writes counts.
     ghost set_set: { (v : T) (u w : U) → set (set v u) w ≡ set v w };
 }
 
-/// Puts another part into a value.
+/// Puts another part into the value.
 pub fn put_part<T, U: Drop, P: Projection<T, U>>(value: &mut T, projection: &P, part: U)
     ensures value { value.new ≡ P.set value.old part }
     ensures part { P.get value.new ≡ part }
@@ -41,18 +42,18 @@ pub fn put_part<T, U: Drop, P: Projection<T, U>>(value: &mut T, projection: &P, 
     *P::write(value, projection) = part;
 }
 
-/// A part of a part: that of the second projection in that of the first.
+/// A part of a part: the second projection's part of the first projection's part.
 #[derive(Drop)]
 pub struct Then<P, Q, U> {
-    /// The part.
+    /// The projection of the value to its part.
     pub first: P,
-    /// The part of that part.
+    /// The projection of that part to its own part.
     pub second: Q,
     between: PhantomData<U>,
 }
 
 impl<P, Q, U> Then<P, Q, U> {
-    /// The part of the second projection in that of the first.
+    /// Returns the projection to the second projection's part of the first projection's part.
     pub fn new(first: P, second: Q) -> Self
         ensures first { result.first ≡ first }
         ensures second { result.second ≡ second }
@@ -89,7 +90,7 @@ impl<T, U, V, P: Projection<T, U>, Q: Projection<U, V>> Projection<T, V> for The
     ghost set_set = { then_set_set P.get P.set Q.get Q.set P.get_set P.set_set Q.set_set };
 }
 
-/// The second of two.
+/// The projection of a pair to its second value.
 #[derive(Clone, Copy, Debug, PartialEq, Eq)]
 pub struct Second {}
 

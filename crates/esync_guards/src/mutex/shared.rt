@@ -1,4 +1,4 @@
-//! A mutex that tasks on several threads share by reference, its guards and its future.
+//! A mutex that tasks on several threads share by reference, with its guards and its future.
 ghost use Rattle.std.specs.Prelude.{◌≡◌, [], is_some};
 ghost use Rattle.esync_base.specs.Registration.{registered_if};
 ghost use Rattle.esync_guards.specs.Mutex.{Wins, waiter_where_held, wakes_of_turn};
@@ -11,10 +11,10 @@ use esync_base::waitqueue::{Context, Hand, Poll, Wakes};
 use std::marker::{Model, PhantomData};
 use std::sync::{self, Wait};
 
-/// A value that tasks on several threads share by reference, and one at a time uses through a guard.
+/// A value that tasks on several threads share by reference. One task at a time uses it, through a guard.
 ///
-/// Its lock is held for the length of a state call alone. A guard has the value to itself: it reads and writes it without
-/// waiting.
+/// Its lock is taken only for the length of a state call. A guard has the value to itself: it reads and writes the
+/// value without waiting.
 #[derive(Drop)]
 pub struct Mutex<T, W, H> {
     state: Shared<MutexState<W>, W, H>,
@@ -22,7 +22,7 @@ pub struct Mutex<T, W, H> {
 }
 
 impl<T, W: Copy + Eq, H: Hand<W>> Mutex<T, W, H> {
-    /// The value under a lock that nobody has.
+    /// Returns a free mutex of the value, whose wakers go to the hand.
     pub fn new(value: T, hand: H) -> Self {
         Mutex {
             state: Shared::new(MutexState::new(), hand),
@@ -30,13 +30,17 @@ impl<T, W: Copy + Eq, H: Hand<W>> Mutex<T, W, H> {
         }
     }
 
-    /// Locks, when the mutex is not locked.
+    /// Returns a future that locks the mutex once it is free.
     pub fn lock(&self) -> LockFuture<'_, T, W, H> {
         LockFuture { mutex: self }
     }
 
-    /// Locks, if the mutex is not locked now. The error leaves everything as it is. A mutex that is not locked, but whose value
-    /// can't be taken just now, is answered as a locked one.
+    /// Locks the mutex and returns its guard, if it is free now.
+    ///
+    /// # Errors
+    ///
+    /// Returns `TryLockError` if the mutex is locked, or if it is free but its value can't be taken just now. Nothing
+    /// is changed.
     pub fn try_lock(&self) -> Result<MutexGuard<'_, T, W, H>, TryLockError> {
         let turn = try_turn(&self.inner, &mut self.state.guard());
         match turn {
@@ -56,7 +60,7 @@ impl<T, W: Copy + Eq, H: Hand<W>> Mutex<T, W, H> {
         }
     }
 
-    /// The value. Nobody has a guard, since the mutex is moved.
+    /// Returns the value. No guard exists, since the mutex is moved.
     pub fn into_inner(self) -> T
     where
         H: Drop,
@@ -65,13 +69,13 @@ impl<T, W: Copy + Eq, H: Hand<W>> Mutex<T, W, H> {
         inner.into_inner()
     }
 
-    /// The value, which nobody has a guard of while it is borrowed.
+    /// Lends the value for writing. No guard exists while it is borrowed.
     pub fn get_mut(&mut self) -> &mut T {
         self.inner.get_mut()
     }
 }
 
-// Locks where the state is free and the value is there, and takes the value.
+// Locks the mutex and takes its value, if the state is free and the value is there.
 fn try_turn<'a, T, W: Copy + Eq>(
     place: &'a Place<T>,
     state: &mut MutexState<W>,
@@ -86,8 +90,9 @@ fn try_turn<'a, T, W: Copy + Eq>(
     Some(value)
 }
 
-// The same, or else waits for the lock. Where the state is free and the value isn't there, it hands out the waker, so that the
-// task polls again.
+// Polls for the lock: locks the mutex and takes its value, if the state is free and the value is there. If the mutex is
+// locked, registers the context's waker. If only the value is missing, hands out the context's waker, so that the task
+// polls again.
 fn poll_turn<'a, T, W: Copy + Eq>(
     place: &'a Place<T>,
     state: &mut MutexState<W>,
@@ -122,7 +127,7 @@ impl<T: Default, W: Copy + Eq, H: Hand<W> + Default> Default for Mutex<T, W, H> 
     }
 }
 
-/// A request for the lock: what `lock` gives. It acts anew after it was ready.
+/// The future of a guard: what `lock` returns. A poll after it was ready locks anew.
 #[must_use]
 #[derive(Drop)]
 pub struct LockFuture<'a, T, W, H> {
@@ -130,20 +135,23 @@ pub struct LockFuture<'a, T, W, H> {
 }
 
 impl<'a, T, W: Copy + Eq, H: Hand<W>> LockFuture<'a, T, W, H> {
-    /// Locks, if the mutex is not locked now. Otherwise the context's waker waits for that. Where the mutex is not locked, but its
-    /// value can't be taken just now, the answer is Pending too, and the context's waker is handed out, so that the task polls again.
+    /// Polls for the lock and returns a guard once the mutex is free. If it is locked, registers the context's waker.
+    /// If the mutex is free but its value can't be taken just now, the answer is Pending too, and the context's waker
+    /// is handed out, so that the task polls again.
     pub fn poll(&mut self, cx: &Context<W>) -> Poll<MutexGuard<'a, T, W, H>> {
         self.mutex.poll_lock(cx)
     }
 }
 
-/// What a guard unlocks at its end. No other crate can name it, so that nothing but the end of a guard unlocks.
+/// A mutex as its guard sees it: the guard's end unlocks it. No other crate can name this trait, so only the end of a
+/// guard unlocks.
 ///
-/// A call uses it up, and a guard asks no `Drop` of it: a guard whose end calls twice, or not at all, doesn't compile.
+/// A call uses its receiver up, and no `Drop` is asked of it: a guard whose end unlocks twice, or never, doesn't
+/// compile.
 pub trait Unlocks {
     type Rt: Wait;
 
-    /// Unlocks, and wakes who waits.
+    /// Unlocks the mutex and wakes the task that waits for it.
     fn unlock(self);
 }
 
@@ -155,13 +163,15 @@ impl<T, W: Copy + Eq, H: Hand<W>> Unlocks for &Mutex<T, W, H> {
     }
 }
 
-/// Whoever has it has the lock, and the value, which it has through what it holds. Its end unlocks, and wakes who waits.
+/// A guard of a mutex: its holder has the lock and the value. Its end unlocks the mutex and wakes the task that waits
+/// for it.
 pub struct Guard<M: Unlocks, G> {
     mutex: M,
     value: G,
 }
 
-/// Whoever has it has the lock, and the value. Its end unlocks, and wakes who waits.
+/// The guard of a `Mutex`: its holder has the lock and the value. Its end unlocks the mutex and wakes the task that
+/// waits for it.
 pub type MutexGuard<'a, T, W, H> = Guard<&'a Mutex<T, W, H>, sync::MutexGuard<'a, T>>;
 
 impl<M: Unlocks, G> Model for Guard<M, G> {
@@ -173,7 +183,7 @@ impl<M: Unlocks, G> Model for Guard<M, G> {
 }
 
 impl<M: Unlocks, G: Drop> Guard<M, G> {
-    // Puts the value back, and gives the mutex alone: a state that is free never meets a value that is still out.
+    // Puts the value back and returns the mutex alone: so no task finds the state free while the value is still out.
     fn put_back(self) -> M {
         let Guard { mutex, value } = self;
         drop(value);
@@ -192,14 +202,14 @@ impl<M: Unlocks, G: Holds> Guard<M, G> {
     ghost use Rattle.std.specs.Borrow.{Lends, sem};
     ghost use Rattle.esync_guards.specs.contracts.mutex.shared.Guard.{the_row};
 
-    /// The value: what was last written through the guard, and else what the mutex had when it was locked.
+    /// Returns the value last written through the guard, or otherwise the value that the mutex had when it was locked.
     pub fn get(&self) -> &G::Value
         ensures { result.now ≡ G.value self.now }
     {
         self.value.read()
     }
 
-    /// The value, to be written.
+    /// Lends the value for writing.
     pub fn get_mut(&mut self) -> &mut G::Value
         ensures* lends { sem 𝓛 (Lends (the_row M.row G.row M.Rt.row) G.Value.row self.entry result (G.with_value self.old)) }
         ensures value { result.now ≡ G.value self.old }
@@ -218,7 +228,7 @@ impl<M: Unlocks, G: Holds> Guard<M, G> {
         }
     }
 
-    /// Unlocks, as a drop does.
+    /// Unlocks the mutex, as a drop does.
     pub fn end(self)
     where
         G: Drop,
@@ -227,7 +237,7 @@ impl<M: Unlocks, G: Holds> Guard<M, G> {
     }
 }
 
-/// A guard that is narrowed to a part of the value. Its end unlocks, and wakes who waits.
+/// A guard that is narrowed to a part of the value. Its end unlocks the mutex and wakes the task that waits for it.
 #[derive(Drop)]
 pub struct MappedGuard<M: Unlocks, G, U, P> {
     guard: Guard<M, G>,
@@ -235,7 +245,8 @@ pub struct MappedGuard<M: Unlocks, G, U, P> {
     part: PhantomData<U>,
 }
 
-/// A guard that is narrowed to a part of the value. Its end unlocks, and wakes who waits.
+/// A guard of a `Mutex` that is narrowed to a part of the value. Its end unlocks the mutex and wakes the task that
+/// waits for it.
 pub type MappedMutexGuard<'a, T, U, P, W, H> = MappedGuard<
     &'a Mutex<T, W, H>,
     sync::MutexGuard<'a, T>,
@@ -256,14 +267,14 @@ impl<M: Unlocks, G: Holds, U, P: Projection<G::Value, U>> MappedGuard<M, G, U, P
     ghost use Rattle.std.specs.Borrow.{Lends, sem};
     ghost use Rattle.esync_guards.specs.contracts.mutex.shared.MappedGuard.{the_row};
 
-    /// The part of the value.
+    /// Returns the part of the value.
     pub fn get(&self) -> &U
         ensures { result.now ≡ P.get (G.value self.now) }
     {
         self.projection.read(self.guard.get())
     }
 
-    /// The part of the value, to be written. The rest of the value stays.
+    /// Lends the part of the value for writing. The rest of the value stays.
     pub fn get_mut(&mut self) -> &mut U
         ensures* lends { sem 𝓛 (Lends (the_row M.row G.row U.row P.row M.Rt.row) U.row self.entry result (λ u. G.with_value self.old (P.set (G.value self.old) u))) }
         ensures part { result.now ≡ P.get (G.value self.old) }
@@ -272,7 +283,7 @@ impl<M: Unlocks, G: Holds, U, P: Projection<G::Value, U>> MappedGuard<M, G, U, P
         P::write(value, &self.projection)
     }
 
-    /// Narrows the guard to a part of the part. The mutex stays locked, and the value as it is.
+    /// Narrows the guard to a part of its part. The mutex stays locked, and the value as it is.
     pub fn map<V, Q: Projection<U, V>>(self, projection: Q) -> MappedGuard<M, G, V, Then<P, Q, U>>
         ensures { result ≡ self }
     {
@@ -288,7 +299,7 @@ impl<M: Unlocks, G: Holds, U, P: Projection<G::Value, U>> MappedGuard<M, G, U, P
         }
     }
 
-    /// Unlocks, as a drop does.
+    /// Unlocks the mutex, as a drop does.
     pub fn end(self)
     where
         G: Drop,

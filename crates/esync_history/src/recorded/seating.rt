@@ -1,11 +1,11 @@
-//! Who makes the calls that a book records.
+//! The seats from which a recorded machine is called.
 ghost use Rattle.std.specs.Prelude.{◌≡◌, ◌+◌, ◌<◌, ◌≤◌};
 
 use std::marker::Model;
 use std::sync::ledger::{Book, Ledger, Share};
 
-/// A seat at a recorded machine: whose calls the entries with its number are. It has a share of the machine's ledger, so a seat
-/// of another machine can't be handed in, and it can't be copied.
+/// A seat at a recorded machine: the entries with its number are its owner's calls. It has a share of the machine's
+/// ledger, so a seat of another machine can't be handed in, and it can't be copied.
 #[derive(Drop)]
 pub struct Seat<L: Ledger> {
     number: usize,
@@ -25,21 +25,21 @@ impl<L: Ledger> Model for Seat<L> {
 }
 
 impl<L: Ledger> Seat<L> {
-    /// Its number: seats are numbered from 0, as they were made.
+    /// Returns the seat's number. Seats are numbered from 0, in the order in which they were made.
     pub fn number(&self) -> usize
         ensures { result ≡ self.now.number }
     {
         self.number
     }
 
-    /// How many calls were recorded for it.
+    /// Returns how many calls were recorded for the seat.
     pub fn calls(&self) -> usize
         ensures { result ≡ self.now.calls }
     {
         self.calls
     }
 
-    // Counts a call, here and in the book.
+    // Counts a call, in the seat and in the book.
     pub(super) fn count(&mut self, book: &mut Book<L>)
         requires { book.old.total + 1 < 18446744073709551616 }
         ensures number { self.new.number ≡ self.old.number }
@@ -52,7 +52,7 @@ impl<L: Ledger> Seat<L> {
         self.calls += 1;
     }
 
-    // The share, with as much as the seat has calls.
+    // Returns the seat's share, whose amount is the number of the seat's calls.
     pub(super) fn into_share(self) -> Share<L>
         ensures parts { result.parts ≡ 1 }
         ensures amount { result.amount ≡ self.calls }
@@ -82,7 +82,7 @@ impl<L: Ledger> Model for Seats<L> {
 }
 
 impl<L: Ledger> Seats<L> {
-    // So many seats, over all shares of the ledger.
+    // Returns `seats` seats to be made, from all shares of the ledger.
     pub(super) fn new(all: Share<L>, seats: usize) -> Self
         requires parts { all.parts ≡ L.parts }
         requires amount { all.amount ≡ 0 }
@@ -96,14 +96,14 @@ impl<L: Ledger> Seats<L> {
         }
     }
 
-    /// How many seats can still be made.
+    /// Returns how many seats can still be made.
     pub fn seats_left(&self) -> usize
         ensures { result ≡ self.now.left }
     {
         self.left
     }
 
-    /// The next seat. There has to be one left.
+    /// Makes the next seat. There must be one left.
     pub fn seat(&mut self) -> Seat<L>
         requires { 0 < self.old.left }
         ensures seat { result ≡ record { number = self.old.made; calls = 0 } }
@@ -121,7 +121,7 @@ impl<L: Ledger> Seats<L> {
         }
     }
 
-    // How many seats were made, and what the ledger has beside them.
+    // Returns how many seats were made, and the shares of the ledger that no seat has.
     pub(super) fn into_spare(self) -> (usize, Share<L>)
         ensures made { result.0 ≡ self.made }
         ensures parts { result.1.parts + self.made ≡ L.parts }

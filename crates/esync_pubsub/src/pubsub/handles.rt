@@ -25,7 +25,7 @@ pub type Publisher<
 /// A publisher whose type doesn't say what capacities the channel has.
 pub type DynPublisher<'a, B> = Pub<'a, B>;
 
-/// A publisher of a channel. It is counted until it ends.
+/// A publisher of a channel. It is counted until it is dropped.
 pub struct Pub<'a, B: PubSubBehavior> {
     channel: &'a B,
 }
@@ -38,23 +38,24 @@ impl<'a, B: PubSubBehavior> Drop for Pub<'a, B> {
 }
 
 impl<'a, B: PubSubBehavior> Pub<'a, B> {
-    // A publisher that this channel has counted.
+    // Returns a publisher that the channel has counted.
     pub(crate) fn new(channel: &'a B) -> Self {
         Pub { channel }
     }
 
-    /// Publishes a message at once. Where the channel is full, the oldest message is dropped, and who had not read it lags.
+    /// Publishes a message at once. A full channel drops its oldest message, and a subscriber that had not read it
+    /// lags.
     ///
     /// # Errors
     ///
-    /// `Exhausted` with the message where the numbers of messages have run out.
+    /// Returns `Exhausted` with the message if the numbers of messages have run out.
     pub fn publish_immediate(&self, message: B::Message) -> Result<(), Exhausted<B::Message>>
         ensures { IfErr result (λ back. back.0 ≡ message) }
     {
         self.channel.publish_immediate(message)
     }
 
-    /// Publishes a message, when there is room.
+    /// Returns a future that publishes the message once there is room.
     pub fn publish<'s>(&'s self, message: B::Message) -> PublisherWaitFuture<'s, B>
         ensures { result ≡ Some message }
     {
@@ -64,18 +65,19 @@ impl<'a, B: PubSubBehavior> Pub<'a, B> {
         }
     }
 
-    /// Publishes a message where there is room.
+    /// Publishes a message if there is room.
     ///
     /// # Errors
     ///
-    /// The message comes back: `Full` where the channel is full, and else `Exhausted` where the numbers of messages have run out.
+    /// Returns the message: `Full` if the channel is full, otherwise `Exhausted` if the numbers of messages have run
+    /// out.
     pub fn try_publish(&self, message: B::Message) -> Result<(), TryPublishError<B::Message>>
         ensures { IfErr result (λ error. message_of error ≡ message) }
     {
         self.channel.try_publish(message)
     }
 
-    /// A sink for the messages that are to be published.
+    /// Returns a sink that publishes messages to the channel.
     pub fn sink<'s>(&'s self) -> PubSink<'s, B>
         ensures { result ≡ None }
     {
@@ -85,38 +87,38 @@ impl<'a, B: PubSubBehavior> Pub<'a, B> {
         }
     }
 
-    /// How many messages can be held. It takes no lock.
+    /// Returns the greatest number of messages that the channel can hold, without taking its lock.
     pub fn capacity(&self) -> usize
         ensures { result ≡ B.places }
     {
         self.channel.capacity()
     }
 
-    /// How many messages there is room for now.
+    /// Returns the number of messages that the channel has room for now.
     pub fn free_capacity(&self) -> usize
         ensures { result ≤ B.places }
     {
         self.channel.free_capacity()
     }
 
-    /// Drops all messages, and wakes who waits for room. Who had not read them lags.
+    /// Drops all messages and wakes the tasks that wait for room. A subscriber that had not read them lags.
     pub fn clear(&self) {
         self.channel.clear()
     }
 
-    /// How many messages are held now.
+    /// Returns the number of messages that the channel holds now.
     pub fn len(&self) -> usize
         ensures { result ≤ B.places }
     {
         self.channel.len()
     }
 
-    /// No message is held now.
+    /// Returns whether the channel holds no message now.
     pub fn is_empty(&self) -> bool {
         self.channel.is_empty()
     }
 
-    /// As many messages are held now as there is room for.
+    /// Returns whether the channel is full now.
     pub fn is_full(&self) -> bool {
         self.channel.is_full()
     }
@@ -137,7 +139,7 @@ pub type ImmediatePublisher<
 /// A publisher that never waits, whose type doesn't say what capacities the channel has.
 pub type DynImmediatePublisher<'a, B> = ImmediatePub<'a, B>;
 
-/// A publisher that never waits. It isn't counted, so there may be any number of them.
+/// A publisher that never waits. It isn't counted, so any number of them may exist.
 #[derive(Drop)]
 pub struct ImmediatePub<'a, B> {
     channel: &'a B,
@@ -148,60 +150,62 @@ impl<'a, B: PubSubBehavior> ImmediatePub<'a, B> {
         ImmediatePub { channel }
     }
 
-    /// Publishes a message at once. Where the channel is full, the oldest message is dropped, and who had not read it lags.
+    /// Publishes a message at once. A full channel drops its oldest message, and a subscriber that had not read it
+    /// lags.
     ///
     /// # Errors
     ///
-    /// `Exhausted` with the message where the numbers of messages have run out.
+    /// Returns `Exhausted` with the message if the numbers of messages have run out.
     pub fn publish_immediate(&self, message: B::Message) -> Result<(), Exhausted<B::Message>>
         ensures { IfErr result (λ back. back.0 ≡ message) }
     {
         self.channel.publish_immediate(message)
     }
 
-    /// Publishes a message where there is room.
+    /// Publishes a message if there is room.
     ///
     /// # Errors
     ///
-    /// The message comes back: `Full` where the channel is full, and else `Exhausted` where the numbers of messages have run out.
+    /// Returns the message: `Full` if the channel is full, otherwise `Exhausted` if the numbers of messages have run
+    /// out.
     pub fn try_publish(&self, message: B::Message) -> Result<(), TryPublishError<B::Message>>
         ensures { IfErr result (λ error. message_of error ≡ message) }
     {
         self.channel.try_publish(message)
     }
 
-    /// How many messages can be held. It takes no lock.
+    /// Returns the greatest number of messages that the channel can hold, without taking its lock.
     pub fn capacity(&self) -> usize
         ensures { result ≡ B.places }
     {
         self.channel.capacity()
     }
 
-    /// How many messages there is room for now.
+    /// Returns the number of messages that the channel has room for now.
     pub fn free_capacity(&self) -> usize
         ensures { result ≤ B.places }
     {
         self.channel.free_capacity()
     }
 
-    /// Drops all messages, and wakes who waits for room. Who had not read them lags.
+    /// Drops all messages and wakes the tasks that wait for room. A subscriber that had not read them lags.
     pub fn clear(&self) {
         self.channel.clear()
     }
 
-    /// How many messages are held now.
+    /// Returns the number of messages that the channel holds now.
     pub fn len(&self) -> usize
         ensures { result ≤ B.places }
     {
         self.channel.len()
     }
 
-    /// No message is held now.
+    /// Returns whether the channel holds no message now.
     pub fn is_empty(&self) -> bool {
         self.channel.is_empty()
     }
 
-    /// As many messages are held now as there is room for.
+    /// Returns whether the channel is full now.
     pub fn is_full(&self) -> bool {
         self.channel.is_full()
     }
@@ -222,7 +226,7 @@ pub type Subscriber<
 /// A subscriber whose type doesn't say what capacities the channel has.
 pub type DynSubscriber<'a, B> = Sub<'a, B>;
 
-/// A subscriber of a channel. It leaves when it ends.
+/// A subscriber of a channel. It leaves the channel when it is dropped.
 pub struct Sub<'a, B: PubSubBehavior> {
     channel: &'a B,
     id: SubId,
@@ -236,45 +240,47 @@ impl<'a, B: PubSubBehavior> Drop for Sub<'a, B> {
 }
 
 impl<'a, B: PubSubBehavior> Sub<'a, B> {
-    // The subscriber that this channel knows by this name.
+    // Returns the subscriber that the channel knows by this name.
     pub(crate) fn new(channel: &'a B, id: SubId) -> Self {
         Sub { channel, id }
     }
 
-    /// What the subscriber reads next, when there is something.
+    /// Returns a future of the subscriber's next message, or of how many messages left before it read them.
     pub fn next_message<'s>(&'s mut self) -> SubscriberWaitFuture<'s, 'a, B> {
         SubscriberWaitFuture { subscriber: self }
     }
 
-    /// The message that the subscriber reads next, past a lag, when there is one.
+    /// Returns a future of the subscriber's next message, which passes over a lag.
     pub fn next_message_pure<'s>(&'s mut self) -> NextMessagePure<'s, 'a, B> {
         NextMessagePure { subscriber: self }
     }
 
-    /// What the subscriber reads next: a message, or how many messages left before it read them. `None` where it has read all.
+    /// Reads the next message, or returns how many messages left before the subscriber read them. Returns `None` once
+    /// it has read all.
     ///
     /// # Errors
     ///
-    /// Where a clone has no memory nothing is changed.
+    /// Returns the error if a clone has no memory. Nothing is changed.
     pub fn try_next_message(&mut self) -> Result<Option<WaitResult<B::Message>>, AllocError> {
         self.channel.try_next_message(&self.id)
     }
 
-    /// The message that the subscriber reads next. One that lags goes on from the oldest message. `None` where it has then read all.
+    /// Reads the next message. A subscriber that lags goes on from the oldest message. Returns `None` once it has read
+    /// all.
     ///
     /// # Errors
     ///
-    /// Where a clone has no memory nothing is changed: who lagged still does.
+    /// Returns the error if a clone has no memory. Nothing is changed: a subscriber that lagged still does.
     pub fn try_next_message_pure(&mut self) -> Result<Option<B::Message>, AllocError> {
         self.channel.try_next_message_pure(&self.id)
     }
 
-    /// Polls the stream of the subscriber's messages, which has no end. At a lag the answer is Pending, and the context's waker is
-    /// woken at once. Where all is read, the waker waits for a message.
+    /// Polls the stream of the subscriber's messages, which has no end. At a lag the answer is Pending, and the
+    /// context's waker is woken at once. If the subscriber has read all, registers the context's waker.
     ///
     /// # Errors
     ///
-    /// Where a clone has no memory nothing is changed.
+    /// Returns the error if a clone has no memory. Nothing is changed.
     pub fn poll_next(
         &mut self,
         cx: &Context<B::Waker>,
@@ -282,49 +288,49 @@ impl<'a, B: PubSubBehavior> Sub<'a, B> {
         self.channel.poll_next(&self.id, cx)
     }
 
-    /// How many messages were published that the subscriber has not read, held or not.
+    /// Returns the number of messages published that the subscriber has not read, including those that left.
     pub fn available(&self) -> u64 {
         self.channel.available(&self.id)
     }
 
-    /// How many messages can be held. It takes no lock.
+    /// Returns the greatest number of messages that the channel can hold, without taking its lock.
     pub fn capacity(&self) -> usize
         ensures { result ≡ B.places }
     {
         self.channel.capacity()
     }
 
-    /// How many messages there is room for now.
+    /// Returns the number of messages that the channel has room for now.
     pub fn free_capacity(&self) -> usize
         ensures { result ≤ B.places }
     {
         self.channel.free_capacity()
     }
 
-    /// Drops all messages, and wakes who waits for room. Who had not read them lags.
+    /// Drops all messages and wakes the tasks that wait for room. A subscriber that had not read them lags.
     pub fn clear(&self) {
         self.channel.clear()
     }
 
-    /// How many messages are held now.
+    /// Returns the number of messages that the channel holds now.
     pub fn len(&self) -> usize
         ensures { result ≤ B.places }
     {
         self.channel.len()
     }
 
-    /// No message is held now.
+    /// Returns whether the channel holds no message now.
     pub fn is_empty(&self) -> bool {
         self.channel.is_empty()
     }
 
-    /// As many messages are held now as there is room for.
+    /// Returns whether the channel is full now.
     pub fn is_full(&self) -> bool {
         self.channel.is_full()
     }
 }
 
-/// A message on its way to the subscribers: what `publish` gives.
+/// The future of a message that is to be published: what `publish` returns.
 #[must_use]
 #[derive(Drop)]
 pub struct PublisherWaitFuture<'s, B: PubSubBehavior> {
@@ -344,19 +350,19 @@ impl<'s, B: PubSubBehavior> Model for PublisherWaitFuture<'s, B> {
 }
 
 impl<'s, B: PubSubBehavior> PublisherWaitFuture<'s, B> {
-    /// The message was published, or refused for good.
+    /// Returns whether the message was published or refused for good.
     pub fn is_finished(&self) -> bool
         ensures { result ≡ is_none self.now }
     {
         self.request.is_finished()
     }
 
-    /// Publishes the message where there is room. Where there is none, the context's waker waits for it. A future that is finished
-    /// isn't polled.
+    /// Polls the future: publishes the message if there is room, and otherwise registers the context's waker for room.
+    /// The future must not be finished.
     ///
     /// # Errors
     ///
-    /// `Exhausted` with the message where the numbers of messages have run out. The future is finished.
+    /// Returns `Exhausted` with the message if the numbers of messages have run out. The future is finished.
     pub fn poll(&mut self, cx: &Context<B::Waker>) -> Poll<Result<(), Exhausted<B::Message>>>
         requires { IsSome self.old }
         ensures request { IfSome self.old (λ message. self.new ≡ still message result) }
@@ -366,7 +372,7 @@ impl<'s, B: PubSubBehavior> PublisherWaitFuture<'s, B> {
     }
 }
 
-/// What a subscriber reads next: what `next_message` gives. It acts anew after it was ready.
+/// The future of a subscriber's next message or lag: what `next_message` returns. A poll after it was ready reads anew.
 #[must_use]
 #[derive(Drop)]
 pub struct SubscriberWaitFuture<'s, 'a, B: PubSubBehavior> {
@@ -374,11 +380,12 @@ pub struct SubscriberWaitFuture<'s, 'a, B: PubSubBehavior> {
 }
 
 impl<'s, 'a, B: PubSubBehavior> SubscriberWaitFuture<'s, 'a, B> {
-    /// What the subscriber reads next. Where it has read all, the context's waker waits for a message.
+    /// Polls for the next message, or for how many messages left before the subscriber read them. If it has read all,
+    /// registers the context's waker.
     ///
     /// # Errors
     ///
-    /// Where a clone has no memory nothing is changed.
+    /// Returns the error if a clone has no memory. Nothing is changed.
     pub fn poll(
         &mut self,
         cx: &Context<B::Waker>,
@@ -389,7 +396,8 @@ impl<'s, 'a, B: PubSubBehavior> SubscriberWaitFuture<'s, 'a, B> {
     }
 }
 
-/// The message that a subscriber reads next, past a lag: what `next_message_pure` gives. It acts anew after it was ready.
+/// The future of a subscriber's next message, which passes over a lag: what `next_message_pure` returns. A poll after
+/// it was ready reads anew.
 #[must_use]
 #[derive(Drop)]
 pub struct NextMessagePure<'s, 'a, B: PubSubBehavior> {
@@ -397,12 +405,12 @@ pub struct NextMessagePure<'s, 'a, B: PubSubBehavior> {
 }
 
 impl<'s, 'a, B: PubSubBehavior> NextMessagePure<'s, 'a, B> {
-    /// The message that the subscriber reads next. One that lags goes on from the oldest message. Where it has then read all, the
-    /// context's waker waits for a message.
+    /// Polls for the next message. A subscriber that lags goes on from the oldest message. If it has read all,
+    /// registers the context's waker.
     ///
     /// # Errors
     ///
-    /// Where a clone has no memory nothing is changed: who lagged still does.
+    /// Returns the error if a clone has no memory. Nothing is changed: a subscriber that lagged still does.
     pub fn poll(&mut self, cx: &Context<B::Waker>) -> Result<Poll<B::Message>, AllocError> {
         self.subscriber
             .channel
@@ -410,7 +418,8 @@ impl<'s, 'a, B: PubSubBehavior> NextMessagePure<'s, 'a, B> {
     }
 }
 
-/// A sink for messages that are to be published: what `sink` gives. It stores one, and each poll publishes the stored one.
+/// A sink for messages to be published: what `sink` returns. It stores one message, and each poll publishes the stored
+/// one.
 #[must_use]
 #[derive(Drop)]
 pub struct PubSink<'s, B: PubSubBehavior> {
@@ -430,40 +439,43 @@ impl<'s, B: PubSubBehavior> Model for PubSink<'s, B> {
 }
 
 impl<'s, B: PubSubBehavior> PubSink<'s, B> {
-    /// Ready where no message is stored, once the stored one is published.
+    /// Polls whether the sink can take a message: publishes the stored one first, if any. Pending while there is no
+    /// room for it.
     ///
     /// # Errors
     ///
-    /// `Exhausted` with the message where the numbers of messages have run out. No message is stored then.
+    /// Returns `Exhausted` with the message if the numbers of messages have run out. The sink then stores none.
     pub fn poll_ready(&mut self, cx: &Context<B::Waker>) -> Poll<Result<(), Exhausted<B::Message>>>
         ensures { Flushes self.old result self.new }
     {
         self.poll(cx)
     }
 
-    /// Stores a message. One that is still stored is replaced, and lost.
+    /// Stores a message. It replaces a message that is still stored, which is lost.
     pub fn start_send(&mut self, message: B::Message)
         ensures { self.new ≡ Some message }
     {
         self.request = PublishRequest::new(message);
     }
 
-    /// Ready where no message is stored, once the stored one is published.
+    /// Polls whether the sink stores no message: publishes the stored one first, if any. Pending while there is no room
+    /// for it.
     ///
     /// # Errors
     ///
-    /// `Exhausted` with the message where the numbers of messages have run out. No message is stored then.
+    /// Returns `Exhausted` with the message if the numbers of messages have run out. The sink then stores none.
     pub fn poll_flush(&mut self, cx: &Context<B::Waker>) -> Poll<Result<(), Exhausted<B::Message>>>
         ensures { Flushes self.old result self.new }
     {
         self.poll(cx)
     }
 
-    /// Ready where no message is stored, once the stored one is published.
+    /// Polls whether the sink can end without loss: publishes the stored message first, if any. Pending while there is
+    /// no room for it.
     ///
     /// # Errors
     ///
-    /// `Exhausted` with the message where the numbers of messages have run out. No message is stored then.
+    /// Returns `Exhausted` with the message if the numbers of messages have run out. The sink then stores none.
     pub fn poll_close(&mut self, cx: &Context<B::Waker>) -> Poll<Result<(), Exhausted<B::Message>>>
         ensures { Flushes self.old result self.new }
     {

@@ -1,4 +1,4 @@
-//! A pub-sub channel that is kept as it is now.
+//! A pub-sub channel as a stored state.
 use super::PubSubOver;
 use esync_base::kept::Kept;
 use esync_base::waitqueue::WakerList;

@@ -1,4 +1,4 @@
-//! Publishers and subscribers with numbers, as a machine that takes commands.
+//! The pub-sub channel as a machine that takes commands, in which subscribers and publishers have numbers.
 ghost use Rattle.std.specs.Prelude.{◌≡◌, ℕ, ◌+◌, ◌-◌, ◌<◌, ◌≤◌, IsTrue, [], true, Some, None, is_some, length, slice_set, IfSome, IfOk, OnErr};
 ghost use Rattle.std.proofs.Math.ListN.{replicate};
 ghost use Rattle.esync_machine.specs.Numbers.{at_number};
@@ -26,39 +26,39 @@ use std::marker::Model;
 
 mod kept;
 
-/// What a request of a subscriber or a publisher waits for. The first part of each is the number of whom it belongs to.
+/// What a request waits for. Its first part is the number of its subscriber or publisher.
 #[derive(Clone, Copy, Debug, PartialEq, Eq)]
 pub enum PubSubAsk<T> {
-    /// To publish a message, once there is room.
+    /// Room to publish a message.
     Publish(usize, T),
-    /// For the next message, or to hear how many are gone.
+    /// The next message, or the number of messages that are gone.
     Message(usize),
-    /// For the next message that is held.
+    /// The next message that the channel holds.
     MessagePure(usize),
-    /// For the next message of a stream, which wakes itself where messages are gone.
+    /// The next message of a stream, which wakes its own task at a lag.
     Stream(usize),
 }
 
-/// The other calls.
+/// The calls of a pub-sub channel beside its requests.
 #[derive(Clone, Copy, Debug, PartialEq, Eq)]
 pub enum PubSubCall<T> {
-    /// A subscriber comes under a free number.
+    /// Adds a subscriber under a free number.
     Join(usize),
-    /// The subscriber leaves, and its requests end.
+    /// Removes the subscriber, whose requests end.
     Leave(usize),
-    /// A publisher comes under a free number.
+    /// Adds a publisher under a free number.
     Publisher(usize),
-    /// The publisher leaves, and its requests end.
+    /// Removes the publisher, whose requests end.
     Retire(usize),
     /// Publishes a message through the publisher, if there is room.
     TryPublish(usize, T),
     /// Publishes a message at once.
     Immediate(T),
-    /// Reads what the subscriber reads next, if anything is there.
+    /// Reads the subscriber's next message or lag, if there is one.
     Next(usize),
-    /// Reads the next message that is held, if there is one.
+    /// Reads the next message that the channel holds, if there is one.
     NextPure(usize),
-    /// Asks how much the subscriber has not read.
+    /// Asks how many messages the subscriber has not read.
     Available(usize),
     Clear,
     Len,
@@ -68,34 +68,34 @@ pub enum PubSubCall<T> {
 /// What a pub-sub channel answers.
 #[derive(Clone, Copy, Debug, PartialEq, Eq)]
 pub enum PubSubHeard<T> {
-    /// The message of the request is published, or the numbers have run out.
+    /// The outcome of a publish: the message is published, or the numbers have run out.
     Published(Result<(), Exhausted<T>>),
-    /// What the request read.
+    /// The message or lag that the request read.
     Read(WaitResult<T>),
     /// The message that the request read.
     ReadPure(T),
-    /// What a stream gives, which has no end.
+    /// The next message of a stream, which has no end.
     Streamed(Option<T>),
-    /// Whether the subscriber or the publisher is here.
+    /// Whether the subscriber or the publisher was added.
     Came(Result<(), Error>),
     TriedPublish(Result<(), TryPublishError<T>>),
     PublishedAtOnce(Result<(), Exhausted<T>>),
     Tried(Option<WaitResult<T>>),
     TriedPure(Option<T>),
-    /// So many messages were published that the subscriber has not read.
+    /// The number of messages published that the subscriber has not read.
     Unread(u64),
     Number(usize),
 }
 
 impl<G: LogStore, S: WakerList, P: WakerList<Waker = S::Waker>> PubSubOver<G, S, P> {
-    // No more messages are held than were published. This says so, and does nothing.
+    // Proves that the channel holds no more messages than were published, and does nothing.
     fn numbered(&self)
         ensures { length self.now.log.held ≤ self.now.log.next }
     {
         self.len();
     }
 
-    // What a poll does, of each request.
+    // What a poll does, for each kind of request.
     fn turn_publish<const K: usize>(
         &mut self,
         p: usize,
@@ -193,7 +193,7 @@ impl<G: LogStore, S: WakerList, P: WakerList<Waker = S::Waker>> PubSubOver<G, S,
     }
 }
 
-// The request stays: there was no memory for a clone.
+// Keeps the request: there was no memory for a clone.
 fn refused<T>(ask: PubSubAsk<T>) -> Turn<PubSubHeard<T>, PubSubAsk<T>>
     ensures answer { result.answer ≡ Answer.NoMemory }
     ensures place { result.place ≡ Some ask }
@@ -231,21 +231,21 @@ impl<const NAMES: usize> Tables<NAMES> {
         }
     }
 
-    // The place of the subscriber that the number names.
+    // Returns the place of the subscriber that the number names.
     fn place(&self, s: usize) -> Option<usize>
         ensures { result ≡ at_number self.now.subscribers s }
     {
         self.subscribers.get(s)
     }
 
-    // The number names a publisher.
+    // Returns whether the number names a publisher.
     fn is_publisher(&self, p: usize) -> bool
         ensures { result ≡ is_some (at_number self.now.publishers p) }
     {
         self.publishers.get(p).is_some()
     }
 
-    // The number is free for a subscriber.
+    // Returns whether the number is free for a subscriber.
     fn is_subscriber_free(&self, s: usize) -> bool
         requires { length self.now.subscribers ≡ NAMES }
         ensures { result ≡ is_free s self.now.subscribers }
@@ -253,7 +253,7 @@ impl<const NAMES: usize> Tables<NAMES> {
         s < NAMES && self.subscribers.get(s).is_none()
     }
 
-    // The number is free for a publisher.
+    // Returns whether the number is free for a publisher.
     fn is_publisher_free(&self, p: usize) -> bool
         requires { length self.now.publishers ≡ NAMES }
         ensures { result ≡ is_free p self.now.publishers }
@@ -275,7 +275,7 @@ impl<const NAMES: usize> Tables<NAMES> {
         self.publishers.put(p, named);
     }
 
-    // The request is one of whom its number names.
+    // Returns whether the request's number names a subscriber or a publisher.
     fn names<T>(&self, ask: &PubSubAsk<T>) -> bool
         ensures { (log : Log T) → result ≡ names_it ask.now (record { log = log; subscribers = self.now.subscribers; publishers = self.now.publishers }) }
     {
@@ -287,7 +287,7 @@ impl<const NAMES: usize> Tables<NAMES> {
         }
     }
 
-    // The call ends the request, which is one of who leaves or retires.
+    // Returns whether the call ends the request: its subscriber leaves, or its publisher retires.
     fn leaves<T>(&self, call: &PubSubCall<T>, ask: &PubSubAsk<T>) -> bool
         ensures { (log : Log T) → result ≡ leaves (record { log = log; subscribers = self.now.subscribers; publishers = self.now.publishers }) call.now ask.now }
     {
@@ -308,7 +308,7 @@ impl<const NAMES: usize> Tables<NAMES> {
     }
 }
 
-// The request is one of the subscriber.
+// Returns whether the request belongs to the subscriber.
 fn is_of_subscriber<T>(s: usize, ask: &PubSubAsk<T>) -> bool
     ensures { result ≡ is_of_subscriber s ask.now }
 {
@@ -320,7 +320,7 @@ fn is_of_subscriber<T>(s: usize, ask: &PubSubAsk<T>) -> bool
     }
 }
 
-// The request is one of the publisher.
+// Returns whether the request belongs to the publisher.
 fn is_of_publisher<T>(p: usize, ask: &PubSubAsk<T>) -> bool
     ensures { result ≡ is_of_publisher p ask.now }
 {
@@ -331,7 +331,7 @@ fn is_of_publisher<T>(p: usize, ask: &PubSubAsk<T>) -> bool
 }
 
 impl<G: LogStore, S: WakerList, P: WakerList<Waker = S::Waker>> PubSubOver<G, S, P> {
-    // What a poll does, by the numbers.
+    // Polls a request, found by the numbers.
     fn turn_named<const NAMES: usize, const K: usize>(
         &mut self,
         tables: &Tables<NAMES>,
@@ -371,7 +371,7 @@ impl<G: LogStore, S: WakerList, P: WakerList<Waker = S::Waker>> PubSubOver<G, S,
         }
     }
 
-    // The subscriber that the number names.
+    // Returns the subscriber that the number names.
     fn subscriber<const NAMES: usize>(&self, tables: &Tables<NAMES>, s: usize) -> Option<SubId>
         requires named { AreNamed G.capacity P.room NAMES self.now tables.now }
         ensures place { result ≡ at_number tables.now.subscribers s }
@@ -384,17 +384,17 @@ impl<G: LogStore, S: WakerList, P: WakerList<Waker = S::Waker>> PubSubOver<G, S,
     }
 }
 
-// The place of the subscriber.
+// Returns the place of the subscriber.
 fn place_of(id: &SubId) -> usize
     ensures { result ≡ id.now }
 {
     id.place
 }
 
-// What a call does, by the numbers.
+// What a call does, with subscribers and publishers found by their numbers.
 
 impl<G: LogStore, S: WakerList, P: WakerList<Waker = S::Waker>> PubSubOver<G, S, P> {
-    // A subscriber comes under a free number.
+    // Adds a subscriber under a free number.
     fn join_named<const NAMES: usize>(
         &mut self,
         tables: &mut Tables<NAMES>,
@@ -417,7 +417,7 @@ impl<G: LogStore, S: WakerList, P: WakerList<Waker = S::Waker>> PubSubOver<G, S,
         }
     }
 
-    // The subscriber leaves, and its number is free.
+    // Removes the subscriber and frees its number.
     fn leave_named<const NAMES: usize, const K: usize>(
         &mut self,
         tables: &mut Tables<NAMES>,
@@ -439,7 +439,7 @@ impl<G: LogStore, S: WakerList, P: WakerList<Waker = S::Waker>> PubSubOver<G, S,
         Answer::Done
     }
 
-    // A publisher comes under a free number.
+    // Adds a publisher under a free number.
     fn add_named<const NAMES: usize>(
         &mut self,
         tables: &mut Tables<NAMES>,
@@ -462,7 +462,7 @@ impl<G: LogStore, S: WakerList, P: WakerList<Waker = S::Waker>> PubSubOver<G, S,
         }
     }
 
-    // The publisher leaves, and its number is free.
+    // Removes the publisher and frees its number.
     fn retire_named<const NAMES: usize>(
         &mut self,
         tables: &mut Tables<NAMES>,
@@ -604,7 +604,7 @@ impl<G: LogStore, S: WakerList, P: WakerList<Waker = S::Waker>> PubSubOver<G, S,
         Answer::Gives(PubSubHeard::Unread(self.to_read(&id)))
     }
 
-    // Polls a request of one who has a number.
+    // Polls a request whose number names a subscriber or a publisher.
     fn turn<const NAMES: usize, const K: usize>(
         &mut self,
         tables: &Tables<NAMES>,
@@ -623,7 +623,7 @@ impl<G: LogStore, S: WakerList, P: WakerList<Waker = S::Waker>> PubSubOver<G, S,
         self.turn_named(tables, held, &Context::from_waker(waker), wakes)
     }
 
-    // A call, which may give or free a number.
+    // Performs a call, which may take or free a number.
     fn perform<const NAMES: usize, const K: usize>(
         &mut self,
         tables: &mut Tables<NAMES>,
@@ -698,7 +698,8 @@ impl<G: LogStore, S: WakerList, P: WakerList<Waker = S::Waker>, const NAMES: usi
     P,
     NAMES,
 > {
-    /// Nobody is there, and all numbers are free. The first message has the number `next`.
+    /// Returns an empty channel without subscribers or publishers, where all numbers are free. The first message gets
+    /// the number `next`.
     pub fn new_at(next: u64) -> Self
         requires messages { 1 ≤ G.capacity }
         requires wakers { G.places ≤ S.room }
@@ -712,7 +713,8 @@ impl<G: LogStore, S: WakerList, P: WakerList<Waker = S::Waker>, const NAMES: usi
         }
     }
 
-    // The numbers name all subscribers, and no more messages are held than were published. This says so, and does nothing.
+    // Proves that the numbers name all subscribers, and that no more messages are held than were published. Does
+    // nothing.
     fn named(&self)
         ensures named { AreNamed G.capacity P.room NAMES self.now.state self.now.tables }
         ensures numbered { length self.now.state.log.held ≤ self.now.state.log.next }
@@ -806,7 +808,7 @@ impl<
     ghost no_requests = { all_requests (pubsub_rules G.Message.is_clone G.Message.is_infallible G.capacity P.room) (λ h. tt) (λ o o2 call p p2 a c. c.1) };
 }
 
-// Which numbers a call concerns.
+// Returns which numbers a call concerns.
 fn reach<T>(call: &PubSubCall<T>) -> Reach
     ensures { result ≡ reach call.now }
 {
@@ -848,19 +850,24 @@ pub type PubSubCommand<T, W> = Command<PubSubAsk<T>, W, PubSubCall<T>>;
 /// What a pub-sub channel answers to a command, with the wakers that it hands out.
 pub type PubSubReply<T, W, const K: usize> = Reply<Answer<PubSubHeard<T>>, W, K>;
 
-/// Gives the commands to the channel, one after another, as `run` does.
+/// Runs the commands on the channel, one after another, as `run` does, and returns a reply to each.
 ///
-/// Each answer is one that a log of at most `CAP` messages allows, with the numbers of its subscribers and publishers. No live request that
-/// last heard Pending would now be answered Ready, unless its waker was handed out in that poll or since. And no Pending poll that changes
-/// nothing hands out its own waker. Who leaves or retires ends its requests first.
+/// Each answer is one that a log of at most `CAP` messages allows, with the numbers of its subscribers and publishers.
+/// No live request that last heard Pending would now be answered Ready, unless its waker was handed out in that poll or
+/// since. No Pending poll that changes nothing hands out its own waker. A subscriber that leaves or a publisher that
+/// retires ends its requests first.
 ///
-/// From its coming until it leaves, what a subscriber reads, and just what was gone when it read, is what was published since it came, in
-/// order, up to its position. The number that was gone follows from the channel and the requests at entry, the commands and the answers.
-/// What the subscriber is told of how much is unread is so. A `Lagged` tells just how many messages were gone, and a read that tells of
-/// lags, or a stream, gives a message only where none was.
+/// The messages that a subscriber reads, and those that were gone when it read, are the messages published since it
+/// came, in order, up to its position. The number that was gone follows from the channel and the requests at entry, the
+/// commands and the answers. A `Lagged` tells exactly how many messages were gone. A read that tells of lags, and a
+/// stream, give a message only if none was gone. A count of unread messages is right.
 ///
-/// And the channel's sizes add up: how many messages it holds at each answer follows from the channel and the requests at entry, the
-/// commands and the answers. A length is that number, and a free capacity makes up `CAP` with it.
+/// The channel's sizes add up: how many messages it holds at each answer follows from the channel and the requests at
+/// entry, the commands and the answers. A length is that number, and a free capacity is `CAP` less that number.
+///
+/// # Errors
+///
+/// Returns the error if there is no memory for the replies. The machine is then unchanged.
 pub fn run_pubsub<
     T: Clone,
     W: Copy + Eq,

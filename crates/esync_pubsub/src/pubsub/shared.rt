@@ -15,54 +15,56 @@ use esync_log::log::{Log, LogStore};
 use std::alloc::AllocError;
 use std::sync::Wait;
 
-/// What a publisher or a subscriber needs of a channel, whatever its capacities.
+/// What a publisher or a subscriber needs of its channel, whatever the capacities.
 pub trait PubSubBehavior {
     type Message: Clone;
 
     type Waker: Copy + Eq;
 
-    /// What may wait for the channel's lock.
+    /// The runtime that may wait for the channel's lock.
     type Rt: Wait;
 
     ghost use Rattle.std.specs.Prelude.{ℕ};
 
-    /// How many messages can be held.
+    /// The greatest number of messages that the channel can hold.
     ghost places: { ℕ };
 
-    /// Publishes a message at once. Where the channel is full, the oldest message is dropped, and who had not read it lags.
+    /// Publishes a message at once. A full channel drops its oldest message, and a subscriber that had not read it
+    /// lags.
     ///
     /// # Errors
     ///
-    /// `Exhausted` with the message where the numbers of messages have run out.
+    /// Returns `Exhausted` with the message if the numbers of messages have run out.
     fn publish_immediate(&self, message: Self::Message) -> Result<(), Exhausted<Self::Message>>
         ensures { IfErr result (λ back. back.0 ≡ message) };
 
-    /// How many messages can be held. It takes no lock.
+    /// Returns the greatest number of messages that the channel can hold, without taking its lock.
     fn capacity(&self) -> usize
         ensures { result ≡ places };
 
-    /// As many messages are held now as there is room for.
+    /// Returns whether the channel is full now.
     fn is_full(&self) -> bool;
 
-    /// How many messages are held now.
+    /// Returns the number of messages that the channel holds now.
     fn len(&self) -> usize
         ensures { result ≤ places };
 
-    /// How many messages there is room for now.
+    /// Returns the number of messages that the channel has room for now.
     fn free_capacity(&self) -> usize
         ensures { result ≤ places };
 
-    /// No message is held now.
+    /// Returns whether the channel holds no message now.
     fn is_empty(&self) -> bool;
 
-    /// Drops all messages, and wakes who waits for room. Who had not read them lags.
+    /// Drops all messages and wakes the tasks that wait for room. A subscriber that had not read them lags.
     fn clear(&self);
 
-    /// Publishes a message for all who are subscribers. Where there is no room it comes back, and where the numbers have run out.
+    /// Publishes a message to all subscribers. Returns it as an error if there is no room or the numbers of messages
+    /// have run out.
     fn try_publish(&self, message: Self::Message) -> Result<(), TryPublishError<Self::Message>>
         ensures { IfErr result (λ error. message_of error ≡ message) };
 
-    /// Publishes the message of a request where there is room. Where there is none, the context's waker waits for it.
+    /// Polls a request: publishes its message if there is room, and otherwise registers the context's waker for room.
     fn poll_publish(
         &self,
         request: &mut PublishRequest<Self::Message>,
@@ -72,37 +74,37 @@ pub trait PubSubBehavior {
         ensures request { IfSome request.old (λ message. request.new ≡ still message result) }
         ensures returned { IfSome request.old (λ message. GivesBack message result) };
 
-    /// What this subscriber reads next; `None` where it has read all.
+    /// Reads the subscriber's next message or lag. Returns `None` once it has read all.
     fn try_next_message(&self, id: &SubId) -> Result<Option<WaitResult<Self::Message>>, AllocError>;
 
-    /// The same as a poll: where the subscriber has read all, the context's waker waits for a message.
+    /// Polls for the subscriber's next message or lag. If it has read all, registers the context's waker.
     fn poll_message(
         &self,
         id: &SubId,
         cx: &Context<Self::Waker>,
     ) -> Result<Poll<WaitResult<Self::Message>>, AllocError>;
 
-    /// The message that this subscriber reads next, past a lag; `None` where it has then read all.
+    /// Reads the subscriber's next message, past a lag. Returns `None` once it has read all.
     fn try_next_message_pure(&self, id: &SubId) -> Result<Option<Self::Message>, AllocError>;
 
-    /// The same as a poll: where the subscriber has read all, the context's waker waits for a message.
+    /// Polls for the subscriber's next message, past a lag. If it has read all, registers the context's waker.
     fn poll_message_pure(
         &self,
         id: &SubId,
         cx: &Context<Self::Waker>,
     ) -> Result<Poll<Self::Message>, AllocError>;
 
-    /// Polls the stream of this subscriber's messages. At a lag the context's waker is woken at once.
+    /// Polls the stream of the subscriber's messages. At a lag the context's waker is woken at once.
     fn poll_next(
         &self,
         id: &SubId,
         cx: &Context<Self::Waker>,
     ) -> Result<Poll<Option<Self::Message>>, AllocError>;
 
-    /// How many messages were published that this subscriber has not read, held or not.
+    /// Returns the number of messages published that the subscriber has not read, including those that left.
     fn available(&self, id: &SubId) -> u64;
 
-    /// The subscriber leaves. Where a message leaves with it, who waits for room is woken.
+    /// Removes the subscriber. If a message leaves with it, wakes the tasks that wait for room.
     fn unregister_subscriber(&self, id: SubId);
 
     /// Counts one publisher less.
@@ -123,8 +125,8 @@ pub type PubSubChannel<
 
 /// A pub-sub channel that tasks on several threads share by reference.
 ///
-/// Each call takes the lock, takes the call of its name on the state, releases the lock, and then gives each waker that the step
-/// handed out to the hand, in order.
+/// Each call takes the lock, makes the call of its name on the state and releases the lock. Then it gives each waker
+/// that the step handed out to the hand, in order.
 #[derive(Drop)]
 pub struct SharedPubSub<
     G: LogStore,
@@ -145,10 +147,11 @@ impl<
     H: Hand<S::Waker>,
     const K: usize,
 > SharedPubSub<G, S, P, H, K> {
-    /// No message, no subscriber, no publisher, and nobody who waits.
+    /// Returns an empty channel without subscribers, publishers or wakers, whose wakers go to the hand.
     ///
-    /// A call hands out at most `K` wakers. `K` has to be at least 1, at least as many as may wait for a message, at least as many as may
-    /// wait for room, and below 65536. A caller who takes `K` as a number of its own compares it, as by `2 <= K && K < 65536`.
+    /// A call hands out at most `K` wakers. `K` has to be at least 1, at least as many as may wait for a message, at
+    /// least as many as may wait for room, and below 65536. A caller who takes `K` as a number of its own compares it,
+    /// as by `2 <= K && K < 65536`.
     pub fn new(hand: H) -> Self
         requires capacity { 1 ≤ G.capacity }
         requires wakers { G.places ≤ S.room }
@@ -160,78 +163,78 @@ impl<
         }
     }
 
-    /// A subscriber, which reads what is published from now on.
+    /// Adds a subscriber, which reads the messages that are published from now on.
     ///
     /// # Errors
     ///
-    /// `MaximumSubscribersReached` where all places are taken.
+    /// Returns `MaximumSubscribersReached` if all places are taken.
     pub fn subscriber(&self) -> Result<Sub<'_, Self>, Error> {
         let id = self.inner.guard().subscribe()?;
         Ok(Sub::new(self, id))
     }
 
-    /// The same.
+    /// Adds a subscriber, as `subscriber` does. Both calls return one type.
     pub fn dyn_subscriber(&self) -> Result<DynSubscriber<'_, Self>, Error> {
         self.subscriber()
     }
 
-    /// A publisher.
+    /// Adds a publisher.
     ///
     /// # Errors
     ///
-    /// `MaximumPublishersReached` where as many are counted as may be.
+    /// Returns `MaximumPublishersReached` if the greatest number is counted.
     pub fn publisher(&self) -> Result<Pub<'_, Self>, Error> {
         self.inner.guard().add_publisher()?;
         Ok(Pub::new(self))
     }
 
-    /// The same.
+    /// Adds a publisher, as `publisher` does. Both calls return one type.
     pub fn dyn_publisher(&self) -> Result<DynPublisher<'_, Self>, Error> {
         self.publisher()
     }
 
-    /// A publisher that never waits, and isn't counted.
+    /// Returns a publisher that never waits and isn't counted.
     pub fn immediate_publisher(&self) -> ImmediatePub<'_, Self> {
         ImmediatePub::new(self)
     }
 
-    /// The same.
+    /// Returns a publisher that never waits, as `immediate_publisher` does. Both calls return one type.
     pub fn dyn_immediate_publisher(&self) -> DynImmediatePublisher<'_, Self> {
         self.immediate_publisher()
     }
 
-    /// How many messages can be held. It takes no lock.
+    /// Returns the greatest number of messages that the channel can hold, without taking its lock.
     pub fn capacity(&self) -> usize
         ensures { result ≡ G.capacity }
     {
         G::capacity()
     }
 
-    /// How many messages there is room for now.
+    /// Returns the number of messages that the channel has room for now.
     pub fn free_capacity(&self) -> usize
         ensures { result ≤ G.capacity }
     {
         G::capacity() - self.len()
     }
 
-    /// Drops all messages, and wakes who waits for room. Who had not read them lags.
+    /// Drops all messages and wakes the tasks that wait for room. A subscriber that had not read them lags.
     pub fn clear(&self) {
         step!(self.inner, K, |state, wakes| state.clear(&mut wakes))
     }
 
-    /// How many messages are held now.
+    /// Returns the number of messages that the channel holds now.
     pub fn len(&self) -> usize
         ensures { result ≤ G.capacity }
     {
         self.inner.guard().len()
     }
 
-    /// No message is held now.
+    /// Returns whether the channel holds no message now.
     pub fn is_empty(&self) -> bool {
         self.len() == 0
     }
 
-    /// As many messages are held now as there is room for.
+    /// Returns whether the channel is full now.
     pub fn is_full(&self) -> bool {
         self.len() == G::capacity()
     }

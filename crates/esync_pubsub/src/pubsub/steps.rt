@@ -1,4 +1,4 @@
-//! The steps that a shared channel and a machine take. Who isn't a subscriber hears what one hears that has read all.
+//! The steps that a shared channel and a machine share. A caller that isn't a subscriber hears that it has read all.
 ghost use Rattle.std.specs.Prelude.{◌≡◌, ◌-◌, ◌≤◌, [], Some, None, IsSome, IfSome};
 ghost use Rattle.esync_pubsub.specs.PubSub.{still};
 ghost use Rattle.esync_pubsub.specs.Steps.{most_wakes, answered, to_read, Leaving, PollingPublish, ReadingNext, ReadingOn, Streaming};
@@ -9,7 +9,7 @@ use esync_log::log::LogStore;
 use std::alloc::AllocError;
 
 impl<G: LogStore, S: WakerList, P: WakerList<Waker = S::Waker>> PubSubOver<G, S, P> {
-    /// The subscriber leaves, if it is one.
+    /// Removes the subscriber, if it is one.
     pub(crate) fn unregister_subscriber<const K: usize>(
         &mut self,
         id: SubId,
@@ -24,7 +24,7 @@ impl<G: LogStore, S: WakerList, P: WakerList<Waker = S::Waker>> PubSubOver<G, S,
         }
     }
 
-    /// Counts one publisher less, where there is one.
+    /// Counts one publisher less, if one is counted.
     pub(crate) fn unregister_publisher(&mut self)
         ensures { self.new ≡ record self.old { publishers = self.old.publishers - 1 } }
     {
@@ -33,7 +33,7 @@ impl<G: LogStore, S: WakerList, P: WakerList<Waker = S::Waker>> PubSubOver<G, S,
         }
     }
 
-    /// Publishes the message of a request where there is room, and a publisher is counted.
+    /// Polls a request: publishes its message if there is room and a publisher is counted.
     pub(crate) fn poll_publish<const K: usize>(
         &mut self,
         request: &mut PublishRequest<G::Message>,
@@ -52,7 +52,7 @@ impl<G: LogStore, S: WakerList, P: WakerList<Waker = S::Waker>> PubSubOver<G, S,
         request.poll_state(self, cx, wakes)
     }
 
-    /// What this subscriber reads next.
+    /// Reads the subscriber's next message or lag.
     pub(crate) fn read_next<const K: usize>(
         &mut self,
         id: &SubId,
@@ -68,7 +68,7 @@ impl<G: LogStore, S: WakerList, P: WakerList<Waker = S::Waker>> PubSubOver<G, S,
         self.try_next_message(id, wakes)
     }
 
-    /// What this subscriber reads next. Where it has read all, the context's waker waits for a message.
+    /// Polls for the subscriber's next message or lag. If it has read all, registers the context's waker.
     pub(crate) fn poll_message<const K: usize>(
         &mut self,
         id: &SubId,
@@ -85,7 +85,7 @@ impl<G: LogStore, S: WakerList, P: WakerList<Waker = S::Waker>> PubSubOver<G, S,
         self.get_message_with_context(id, cx, wakes)
     }
 
-    /// The message that this subscriber reads next, past a lag.
+    /// Reads the subscriber's next message, past a lag.
     pub(crate) fn read_on<const K: usize>(
         &mut self,
         id: &SubId,
@@ -101,7 +101,7 @@ impl<G: LogStore, S: WakerList, P: WakerList<Waker = S::Waker>> PubSubOver<G, S,
         self.try_next_message_pure(id, wakes)
     }
 
-    /// The message that this subscriber reads next, past a lag. Where it has read all, the context's waker waits for a message.
+    /// Polls for the subscriber's next message, past a lag. If it has read all, registers the context's waker.
     pub(crate) fn poll_message_pure<const K: usize>(
         &mut self,
         id: &SubId,
@@ -135,7 +135,7 @@ impl<G: LogStore, S: WakerList, P: WakerList<Waker = S::Waker>> PubSubOver<G, S,
         self.poll_next(id, cx, wakes)
     }
 
-    /// How many messages were published that this subscriber has not read.
+    /// Returns the number of messages published that the subscriber has not read.
     pub(crate) fn to_read(&self, id: &SubId) -> u64
         ensures { result ≡ to_read id.now self.now.log }
     {

@@ -9,7 +9,7 @@ use esync_cells::signal::SignalWait;
 use esync_cells::watch::{Sought, Waiting, WatchBehavior};
 use std::alloc::AllocError;
 
-/// Gives the value, which is taken.
+/// Takes the value and gives it.
 impl<T: Drop, W: Copy + Eq, H: Hand<W>> Future<W> for SignalWait<'_, T, W, H> {
     type Output = T;
 
@@ -27,7 +27,7 @@ impl<'a, T: Drop, W: Copy, H: Hand<W>> Future<W> for OnceGet<'a, T, W, H> {
     }
 }
 
-/// Gives a clone of the value that is sought, or the error where there was no memory for it.
+/// Gives a clone of the value that is awaited, or the error if there was no memory for it.
 impl<B: WatchBehavior, S: Sought<B> + Drop> Future<B::Waker> for Waiting<'_, '_, B, S> {
     type Output = Result<B::Value, AllocError>;
 

@@ -1,4 +1,4 @@
-// The futures of channels, and of what is used as any channel.
+// The futures of channels, and of values that are used as any channel.
 ghost use Rattle.std.specs.Prelude.{IsSome};
 ghost use Rattle.esync_tasks.specs.Polled.{IfReady, OnPending};
 
@@ -6,7 +6,7 @@ use crate::future::Future;
 use esync_base::waitqueue::{Context, Poll};
 use esync_channel::channel::{DynamicChannel, ReceiveFuture, ReceiveReadyFuture, SendFuture};
 
-/// It may be polled until the message is sent.
+/// Gives nothing. The future may be polled until the message is sent.
 impl<C: DynamicChannel> Future<C::Waker> for SendFuture<'_, C> {
     type Output = ();
 
@@ -26,7 +26,7 @@ impl<C: DynamicChannel> Future<C::Waker> for ReceiveFuture<'_, C> {
     }
 }
 
-/// Gives nothing: the message stays in the channel.
+/// Gives nothing. The message stays in the channel.
 impl<C: DynamicChannel> Future<C::Waker> for ReceiveReadyFuture<'_, C> {
     type Output = ();
 

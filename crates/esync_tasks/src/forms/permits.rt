@@ -1,4 +1,4 @@
-// The future of a semaphore, and what it gives.
+// The future of a semaphore, and the permits that it gives.
 ghost use Rattle.std.specs.Prelude.{◌≡◌, IsSome, IfSome, IfOk};
 ghost use Rattle.esync_permits.specs.Shared.{Suits, granted};
 ghost use Rattle.esync_tasks.specs.Polled.{IfReady, OnPending};
@@ -8,8 +8,8 @@ use esync_base::waitqueue::{Context, Hand, Poll};
 use esync_permits::semaphore::{Acquire, PermitState, SemaphoreReleaser, SharedSemaphore};
 use std::marker::Model;
 
-/// Permits that a future was granted: the releaser that `Acquire::poll` gives, by a type that names the semaphore. They are
-/// released when it ends.
+/// Permits that a future was granted: the releaser that `Acquire::poll` returns, with a type that names the semaphore.
+/// Dropping them releases them.
 pub struct Permits<'a, S: PermitState<Waker = W>, W: Copy + Eq, H: Hand<W>> {
     releaser: SemaphoreReleaser<&'a SharedSemaphore<S, W, H>>,
 }
@@ -34,14 +34,14 @@ impl<S: PermitState<Waker = W>, W: Copy + Eq, H: Hand<W>> Drop for Permits<'_, S
 }
 
 impl<'a, S: PermitState<Waker = W>, W: Copy + Eq, H: Hand<W>> Permits<'a, S, W, H> {
-    /// How many permits were granted.
+    /// Returns how many permits were granted.
     pub fn count(&self) -> usize
         ensures { result ≡ self.now }
     {
         self.releaser.permits()
     }
 
-    /// Keeps the permits from coming back, and tells how many they are.
+    /// Keeps the permits from being released, and returns how many they are.
     pub fn disarm(self) -> usize
         ensures { result ≡ self.entry }
     {
@@ -55,7 +55,7 @@ impl<'a, S: PermitState<Waker = W>, W: Copy + Eq, H: Hand<W>> Permits<'a, S, W, 
     }
 }
 
-/// Gives the permits that were asked for, or why there are none. It may be polled until then.
+/// Gives the permits that were asked for, or the reason why none are granted. The future may be polled until then.
 impl<'a, S: PermitState<Waker = W>, W: Copy + Eq, H: Hand<W>> Future<W> for Acquire<'a, S, W, H> {
     type Output = Result<Permits<'a, S, W, H>, S::Error>;
 

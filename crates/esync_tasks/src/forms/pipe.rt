@@ -1,4 +1,4 @@
-// The futures of pipes, and of what is used as any pipe.
+// The futures of pipes, and of values that are used as any pipe.
 ghost use Rattle.std.specs.Prelude.{◌≤◌, IsSome, length};
 ghost use Rattle.esync_tasks.specs.Polled.{IfReady, OnPending};
 
@@ -21,7 +21,7 @@ impl<R: ByteStore, W: Copy + Eq, H: Hand<W>> Future<W> for WriteFuture<'_, R, W,
     }
 }
 
-/// It may be polled until all bytes are written.
+/// Gives nothing. The future may be polled until all bytes are written.
 impl<R: ByteStore, W: Copy + Eq, H: Hand<W>> Future<W> for WriteAllFuture<'_, R, W, H> {
     type Output = ();
 
@@ -43,7 +43,7 @@ impl<R: ByteStore, W: Copy + Eq, H: Hand<W>> Future<W> for ReadFuture<'_, '_, R,
     }
 }
 
-/// Gives nothing: the reader shows the bytes by `filled`.
+/// Gives nothing. The reader shows the bytes by `filled`.
 impl<R: ByteStore, W: Copy + Eq, H: Hand<W>> Future<W> for FillBufFuture<'_, '_, R, W, H> {
     type Output = ();
 
@@ -74,7 +74,7 @@ impl<P: DynamicPipe> Future<TaskId> for DynamicReadFuture<'_, '_, P> {
     }
 }
 
-/// Gives nothing: the reader shows the bytes by `filled`.
+/// Gives nothing. The reader shows the bytes by `filled`.
 impl<P: DynamicPipe> Future<TaskId> for DynamicFillBufFuture<'_, P> {
     type Output = ();
 

@@ -11,7 +11,8 @@ use esync_pubsub::pubsub::{
 };
 use std::alloc::AllocError;
 
-/// It may be polled until the message is published, or comes back: what comes back is the message that it was given.
+/// Gives the outcome of the publish. The future may be polled until the message is published or comes back. A message
+/// that comes back is the one that the future was given.
 impl<B: PubSubBehavior> Future<B::Waker> for PublisherWaitFuture<'_, B> {
     type Output = Result<(), Exhausted<B::Message>>;
 
@@ -24,7 +25,7 @@ impl<B: PubSubBehavior> Future<B::Waker> for PublisherWaitFuture<'_, B> {
     }
 }
 
-/// Gives what the subscriber reads next, or the error where there was no memory for a clone.
+/// Gives the subscriber's next message or lag, or the error if there was no memory for a clone.
 impl<B: PubSubBehavior> Future<B::Waker> for SubscriberWaitFuture<'_, '_, B> {
     type Output = Result<WaitResult<B::Message>, AllocError>;
 
@@ -33,7 +34,7 @@ impl<B: PubSubBehavior> Future<B::Waker> for SubscriberWaitFuture<'_, '_, B> {
     }
 }
 
-/// Gives the message that the subscriber reads next, or the error where there was no memory for a clone.
+/// Gives the subscriber's next message, or the error if there was no memory for a clone.
 impl<B: PubSubBehavior> Future<B::Waker> for NextMessagePure<'_, '_, B> {
     type Output = Result<B::Message, AllocError>;
 

@@ -1,4 +1,4 @@
-// A `&mut` to a future is a future, so that one can be polled and kept.
+// A `&mut` to a future is itself a future, so that a task can poll a future and keep it.
 
 use crate::future::Future;
 use esync_base::waitqueue::{Context, Poll};

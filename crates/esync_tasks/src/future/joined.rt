@@ -1,4 +1,4 @@
-// Two futures of which both are waited for.
+// A future of two futures' outputs.
 ghost use Rattle.std.specs.Prelude.{◌≡◌, ◌↔◌, IsTrue};
 ghost use Rattle.esync_tasks.specs.Joined.{CanAdvance, MayGive, IsReady};
 
@@ -7,7 +7,7 @@ use esync_base::waitqueue::{Context, Poll};
 use std::marker::Model;
 use std::mem;
 
-/// One of the two futures of a `Join`: still polled, or over, with its output until that is taken.
+/// One of the two futures of a `Join`: still polled, or ready with its output, or with its output taken.
 #[derive(Drop)]
 pub enum Half<A, X> {
     Waits(A),
@@ -16,7 +16,7 @@ pub enum Half<A, X> {
 }
 
 impl<A, X> Half<A, X> {
-    // Polls the future, unless its output is there. Says whether it is now.
+    // Polls the half's future, unless its output is there. Returns whether the output is there now.
     pub(crate) fn advance<W>(&mut self, cx: &Context<W>) -> bool
     where
         A: Future<W, Output = X>,
@@ -40,7 +40,7 @@ impl<A, X> Half<A, X> {
 }
 
 impl<A: Drop, X: Drop> Half<A, X> {
-    // The output, which is there.
+    // Takes the output, which must be there.
     pub(crate) fn take(&mut self) -> X
         requires { IsReady self.old }
         ensures output { self.old ≡ Half.Ready result }
@@ -53,9 +53,9 @@ impl<A: Drop, X: Drop> Half<A, X> {
     }
 }
 
-/// Two futures as one, which gives both outputs: what `join` gives.
+/// Two futures as one, which gives both outputs: what `join` returns.
 ///
-/// Each is polled until it is ready, and never again. The output that comes first is kept until the other is there.
+/// Each future is polled until it is ready, and never again. The earlier output is kept until the later one is there.
 #[must_use]
 #[derive(Drop)]
 pub struct Join<A, B, X, Y> {

@@ -1,9 +1,9 @@
-// The functions that make two futures one.
+// The functions that make one future of two.
 ghost use Rattle.std.specs.Prelude.{◌≡◌};
 
 use crate::future::{Future, Half, Join, Select};
 
-/// Waits for both futures.
+/// Returns a future that gives the outputs of both futures.
 pub fn join<W, A: Future<W>, B: Future<W>>(first: A, second: B) -> Join<A, B, A::Output, B::Output>
     ensures { result ≡ (Half.Waits first, Half.Waits second) }
 {
@@ -13,7 +13,7 @@ pub fn join<W, A: Future<W>, B: Future<W>>(first: A, second: B) -> Join<A, B, A:
     }
 }
 
-/// Waits for the one of two futures that is ready first.
+/// Returns a future that gives the output of whichever of two futures is ready first.
 pub fn select<A, B>(first: A, second: B) -> Select<A, B>
     ensures { result ≡ (first, second) }
 {

@@ -1,18 +1,18 @@
-// Two futures of which one is waited for, and a future of one of two kinds.
+// A future of the first output of two futures, and a future of one of two types.
 ghost use Rattle.esync_tasks.specs.Selected.{Gives, IsEither, EitherGives};
 
 use crate::future::Future;
 use esync_base::waitqueue::{Context, Poll};
 use std::marker::Model;
 
-/// One of two: what the one that was ready gave, or a task of one of two kinds.
+/// One of two values: the output of whichever future was ready, or a task of one of two types.
 #[derive(Clone, Copy, Debug, PartialEq, Eq)]
 pub enum Either<A, B> {
     First(A),
     Second(B),
 }
 
-/// The future that it is.
+/// Polls the future that the `Either` has.
 impl<W, X, A: Future<W, Output = X>, B: Future<W, Output = X>> Future<W> for Either<A, B> {
     type Output = X;
 
@@ -28,10 +28,10 @@ impl<W, X, A: Future<W, Output = X>, B: Future<W, Output = X>> Future<W> for Eit
     }
 }
 
-/// Two futures as one, which gives the output that is there first: what `select` gives.
+/// Two futures as one, which gives the output that is there first: what `select` returns.
 ///
-/// Each poll polls the first, and then the second unless the first was ready. The one that wasn't ready is dropped with it,
-/// and so cancelled. It isn't polled again once it was ready.
+/// Each poll polls the first future, and then the second unless the first was ready. A future that isn't ready by then
+/// is dropped with the `Select`, and so cancelled. Once it was ready, the `Select` isn't polled again.
 #[must_use]
 #[derive(Drop)]
 pub struct Select<A, B> {

@@ -1,4 +1,4 @@
-//! A task of a run, and what it gave.
+//! A task of a run, and its output.
 ghost use Rattle.std.specs.Prelude.{◌≡◌, ◌↔◌, IsTrue, IfOk, IfErr, All, vec_len};
 ghost use Rattle.esync_tasks.specs.Joined.{IsReady, MayGive};
 
@@ -8,7 +8,7 @@ use std::alloc::Global;
 use std::marker::Model;
 use std::sync::{Mutex, Wait};
 
-/// A task, or what it gave once it is over. It can always be polled.
+/// A task, or its output once it is over. A slot can always be polled.
 #[derive(Drop)]
 pub struct Slot<F: Future<TaskId>, X> {
     half: Half<F, X>,
@@ -26,7 +26,7 @@ impl<F: Future<TaskId>, X> Model for Slot<F, X> {
 }
 
 impl<F: Future<TaskId, Output: Drop>> Slot<F, F::Output> {
-    /// The task is still to be polled.
+    /// Returns a slot of a task that is still to be polled.
     pub(crate) fn new(task: F) -> Self
         requires { F.can_poll task }
         ensures { result ≡ Half.Waits task }
@@ -36,7 +36,7 @@ impl<F: Future<TaskId, Output: Drop>> Slot<F, F::Output> {
         }
     }
 
-    /// Polls the task, unless it is over. Says whether it is now.
+    /// Polls the task, unless it is over. Returns whether it is over now.
     pub(crate) fn poll(&mut self, cx: &Context<TaskId>) -> bool
         ensures ready { IsTrue result ↔ IsReady self.new }
         ensures same { (output : _) → MayGive F.gives self.new output → MayGive F.gives self.old output }
@@ -44,7 +44,7 @@ impl<F: Future<TaskId, Output: Drop>> Slot<F, F::Output> {
         self.half.advance(cx)
     }
 
-    /// What the task gave. One that isn't over is polled until it is.
+    /// Returns the output of the task. Polls a task that isn't over until it is.
     pub(crate) fn output<R: Wait>(self, rt: &R, cx: &Context<TaskId>) -> F::Output
         ensures { MayGive F.gives self result }
     {
@@ -59,7 +59,11 @@ impl<F: Future<TaskId, Output: Drop>> Slot<F, F::Output> {
     }
 }
 
-/// The tasks of a run, each under a lock of its own, or the tasks where there is no memory.
+/// Returns the tasks of a run, each under a lock of its own.
+///
+/// # Errors
+///
+/// Returns the tasks if there is no memory for the locks.
 pub(crate) fn slots_of<F: Future<TaskId, Output: Drop>>(
     alloc: Global,
     tasks: Vec<F>,

@@ -1,4 +1,4 @@
-//! A channel of slots that is kept as it is now.
+//! A zero-copy channel as a stored state.
 use super::RowState;
 use super::row::CopiedRow;
 use esync_base::kept::Kept;

@@ -13,48 +13,48 @@ use esync_machine::requests::Requests;
 use esync_machine::run::{Reply, run};
 use std::alloc::{AllocError, Global};
 
-/// A slot that a side is lent.
+/// The slot that a side is lent.
 #[derive(Clone, Copy, Debug, PartialEq, Eq)]
 pub enum Lent<T> {
-    /// The number of the slot that the sender can write.
+    /// The number of a slot that the sender can write.
     Spare(usize),
-    /// The number of the slot that the receiver can read, and its value.
+    /// The number of a slot that the receiver can read, and its value.
     Held(usize, T),
 }
 
-/// The calls of a zero-copy channel beside its requests, which are of a side that waits for its next slot.
+/// The calls of a zero-copy channel beside its requests. A request is a side that waits for its next slot.
 #[derive(Clone, Copy, Debug, PartialEq, Eq)]
 pub enum ZeroCall<T> {
-    /// Lends the side's next slot, if there is one.
+    /// Lends the side's next slot, if it has one.
     Try(Side),
-    /// Writes into the sender's lent slot.
+    /// Writes into the slot that the sender is lent.
     Write(T),
-    /// Sends the sender's next slot, or gives the receiver's back.
+    /// Sends the sender's next slot, or gives the receiver's next slot back.
     Done(Side),
     /// Ends the loan of the side's slot.
     EndLoan(Side),
-    /// Makes all slots spare, unless the other side's is lent.
+    /// Makes all slots spare, unless the opposite side's slot is lent.
     Clear(Side),
-    /// How many slots are held.
+    /// Asks how many slots are held.
     Len,
-    /// How many slots are spare.
+    /// Asks how many slots are spare.
     FreeCapacity,
 }
 
-/// What a zero-copy channel answers.
+/// The answers of a zero-copy channel.
 #[derive(Clone, Copy, Debug, PartialEq, Eq)]
 pub enum ZeroHeard<T> {
     /// The slot that the request waited for.
     Lends(Lent<T>),
-    /// The slot that a try is lent, if there is one.
+    /// The slot that a try is lent, if any.
     Tried(Option<Lent<T>>),
-    /// Whether the channel was cleared.
+    /// The outcome of a clear.
     Cleared(Result<(), SlotLent>),
-    /// How many slots there are of a kind.
+    /// The number of slots of a kind.
     Count(usize),
 }
 
-// What a side is told of the slot that it is lent.
+// Returns what a side is told of the slot that it is lent.
 fn told<T: Copy>(side: Side, number: usize, value: T) -> Lent<T>
     ensures sender { side ≡ Side.Sender → result ≡ Lent.Spare number }
     ensures receiver { side ≡ Side.Receiver → result ≡ Lent.Held number value }
@@ -249,8 +249,13 @@ pub type ZeroCommand<T, W> = Command<Side, W, ZeroCall<T>>;
 /// What a zero-copy channel answers to a command, with the wakers that it hands out.
 pub type ZeroReply<T, W, const K: usize> = Reply<Answer<ZeroHeard<T>>, W, K>;
 
-/// Gives the commands to the channel, one after another, as `run` does: the answers are those of the slots, and no wake is lost. After
-/// them each slot stands once in one of the two lists, so that none is lent to both sides.
+/// Runs the commands on the channel, one after another, as `run` does, and returns a reply to each. The answers are
+/// those that the slots allow, and no wakeup is lost. At the end each slot stands once in one of the two lists, so that
+/// none is lent to both sides.
+///
+/// # Errors
+///
+/// Returns the error if there is no memory for the replies. The machine is then unchanged.
 pub fn run_zerocopy<S: Row, W: Copy + Eq, const REQS: usize, const K: usize>(
     alloc: Global,
     machine: &mut Requests<RowState<S, W>, REQS, K>,

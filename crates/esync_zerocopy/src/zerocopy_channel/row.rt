@@ -16,22 +16,26 @@ pub trait Row: Drop {
     /// The row with another value in the slot of this number.
     ghost with_item: { Self → ℕ → Self.Item → Self };
 
-    /// How many slots there are.
+    /// Returns the number of slots.
     fn len(&self) -> usize
         ensures { result ≡ length (items self.now) };
 
-    /// Lends the value in the slot of this number, to be written, if there is such a slot.
+    /// Lends the value in the slot of this number for writing, if there is such a slot.
     fn lend(&mut self, i: usize) -> Option<&mut Self::Item>
         ensures* lends { sem 𝓛 (LendsIf Self.row Self.Item.row self.entry result (with_item self.old i) self.old) }
         ensures value { value_lent result ≡ slice_get (items self.old) i };
 
-    /// The slot of that number has the value that was written, and the others have theirs.
+    /// A write at a number changes that slot's value, and no value of another slot.
     ghost written: { (row : Self) (i : ℕ) (v : Self.Item) → items (with_item row i v) ≡ slice_set (items row) i v };
 }
 
 /// A row that can be copied.
 pub trait CopiedRow: Row + Sized {
-    /// A row of copies of these values.
+    /// Returns a row of copies of these values.
+    ///
+    /// # Errors
+    ///
+    /// Returns the error if there is no memory for the copies.
     fn copied(&self) -> Result<Self, AllocError>
         ensures { IfOk result (λ copy. Self.items copy ≡ Self.items self.now) };
 }
@@ -57,7 +61,7 @@ impl<T: Drop> Row for Vec<T> {
     ghost written = { λ row i v. refl };
 }
 
-/// A row that stands in the state itself, and asks for no memory.
+/// A row that stands in the state itself, and takes no memory beyond it.
 impl<T: Drop, const N: usize> Row for ArrayVec<T, N> {
     ghost use Rattle.std.specs.Prelude.{refl};
     ghost use Rattle.arrayvec.specs.ArrayVec.{with_item};

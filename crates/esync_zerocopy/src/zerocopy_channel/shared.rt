@@ -1,4 +1,4 @@
-//! A zero-copy channel that tasks on several threads share by reference, its handles, its loans and its futures.
+//! A zero-copy channel that tasks on several threads share by reference, with its handles, loans and futures.
 ghost use Rattle.std.specs.Prelude.{◌≡◌, ◌<◌, true, [], length, slice_get, OnSome, IsSome, None};
 ghost use Rattle.esync_zerocopy.specs.Slots.{all_spare, count, before, is_out, out_if, waiting_unless};
 ghost use Rattle.esync_zerocopy.specs.Turned.{wakes_of_turn, DoneIf};
@@ -13,15 +13,14 @@ use esync_base::waitqueue::{Context, Hand, Poll, Wakes};
 use std::marker::Model;
 use std::sync::{self, Wait};
 
-/// A slot for a message, whose value one side at a time takes, which never waits for it.
+/// A slot for a message. One side at a time takes its value, and never waits for it.
 pub type Slot<T> = Place<T>;
 
-// Takes the side's next slot out, with its value. There is no turn to be won where the side has no slot, or where the
-// slot's value can't be taken just now.
+// Takes the side's next slot out, with its value. The side wins no turn if it has no slot, or if the slot's value can't
+// be taken just now.
 //
-// Nor is there one while the side's slot is out, even where its value is back: a loan puts the value back first and
-// tells the state afterwards (`Loan::put_back`), and in between another thread can poll the request that the loan came
-// from.
+// It wins none while its slot is out either, even if the slot's value is back: a loan first puts the value back and
+// then tells the state (`Loan::put_back`), and in between another thread can poll the request that the loan came from.
 fn try_turn<'a, T, W: Copy + Eq>(
     slots: &'a [Slot<T>],
     turns: &mut Turns<W>,
@@ -40,9 +39,9 @@ fn try_turn<'a, T, W: Copy + Eq>(
     Some(value)
 }
 
-// Takes the side's next slot out, with its value, as `try_turn` does. Where the side has no slot, the context's waker
-// waits for one. Where it has one that is out, or whose value can't be taken just now, the context's waker is handed
-// out, so that the task polls again.
+// Takes the side's next slot out, with its value, as `try_turn` does. If the side has no slot, registers the context's
+// waker. If its slot is out, or the slot's value can't be taken just now, hands out the context's waker, so that the
+// task polls again.
 fn poll_turn<'a, T, W: Copy + Eq>(
     slots: &'a [Slot<T>],
     turns: &mut Turns<W>,
@@ -67,7 +66,7 @@ fn poll_turn<'a, T, W: Copy + Eq>(
     None
 }
 
-// The side is done with its next slot, if there is one.
+// Ends the side's turn at its next slot, if it has one.
 fn done_if<W: Copy + Eq>(turns: &mut Turns<W>, side: Side, wakes: &mut Wakes<W, 1>)
     requires { wakes.old ≡ [] }
     ensures { DoneIf (before side turns.old.sides) side turns.old turns.new wakes.new }
@@ -77,7 +76,7 @@ fn done_if<W: Copy + Eq>(turns: &mut Turns<W>, side: Side, wakes: &mut Wakes<W, 
     }
 }
 
-// Makes all slots spare, whatever is out.
+// Makes all slots spare, even those that are out.
 fn reset<W: Copy + Eq>(turns: &mut Turns<W>, wakes: &mut Wakes<W, 1>)
     requires { wakes.old ≡ [] }
     ensures sides { turns.new.sides ≡ all_spare (count turns.old.sides) }
@@ -90,16 +89,16 @@ fn reset<W: Copy + Eq>(turns: &mut Turns<W>, wakes: &mut Wakes<W, 1>)
 
 /// A channel of slots, which a sender and a receiver share by reference.
 ///
-/// Its lock is held for the length of a state call alone. A loan has the slot's value to itself: it reads and writes it
-/// without waiting. While a side's slot is lent, or where its value can't be taken just now, the side is answered as if
-/// it had no slot, and a poll hands out its own waker then.
+/// Its lock is taken only for the length of a state call. A loan has the slot's value to itself: it reads and writes
+/// the value without waiting. While a side's slot is lent, or its value can't be taken just now, the side is answered
+/// as if it had no slot, and a poll hands out its own waker.
 #[derive(Drop)]
 pub struct Channel<T, W, H> {
     slots: Vec<Slot<T>>,
     turns: Shared<Turns<W>, W, H>,
 }
 
-/// Shows to clauses how many slots the channel has.
+/// The channel in clauses: the number of its slots.
 impl<T, W, H> Model for Channel<T, W, H> {
     ghost use Rattle.std.specs.Prelude.{ℕ, length};
 
@@ -114,7 +113,7 @@ impl<T, W: Copy + Eq, H: Hand<W>> Channel<T, W, H> {
     ghost use mathlib.Core.Option.{none};
     ghost use Rattle.esync_zerocopy.specs.contracts.zerocopy_channel.shared.Channel.{the_row};
 
-    /// A channel of these slots, all spare. There has to be a slot.
+    /// Returns a channel of these slots, all spare, whose wakers go to the hand. There must be a slot.
     pub fn new(slots: Vec<Slot<T>>, hand: H) -> Self
         requires { 0 < length slots.items }
         ensures { result ≡ length slots.items }
@@ -126,7 +125,7 @@ impl<T, W: Copy + Eq, H: Hand<W>> Channel<T, W, H> {
         }
     }
 
-    /// The two sides of the channel.
+    /// Returns the two sides of the channel.
     pub fn split(&mut self) -> (Sender<'_, T, W, H>, Receiver<'_, T, W, H>)
         ensures* leaves { sem 𝓛 (follows_so (the_row T.row W.row H.row) (the_row T.row W.row H.row) self.entry.ghost_name none (λ _ _. ⊤) (λ v. v ≡ self.old)) }
         ensures sender { slots_of_sender result.0 ≡ self.old }
@@ -136,36 +135,37 @@ impl<T, W: Copy + Eq, H: Hand<W>> Channel<T, W, H> {
         (Sender { channel }, Receiver { channel })
     }
 
-    /// Makes all slots spare, and wakes who waits to send. Nobody has a loan, since the channel is borrowed whole.
+    /// Makes all slots spare and wakes the task that waits to send. No loan exists, since the channel is borrowed
+    /// whole.
     pub fn clear(&mut self)
         ensures { self.new ≡ self.old }
     {
         step!(self.turns, |turns, wakes| reset(&mut turns, &mut wakes))
     }
 
-    /// How many slots are held.
+    /// Returns the number of slots that are held now.
     pub fn len(&self) -> usize {
         self.turns.guard().len()
     }
 
-    /// No slot is held.
+    /// Returns whether no slot is held now.
     pub fn is_empty(&self) -> bool {
         self.len() == 0
     }
 
-    /// No slot is spare.
+    /// Returns whether no slot is spare now.
     pub fn is_full(&self) -> bool {
         self.free_capacity() == 0
     }
 
-    /// How many slots there are. It takes no lock.
+    /// Returns the number of slots, without taking the lock.
     pub fn capacity(&self) -> usize
         ensures { result ≡ self.now }
     {
         self.slots.len()
     }
 
-    /// How many slots are spare.
+    /// Returns the number of slots that are spare now.
     pub fn free_capacity(&self) -> usize {
         self.turns.guard().free_capacity()
     }
@@ -224,7 +224,7 @@ impl<T, W: Copy + Eq, H: Hand<W>> Sender<'_, T, W, H> {
     ghost use Rattle.esync_zerocopy.specs.contracts.zerocopy_channel.shared.Sender.{the_row};
     ghost use mir.Syntax.{named};
 
-    /// Lends the side, for as long as this one is borrowed.
+    /// Lends the sender, for as long as it is borrowed.
     pub fn borrow(&mut self) -> Sender<'_, T, W, H>
         ensures* leaves { sem 𝓛 (follows_so (the_row (record { mir = named 1; lft = [] }) T.row W.row H.row) (the_row (record { mir = named 1; lft = [] }) T.row W.row H.row) self.entry.ghost_name none (λ _ _. ⊤) (λ v. v ≡ self.old)) }
         ensures slots { slots_of_sender result ≡ slots_of_sender self.old }
@@ -234,17 +234,20 @@ impl<T, W: Copy + Eq, H: Hand<W>> Sender<'_, T, W, H> {
         }
     }
 
-    /// Lends the next spare slot, if there is one now.
+    /// Lends the next spare slot. Returns `None` if no slot is spare now, or if that slot is lent or its value can't be
+    /// taken just now.
     pub fn try_send(&mut self) -> Option<SendSlot<'_, T, W, H>> {
         self.channel.try_lend(Side::Sender)
     }
 
-    /// Lends the next spare slot, if there is one now. Otherwise the context's waker waits for one.
+    /// Polls for the next spare slot and lends it. If no slot is spare, registers the context's waker. If the slot is
+    /// lent or its value can't be taken just now, the answer is Pending too, and the context's waker is handed out, so
+    /// that the task polls again.
     pub fn poll_send(&mut self, cx: &Context<W>) -> Poll<SendSlot<'_, T, W, H>> {
         self.channel.poll_lend(Side::Sender, cx)
     }
 
-    /// Lends the next spare slot, when there is one.
+    /// Returns a future that lends the next spare slot once there is one.
     pub fn send(&mut self) -> ZeroSend<'_, T, W, H> {
         ZeroRequest {
             channel: self.channel,
@@ -252,43 +255,47 @@ impl<T, W: Copy + Eq, H: Hand<W>> Sender<'_, T, W, H> {
         }
     }
 
-    /// Sends the next spare slot as it is, if there is one, and wakes who waits to receive.
+    /// Sends the next spare slot as it is, if there is one, and wakes the task that waits to receive.
     pub fn send_done(&mut self)
         ensures { slots_of_sender self.new ≡ slots_of_sender self.old }
     {
         self.channel.done(Side::Sender)
     }
 
-    /// Makes all slots spare, and wakes who waits to send. Where the receiver's slot is lent, that is refused, and nothing changes.
+    /// Makes all slots spare and wakes the task that waits to send.
+    ///
+    /// # Errors
+    ///
+    /// Returns `SlotLent` if the receiver's slot is lent. Nothing is changed.
     pub fn clear(&mut self) -> Result<(), SlotLent>
         ensures { slots_of_sender self.new ≡ slots_of_sender self.old }
     {
         self.channel.clear_by(Side::Sender)
     }
 
-    /// How many slots are held.
+    /// Returns the number of slots that are held now.
     pub fn len(&self) -> usize {
         self.channel.len()
     }
 
-    /// No slot is held.
+    /// Returns whether no slot is held now.
     pub fn is_empty(&self) -> bool {
         self.channel.is_empty()
     }
 
-    /// No slot is spare.
+    /// Returns whether no slot is spare now.
     pub fn is_full(&self) -> bool {
         self.channel.is_full()
     }
 
-    /// How many slots there are. It takes no lock.
+    /// Returns the number of slots, without taking the lock.
     pub fn capacity(&self) -> usize
         ensures { result ≡ slots_of_sender self.now }
     {
         self.channel.capacity()
     }
 
-    /// How many slots are spare.
+    /// Returns the number of slots that are spare now.
     pub fn free_capacity(&self) -> usize {
         self.channel.free_capacity()
     }
@@ -307,7 +314,7 @@ impl<T, W: Copy + Eq, H: Hand<W>> Receiver<'_, T, W, H> {
     ghost use Rattle.esync_zerocopy.specs.contracts.zerocopy_channel.shared.Receiver.{the_row};
     ghost use mir.Syntax.{named};
 
-    /// Lends the side, for as long as this one is borrowed.
+    /// Lends the receiver, for as long as it is borrowed.
     pub fn borrow(&mut self) -> Receiver<'_, T, W, H>
         ensures* leaves { sem 𝓛 (follows_so (the_row (record { mir = named 1; lft = [] }) T.row W.row H.row) (the_row (record { mir = named 1; lft = [] }) T.row W.row H.row) self.entry.ghost_name none (λ _ _. ⊤) (λ v. v ≡ self.old)) }
         ensures slots { slots_of_receiver result ≡ slots_of_receiver self.old }
@@ -317,17 +324,20 @@ impl<T, W: Copy + Eq, H: Hand<W>> Receiver<'_, T, W, H> {
         }
     }
 
-    /// Lends the oldest held slot, if there is one now.
+    /// Lends the oldest held slot. Returns `None` if no slot is held now, or if that slot is lent or its value can't be
+    /// taken just now.
     pub fn try_receive(&mut self) -> Option<ReceiveSlot<'_, T, W, H>> {
         self.channel.try_lend(Side::Receiver)
     }
 
-    /// Lends the oldest held slot, if there is one now. Otherwise the context's waker waits for one.
+    /// Polls for the oldest held slot and lends it. If no slot is held, registers the context's waker. If the slot is
+    /// lent or its value can't be taken just now, the answer is Pending too, and the context's waker is handed out, so
+    /// that the task polls again.
     pub fn poll_receive(&mut self, cx: &Context<W>) -> Poll<ReceiveSlot<'_, T, W, H>> {
         self.channel.poll_lend(Side::Receiver, cx)
     }
 
-    /// Lends the oldest held slot, when there is one.
+    /// Returns a future that lends the oldest held slot once there is one.
     pub fn receive(&mut self) -> ZeroReceive<'_, T, W, H> {
         ZeroRequest {
             channel: self.channel,
@@ -335,50 +345,54 @@ impl<T, W: Copy + Eq, H: Hand<W>> Receiver<'_, T, W, H> {
         }
     }
 
-    /// Gives the oldest held slot back, if there is one, and wakes who waits to send.
+    /// Gives the oldest held slot back, if there is one, and wakes the task that waits to send.
     pub fn receive_done(&mut self)
         ensures { slots_of_receiver self.new ≡ slots_of_receiver self.old }
     {
         self.channel.done(Side::Receiver)
     }
 
-    /// Makes all slots spare, and wakes who waits to send. Where the sender's slot is lent, that is refused, and nothing changes.
+    /// Makes all slots spare and wakes the task that waits to send.
+    ///
+    /// # Errors
+    ///
+    /// Returns `SlotLent` if the sender's slot is lent. Nothing is changed.
     pub fn clear(&mut self) -> Result<(), SlotLent>
         ensures { slots_of_receiver self.new ≡ slots_of_receiver self.old }
     {
         self.channel.clear_by(Side::Receiver)
     }
 
-    /// How many slots are held.
+    /// Returns the number of slots that are held now.
     pub fn len(&self) -> usize {
         self.channel.len()
     }
 
-    /// No slot is held.
+    /// Returns whether no slot is held now.
     pub fn is_empty(&self) -> bool {
         self.channel.is_empty()
     }
 
-    /// No slot is spare.
+    /// Returns whether no slot is spare now.
     pub fn is_full(&self) -> bool {
         self.channel.is_full()
     }
 
-    /// How many slots there are. It takes no lock.
+    /// Returns the number of slots, without taking the lock.
     pub fn capacity(&self) -> usize
         ensures { result ≡ slots_of_receiver self.now }
     {
         self.channel.capacity()
     }
 
-    /// How many slots are spare.
+    /// Returns the number of slots that are spare now.
     pub fn free_capacity(&self) -> usize {
         self.channel.free_capacity()
     }
 }
 
-/// A request of a side for its next slot. It acts anew after it was ready. Until the end of its loan is over, it waits and
-/// hands out its own waker.
+/// The future of a side's next slot. A poll after it was ready lends anew. While its slot is still lent, each poll is
+/// Pending and hands out its own waker.
 #[must_use]
 #[derive(Drop)]
 pub struct ZeroRequest<'a, T, W, H> {
@@ -386,31 +400,32 @@ pub struct ZeroRequest<'a, T, W, H> {
     side: Side,
 }
 
-/// A request to send: what `send` gives.
+/// The future of a slot to send: what `send` returns.
 pub type ZeroSend<'a, T, W, H> = ZeroRequest<'a, T, W, H>;
 
-/// A request to receive: what `receive` gives.
+/// The future of a slot to receive: what `receive` returns.
 pub type ZeroReceive<'a, T, W, H> = ZeroRequest<'a, T, W, H>;
 
 impl<'a, T, W: Copy + Eq, H: Hand<W>> ZeroRequest<'a, T, W, H> {
-    /// Lends the side's next slot, if there is one now. Otherwise the context's waker waits for one. Where there is one
-    /// that is lent, or whose value can't be taken just now, the answer is Pending too, and the context's waker is handed
-    /// out, so that the task polls again.
+    /// Polls for the side's next slot and lends it. If the side has no slot, registers the context's waker. If the slot
+    /// is lent or its value can't be taken just now, the answer is Pending too, and the context's waker is handed out,
+    /// so that the task polls again.
     pub fn poll(&mut self, cx: &Context<W>) -> Poll<SlotLoan<'a, T, W, H>> {
         self.channel.poll_lend(self.side, cx)
     }
 }
 
-/// What a loan ends, at the side that it is lent to.
+/// A side of a channel as its loan sees it: the loan's end tells this side.
 ///
-/// A call uses it up, and a loan asks no `Drop` of it: a loan whose end calls twice, or not at all, doesn't compile.
+/// A call uses its receiver up, and no `Drop` is asked of it: a loan whose end tells the side twice, or never, doesn't
+/// compile.
 pub trait EndsLoan {
     type Rt: Wait;
 
-    /// Sends the slot, or gives it back, and wakes who waits on the other side.
+    /// Sends the slot, or gives it back, and wakes the task that waits on the opposite side.
     fn done(self);
 
-    /// Ends the loan alone: the slot stays the side's next one.
+    /// Ends the loan. The slot stays the side's next one.
     fn end(self);
 }
 
@@ -434,19 +449,20 @@ impl<T, W: Copy + Eq, H: Hand<W>> EndsLoan for LentTo<'_, T, W, H> {
     }
 }
 
-/// A loan: it has a value to itself, through what it holds. Its end ends the loan alone.
+/// A loan of a slot: it has the slot's value to itself. Its end ends the loan alone.
 pub struct Loan<S: EndsLoan, G> {
     side: S,
     value: G,
 }
 
-/// A slot that is lent to a side, with its value. Its end ends the loan alone: the slot stays the side's next one.
+/// A loan of a slot of a `Channel`, with the slot's value. Its end ends the loan alone: the slot stays the side's next
+/// one.
 pub type SlotLoan<'a, T, W, H> = Loan<LentTo<'a, T, W, H>, sync::MutexGuard<'a, T>>;
 
-/// A slot that the sender writes.
+/// A loan of a slot that the sender writes.
 pub type SendSlot<'a, T, W, H> = SlotLoan<'a, T, W, H>;
 
-/// A slot that the receiver reads.
+/// A loan of a slot that the receiver reads.
 pub type ReceiveSlot<'a, T, W, H> = SlotLoan<'a, T, W, H>;
 
 impl<S: EndsLoan, G> Model for Loan<S, G> {
@@ -458,13 +474,13 @@ impl<S: EndsLoan, G> Model for Loan<S, G> {
 }
 
 impl<S: EndsLoan, G: Drop> Loan<S, G> {
-    // Puts the value back, and gives the side alone, by which the state is told next that the loan has ended.
+    // Puts the value back and returns the side alone, which is told next that the loan has ended.
     //
-    // In this order a state that shows the slot to the other side never meets a value that is still out. In between, the
-    // slot is still out in the state, so that it stays the side's next one and this loan the only one: a poll of the
-    // request wins no turn (`try_turn`), and a clear by the other side is refused. Nothing else can move the slot or end
-    // the loan: it borrows its side, and with it the channel, so that neither the side's own `send_done`, `receive_done`
-    // and `clear` nor the `clear` of the whole channel can be called before the state was told.
+    // In this order a state that shows the slot to the opposite side never meets a value that is still out. In between,
+    // the slot is still out in the state. So it stays the side's next one and this loan the only one: a poll of the
+    // request wins no turn (`try_turn`), and a clear by the opposite side is refused. Nothing else can move the slot or
+    // end the loan. The loan borrows its side, and with it the channel, so neither the side's own `send_done`,
+    // `receive_done` and `clear` nor the `clear` of the whole channel can be called before the state was told.
     fn put_back(self) -> S {
         let Loan { side, value } = self;
         drop(value);
@@ -483,14 +499,14 @@ impl<S: EndsLoan, G: Holds> Loan<S, G> {
     ghost use Rattle.std.specs.Borrow.{Lends, sem};
     ghost use Rattle.esync_zerocopy.specs.contracts.zerocopy_channel.shared.Loan.{the_row};
 
-    /// The value: what was last written through the loan, and else what the slot had when it was lent.
+    /// Returns the value last written through the loan, or otherwise the value that the slot had when it was lent.
     pub fn get(&self) -> &G::Value
         ensures { result.now ≡ G.value self.now }
     {
         self.value.read()
     }
 
-    /// The value, to be written.
+    /// Lends the value for writing.
     pub fn get_mut(&mut self) -> &mut G::Value
         ensures* lends { sem 𝓛 (Lends (the_row S.row G.row S.Rt.row) G.Value.row self.entry result (G.with_value self.old)) }
         ensures value { result.now ≡ G.value self.old }
@@ -498,7 +514,7 @@ impl<S: EndsLoan, G: Holds> Loan<S, G> {
         self.value.write()
     }
 
-    /// Sends the slot, or gives it back, and wakes who waits on the other side.
+    /// Sends the slot, or gives it back, and wakes the task that waits on the opposite side.
     pub fn done(self)
     where
         G: Drop,
@@ -506,7 +522,7 @@ impl<S: EndsLoan, G: Holds> Loan<S, G> {
         self.put_back().done();
     }
 
-    /// Ends the loan, as a drop does.
+    /// Ends the loan, as a drop does. The slot stays the side's next one.
     pub fn end(self)
     where
         G: Drop,

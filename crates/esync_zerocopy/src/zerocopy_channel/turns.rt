@@ -1,4 +1,4 @@
-//! Whose turn each slot is, by its number, and who waits for one.
+//! Whose turn each slot is, by its number, and the wakers of the sides that wait for one.
 ghost use Rattle.std.specs.Prelude.{◌≡◌, ℕ, ◌<◌, ◌≤◌, ◌+◌, ◌-◌, ◌++◌, [], length, take, drop, slice_get, IfSome, is_ok, ◌↔◌, IsTrue, false};
 ghost use Rattle.esync_base.specs.Registration.{registered, displaced};
 ghost use Rattle.esync_base.specs.Ring.{next};
@@ -10,7 +10,7 @@ use std::marker::Model;
 
 mod kept;
 
-// A run of numbers of a ring: the first of them, and how many they are.
+// A run of numbers of a ring: its first number and its length.
 #[derive(Clone, Copy, Debug)]
 struct Run {
     first: usize,
@@ -18,7 +18,7 @@ struct Run {
 }
 
 impl Run {
-    // The first number, if there is one.
+    // Returns the run's first number, if it has one.
     fn next(&self) -> Option<usize>
         ensures { (n : ℕ) → result ≡ slice_get (ring_from n self.now.first self.now.len) 0 }
     {
@@ -26,7 +26,7 @@ impl Run {
     }
 }
 
-// The number behind this one.
+// Returns the number behind this one.
 #[tactic(auto, using(std::proofs::lemmas::Bool::Decides::nat_tests))]
 fn behind(number: usize, capacity: usize) -> usize
     requires { number < capacity }
@@ -35,7 +35,7 @@ fn behind(number: usize, capacity: usize) -> usize
     if number + 1 < capacity { number + 1 } else { 0 }
 }
 
-// The first number of a run goes behind the other run.
+// Moves the first number of a run behind the second run.
 #[tactic(auto, using(crate::proofs::Rounds::round_advanced, crate::proofs::Rounds::ring_less, crate::proofs::Rounds::ring_grown, crate::proofs::Rounds::next_within))]
 fn advance(from: &mut Run, to: &mut Run, capacity: usize)
     requires round { IsRound capacity from.old.first from.old.len to.old.first to.old.len }
@@ -52,7 +52,7 @@ fn advance(from: &mut Run, to: &mut Run, capacity: usize)
     to.len += 1;
 }
 
-/// Which slots are spare, which are held, whose is out, and who waits for one.
+/// Which slots are spare, which are held, whose is out, and the wakers of the sides that wait for one.
 #[derive(Debug, Drop)]
 pub struct Turns<W> {
     capacity: usize,
@@ -102,7 +102,7 @@ impl<W: Copy + Eq> Registered for Turns<W> {
 }
 
 impl<W: Copy + Eq> Turns<W> {
-    /// All slots spare, none out, and nobody who waits.
+    /// Returns the turns of a channel of this many slots: all spare, none out, and no waker.
     #[tactic(auto, using(crate::proofs::Rounds::round_of_all, crate::proofs::Rounds::ring_numbers))]
     pub fn new(capacity: usize) -> Self
         requires { 0 < capacity }
@@ -124,7 +124,7 @@ impl<W: Copy + Eq> Turns<W> {
         }
     }
 
-    /// The number of the side's next slot, if there is one.
+    /// Returns the number of the side's next slot, if it has one.
     #[tactic(auto, using(crate::proofs::Rounds::count_of_round))]
     pub fn next(&self, side: Side) -> Option<usize>
         ensures number { result ≡ slice_get (before side self.now.sides) 0 }
@@ -145,7 +145,8 @@ impl<W: Copy + Eq> Turns<W> {
         }
     }
 
-    /// Takes the side's next slot out, if there is one, and tells its number. Until the side is done, it is the same again.
+    /// Takes the side's next slot out and returns its number. Returns `None` if the side has no slot. Until the side is
+    /// done, it takes the same slot again.
     pub fn lend(&mut self, side: Side) -> Option<usize>
         ensures number { result ≡ slice_get (before side self.old.sides) 0 }
         ensures within { IfSome result (λ number. number < count self.old.sides) }
@@ -169,8 +170,7 @@ impl<W: Copy + Eq> Turns<W> {
         }
     }
 
-    /// Takes the side's next slot out, if there is one, and tells its number. Where there is none, the context's waker waits
-    /// for one.
+    /// Takes the side's next slot out and returns its number. If the side has no slot, registers the context's waker.
     pub fn poll_lend<const K: usize>(
         &mut self,
         side: Side,
@@ -191,8 +191,8 @@ impl<W: Copy + Eq> Turns<W> {
         number
     }
 
-    /// The side is done with its next slot, which goes behind those of the other side. There has to be one. That wakes who waits
-    /// on the other side.
+    /// Moves the side's next slot behind the opposite side's slots, and hands out the opposite side's waker. The side
+    /// must have a slot.
     #[tactic(auto, using(crate::proofs::Rounds::turned_round, crate::proofs::Rounds::length_ring))]
     pub fn done<const K: usize>(&mut self, side: Side, wakes: &mut Wakes<W, K>)
         requires room { length wakes.old < K }
@@ -214,14 +214,14 @@ impl<W: Copy + Eq> Turns<W> {
         }
     }
 
-    /// The side's slot is out no more, and stays where it is.
+    /// Ends the loan of the side's slot, which stays where it is.
     pub fn end_loan(&mut self, side: Side)
         ensures { self.new ≡ record { sides = with_out side false self.old.sides; waiting = self.old.waiting } }
     {
         self.set_out(side, false);
     }
 
-    /// The side's slot is out.
+    /// Returns whether the side's slot is out.
     pub fn is_out(&self, side: Side) -> bool
         ensures { result ≡ is_out side self.now.sides }
     {
@@ -231,8 +231,11 @@ impl<W: Copy + Eq> Turns<W> {
         }
     }
 
-    /// Makes all slots spare, and wakes who waits for one. The caller's own slot is out no more. Where the other side's is out, that
-    /// is refused, and nothing changes.
+    /// Makes all slots spare, ends the side's own loan, and hands out the sender's waker.
+    ///
+    /// # Errors
+    ///
+    /// Returns `SlotLent` if the opposite side's slot is out. Nothing is changed.
     #[tactic(auto, using(crate::proofs::Rounds::count_of_round, crate::proofs::Rounds::round_of_all, crate::proofs::Rounds::ring_numbers))]
     pub fn clear<const K: usize>(
         &mut self,
@@ -262,14 +265,14 @@ impl<W: Copy + Eq> Turns<W> {
         Ok(())
     }
 
-    /// Each slot stands once in one of the two lists. This says so, and does nothing.
+    /// Proves that each slot stands once in one of the two lists. Does nothing.
     pub fn once(&self)
         ensures { EachOnce self.now.sides }
     {
         let _capacity = &self.capacity;
     }
 
-    /// How many slots are held.
+    /// Returns the number of slots that are held.
     #[tactic(auto, using(crate::proofs::Rounds::length_ring))]
     pub fn len(&self) -> usize
         ensures { result ≡ length self.now.sides.held }
@@ -277,7 +280,7 @@ impl<W: Copy + Eq> Turns<W> {
         self.held.len
     }
 
-    /// How many slots are spare.
+    /// Returns the number of slots that are spare.
     #[tactic(auto, using(crate::proofs::Rounds::length_ring))]
     pub fn free_capacity(&self) -> usize
         ensures { result ≡ length self.now.sides.spare }
@@ -285,7 +288,7 @@ impl<W: Copy + Eq> Turns<W> {
         self.spare.len
     }
 
-    /// How many slots there are.
+    /// Returns the number of slots.
     #[tactic(auto, using(crate::proofs::Rounds::count_of_round))]
     pub fn capacity(&self) -> usize
         ensures { result ≡ count self.now.sides }

@@ -2,7 +2,7 @@ use embassy_sync::waitqueue::Hand;
 use std::cell::Cell;
 use std::sync::Wait;
 
-/// What wakes tasks here: it notes the last one that was to be woken.
+/// A hand that notes the last task that was to be woken.
 #[derive(Drop)]
 pub struct Bell<'a, R> {
     rt: &'a R,
@@ -17,7 +17,7 @@ impl<'a, R: Wait> Bell<'a, R> {
         }
     }
 
-    /// The last task that was to be woken.
+    /// Returns the last task that was to be woken.
     pub fn rung_for(&self) -> Option<u64> {
         self.rung_for.get()
     }

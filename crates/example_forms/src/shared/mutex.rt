@@ -4,7 +4,7 @@ use embassy_sync::waitqueue::{Context, Poll};
 use std::io;
 use std::sync::Wait;
 
-/// A value that one task at a time has, also while it waits for something else.
+/// A value that one task at a time may use, also while that task waits for another event.
 pub fn example<R: Print + Wait>(rt: &R) -> io::Result<()> {
     let bell = Bell::new(rt);
     let mutex = Mutex::new(5u32, &bell);

@@ -4,7 +4,7 @@ use embassy_sync::waitqueue::Context;
 use std::io;
 use std::sync::Wait;
 
-/// A value that is made when it is first asked for, and stays. Who waits for it has it then.
+/// A value that is made when a call first asks for it, and then stays. A task that waits for it then reads it.
 pub fn example<R: Print + Wait>(rt: &R) -> io::Result<()> {
     let bell = Bell::new(rt);
     let value: OnceLock<u32, u64, _> = OnceLock::new(&bell);

@@ -18,7 +18,7 @@ pub fn example<R: Print + Wait>(rt: &R) -> io::Result<()> {
     let waits = matches!(third.poll(&Context::from_waker(3)), Poll::Pending);
     println!(rt; "task 3 waits: {waits}")?;
 
-    // One comes back, and the bell rings for task 3.
+    // A connection comes back, and the bell rings for task 3.
     if let Some(first) = first {
         first.end();
     }

@@ -23,7 +23,8 @@ fn publish_and_hear<B: PubSubBehavior<Message = u32, Waker = u64>>(
     hear(rt, &mut sub0)
 }
 
-// The first waits where the channel is full. The second lets the oldest message go there, which some subscribers may miss.
+// The first publisher waits while the channel is full. The second drops the oldest message instead, which some
+// subscribers may miss.
 fn publish<B: PubSubBehavior<Message = u32, Waker = u64>>(
     rt: &impl Print,
     publisher: &Pub<'_, B>,
@@ -33,7 +34,8 @@ fn publish<B: PubSubBehavior<Message = u32, Waker = u64>>(
     println!(rt; "pubsub: {waits:?}, {at_once:?}")
 }
 
-// Who misses messages is told how many at first, and then not. There is also a try.
+// A subscriber that misses messages is told how many, or by the pure calls isn't told. There are also calls that don't
+// wait.
 fn hear<B: PubSubBehavior<Message = u32, Waker = u64>>(
     rt: &impl Print,
     subscriber: &mut Sub<'_, B>,

@@ -10,7 +10,7 @@ enum SomeCommand {
     Off,
 }
 
-/// A command that a later one replaces: who waits has the newest.
+/// A command that a later one replaces: a task that waits reads the newest.
 pub fn example<R: Print + Wait>(rt: &R) -> io::Result<()> {
     let bell = Bell::new(rt);
     let some_signal: Signal<SomeCommand, u64, _> = Signal::new(&bell);

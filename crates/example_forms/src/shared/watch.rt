@@ -4,7 +4,7 @@ use embassy_sync::watch::{Rcv, Snd, Watch, WatchBehavior};
 use std::io;
 use std::sync::Wait;
 
-/// A value of which each of two receivers hears the changes, and may read it at any time.
+/// A value whose changes two receivers hear. They may read it at any time.
 pub fn example<R: Print + Wait>(rt: &R) -> io::Result<()> {
     let bell = Bell::new(rt);
     let watch: Watch<u8, u64, _, 2, 2> = Watch::new(&bell);

@@ -5,7 +5,7 @@ use std::alloc::Global;
 use std::io;
 use std::sync::Wait;
 
-/// A channel of 2 buffers, which are written and read where they lie.
+/// A channel of 2 buffers, which are written and read where they stand.
 pub fn example<R: Print + Wait>(rt: &R, alloc: Global) -> io::Result<()> {
     let bell = Bell::new(rt);
     let Ok(slots) = vec![in alloc; Slot::new([0u8; 4]), Slot::new([0u8; 4])] else {

@@ -2,7 +2,8 @@ use embassy_sync::channel::ChannelState;
 use embassy_sync::waitqueue::{Context, Poll, Wakes};
 use std::io;
 
-/// A channel without a lock. What each call answers and whom it wakes is known before the program runs: each `prove!` is proved.
+/// A channel without a lock. What each call returns and which tasks it wakes is known before the program runs: each
+/// `prove!` is proved.
 pub fn example(rt: &impl Print) -> io::Result<()> {
     let mut channel: ChannelState<u32, u64, 1> = ChannelState::new();
 
@@ -20,7 +21,7 @@ pub fn example(rt: &impl Print) -> io::Result<()> {
     prove!(first == Some(1));
     println!(rt; "to wake: {first:?}")?;
 
-    // Polled again, the receiver has the message.
+    // Polled again, the receiver reads the message.
     let mut wakes: Wakes<u64, 1> = Wakes::new();
     let comes = channel.poll_receive(&Context::from_waker(1), &mut wakes);
     prove!(comes == Poll::Ready(7));

@@ -21,7 +21,7 @@ pub fn example(rt: &impl Print) -> io::Result<()> {
     prove!(waits == Ok(Poll::Pending));
     prove!(wakes.is_empty());
 
-    // Another sends one, and the task is handed out.
+    // A change is sent, and the task is handed out.
     let sent = baud_rate.send(115_200, &mut wakes);
     prove!(sent == Ok(()));
     prove!(wakes.len() == 1);
@@ -29,7 +29,7 @@ pub fn example(rt: &impl Print) -> io::Result<()> {
     prove!(first == Some(TASK));
     println!(rt; "to wake: {first:?}")?;
 
-    // Polled again, it has the change, and then there is no other.
+    // Polled again, the task reads the change, and then there is no further one.
     let mut wakes: Wakes<u64, 2> = Wakes::new();
     let comes = baud_rate.poll_changed(&mut seen, &Context::from_waker(TASK), &mut wakes);
     prove!(comes == Ok(Poll::Ready(115_200)));

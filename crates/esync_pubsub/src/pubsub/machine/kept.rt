@@ -1,4 +1,4 @@
-//! A pub-sub channel whose numbers are kept with it.
+//! A numbered pub-sub channel as a stored state.
 use super::{Events, Tables};
 use esync_base::kept::Kept;
 use esync_base::waitqueue::WakerList;

@@ -1,4 +1,4 @@
-//! Turns that are kept as they are now.
+//! The turns of a channel as a stored state.
 use super::Turns;
 use esync_base::kept::Kept;
 use std::alloc::AllocError;
