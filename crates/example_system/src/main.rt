@@ -1,4 +1,4 @@
-//! Systems of two mutexes, of three, and of one channel: what is true of every schedule of their tasks.
+//! Systems of two mutexes, of three, of one channel, and of a channel and a mutex: what is true of every schedule of their tasks.
 #![tactic(auto)]
 
 ghost use Rattle.std.specs.Prelude.{◌≡◌, ℕ, map, Ok};
@@ -23,6 +23,8 @@ use esync_systems::pair::{Pair, PairAsk, PairCommand};
 use esync_systems::several::{PartCommand, Several};
 use std::alloc::{AllocError, Global};
 use std::io;
+
+mod driver;
 
 type Mutex = MutexRun<(u32, u32), u32, Second, TaskId, 3, 1>;
 
@@ -220,5 +222,14 @@ fn main(rt: HostRuntime) -> io::Result<()> {
         &rt,
         "three philosophers, one of whom turns round",
         dine(alloc, true),
+    )?;
+    if let Ok(outcome) = driver::run(alloc, true) {
+        println!(rt; "a driver that holds a mutex while it sends, on the executor: {outcome:?}")?;
+    }
+    tell(&rt, "under every schedule", driver::explore(alloc, true))?;
+    tell(
+        &rt,
+        "a driver that releases it first",
+        driver::explore(alloc, false),
     )
 }
