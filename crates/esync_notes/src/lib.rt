@@ -4,6 +4,7 @@
 //! `assert!` and `assert_eq!` write a branch into the test, and what lives across branches is most of what a test's
 //! proof costs. [`holds!`](holds!) and [`same!`](same!) make calls in their place, so a test is proved in half of the
 //! time.
+//! They stop a test through `expect`, since `rt ci` refuses `Abort` in a function outside of tests.
 #![tactic(auto)]
 
 use esync_base::waitqueue::{Hand, TaskId, Wakes};
@@ -105,7 +106,8 @@ impl<R: Wait> Hand<TaskId> for Deaf<R> {
     fn wake(&self, _waker: TaskId) {}
 }
 
-/// Two values that should be equal and aren't, as `Debug` shows them.
+/// Two values that should be equal and aren't, as `Debug` shows them. A result that borrowed both would tie their
+/// lifetimes.
 pub struct Differ {
     said: InlineText<512>,
 }
