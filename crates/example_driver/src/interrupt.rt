@@ -1,4 +1,4 @@
-//! An interrupt puts bytes into a pipe, and never waits. A driver reads them, sleeps while there are none, and answers by a
+//! An interrupt puts bytes into a pipe, and yields while it is full. A driver reads them, sleeps while there are none, and answers by a
 //! signal.
 use embassy_sync::pipe::Pipe;
 use embassy_sync::signal::Signal;

@@ -30,7 +30,7 @@ impl<'a> Reply<'a> {
 
 /// A corrected rule.
 pub struct Rule {
-    /// The beginning of its row in the documentation.
+    /// What the rule says.
     pub name: &'static str,
     /// Whether this is a difference that it makes.
     pub makes: fn(&Difference<'_>) -> bool,
