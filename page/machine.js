@@ -11,7 +11,7 @@ const PAGE_BYTES = 65536;
 // A module of nothing but a 64-bit memory.
 const MEMORY64 = new Uint8Array([0, 0x61, 0x73, 0x6d, 1, 0, 0, 0, 5, 3, 1, 4, 1]);
 
-/** The module's functions `play`, `explain` and `check`. */
+/** The module's functions `play` and `explain`. */
 class Machine {
   static isSupported() {
     return typeof WebAssembly === "object" && WebAssembly.validate(MEMORY64);
