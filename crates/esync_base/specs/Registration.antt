@@ -23,7 +23,7 @@ registered eq n vs w = if among eq w vs then vs else (if nat_lt (length vs) n th
 abbrev pub displaced : {W : Type 0} → (W → W → Bool) → ℕ → List W → W → List W
 displaced eq n vs w = if among eq w vs then [] else (if nat_lt (length vs) n then [] else vs)
 
--- what is registered after a waker was, or after nothing was
+-- what is registered after this waker was, or `vs` if there is none
 abbrev pub registered_if : {W : Type 0} → (W → W → Bool) → ℕ → List W → Option W → List W
 registered_if eq n vs None = vs
 registered_if eq n vs (Some w) = registered eq n vs w

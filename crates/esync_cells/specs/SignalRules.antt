@@ -1,4 +1,4 @@
--- What a signal allows for each request and each call, and which wakers it hands out.
+-- What a signal allows for each request (`Polls`) and each call (`Calls`), by its value, and which wakers it hands out.
 use Rattle.std.specs.Prelude.{◌≡◌, Bool, List, Option, Some, None, is_some}
 use Rattle.esync_machine.specs.declared.primitive.Answer.{Answer}
 use Rattle.esync_machine.specs.declared.primitive.Answer.TheVariants.{Done, Pending, Gives}

@@ -47,11 +47,11 @@ found Nobody q = None
 found Leavers q = None
 
 module _ {Ask Held C A : Type 0} (R : Rules Ask Held C A) where
-  -- the command names what isn't there, and nothing changes
+  -- the command is answered NoSuch, and nothing changes: its number is free, or that of a start isn't
   abbrev pub Nowhere : R.Core → Option Held → Answer A → R.Core → Option Held → Type 0
   Nowhere o p a o2 p2 = (a ≡ NoSuch) × (o2 ≡ o) × (p2 ≡ p)
 
-  -- a command finds this at its number, and leaves that there
+  -- a command that finds p at its number may be answered a, change o into o2, and leave p2 there
   abbrev pub Turns : {W : Type 0} → R.Core → Command Ask W C → Option Held → Answer A → R.Core → Option Held → Type 0
   Turns o (Start r ask) None a o2 p2 = R.begins o ask p2 × (a ≡ begun p2) × (o2 ≡ o)
   Turns o (Start r ask) (Some h) a o2 p2 = Nowhere o (Some h) a o2 p2

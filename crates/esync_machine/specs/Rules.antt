@@ -12,7 +12,7 @@ pub record Rules (Ask Held C A : Type 0) : Type 1 where
   pub Core : Type 0
   -- a start of this makes that request, or names what isn't there
   pub begins : Core → Ask → Option Held → Type 0
-  -- a poll may give this answer, change the first object into the second, and leave this at the number
+  -- `polls o h a o2 p`: a poll of h may give the answer a, change o into o2, and leave p at the number
   pub polls : Core → Held → Answer A → Core → Option Held → Type 0
   pub ends : Core → Held → Core → Type 0
   -- which numbers a call concerns
@@ -23,7 +23,7 @@ pub record Rules (Ask Held C A : Type 0) : Type 1 where
   pub leaves : Core → C → Held → Bool
   -- what stands at the number can be polled
   pub IsRequest : Held → Type 0
-  -- a Pending poll hands out its own waker, though it changes nothing
+  -- a Pending poll may hand out its own waker, though it changes nothing
   pub WakesItself : Type 0
 
 -- a call that concerns no number leaves what stands there

@@ -1,4 +1,4 @@
--- Runs of a machine, its table of wakes, and the two laws of its wakes, which speak of no registration.
+-- Runs of a machine, and what is claimed of them: two laws of wakes, which speak of no registration, and the table of wakes.
 use Rattle.std.specs.Prelude.{◌≡◌, ℕ, Bool, List, [], ◌∷◌, ◌++◌, map, Option, Some, ◌⊎◌}
 use Rattle.esync_base.specs.Registration.{IsAmong}
 use Rattle.esync_machine.specs.Wakings.{Handed}
@@ -30,7 +30,7 @@ pub record Meaning (Command Reply Waker : Type 0) : Type 1 where
   pub IsNoSuch : Reply → Type 0
   -- there was no memory for a clone, and the command changed nothing
   pub IsRefused : Reply → Type 0
-  -- a Pending poll hands out its own waker, though it leaves the object as it was
+  -- a Pending poll may hand out its own waker, though it leaves the object as it was
   pub WakesItself : Type 0
 
 -- each item of a list has a property
@@ -43,7 +43,7 @@ abbrev pub AtSome : {A : Type 0} → (A → Type 0) → List A → Type 0
 AtSome P [] = ⊥
 AtSome P (x ∷ xs) = P x ⊎ AtSome P xs
 
--- An event, with the objects before and after it.
+-- A command with its answer, and the objects before and after it.
 pub record Step (Object Command Reply : Type 0) : Type 0 where
   pub before : Object
   pub command : Command
@@ -56,7 +56,7 @@ module _ {Command Reply Waker : Type 0} (M : Meaning Command Reply Waker) where
   IsRun old [] new = new ≡ old
   IsRun old (s ∷ steps) new = (s.before ≡ old) × M.allows s.before s.command s.reply s.after × IsRun s.after steps new
 
-  -- only answers other than Pending are allowed for a poll of r now
+  -- Pending isn't allowed for a poll of r now, whatever it leaves
   abbrev pub IsReady : M.Object → ℕ → Type 0
   IsReady o r = (c : Command) (w : Waker) (a : Reply) (o2 : M.Object) → M.polls c ≡ Some (r, w) → M.IsPending a → M.allows o c a o2 → ⊥
 
@@ -113,7 +113,7 @@ module _ {Command Reply Waker : Type 0} (M : Meaning Command Reply Waker) where
       (beginning rest : List (Step M.Object Command Reply)) → steps ≡ beginning ++ rest
       → (r : ℕ) (p : LastPoll beginning r) → IsWaiting beginning r p → Is (object_after p.poll p.later) r → IsWoken beginning r p
 
-  -- Every request that waits and is due was woken, and so was every request that waits and is ready.
+  -- Every request that waits and is due was woken; so was every one that is ready, since that is due (`ready_is_due`).
   abbrev pub NoLostWake : List (Step M.Object Command Reply) → Type 0
   NoLostWake steps = AreWoken IsDue steps × AreWoken IsReady steps
 

@@ -27,7 +27,7 @@ registers eq slot w = record { wakes = displaced eq 1 slot w; after = registered
 abbrev pub hands_out : {W : Type 0} → List W → Handed (List W) W
 hands_out slot = record { wakes = slot; after = [] }
 
--- nothing is handed out too if the answer says that nothing changed
+-- as h says, but nothing is handed out if the answer says that nothing changed
 abbrev pub unless_refused : {A G W : Type 0} → Answer A → G → Handed G W → Handed G W
 unless_refused NoSuch g h = nothing g
 unless_refused NoMemory g h = nothing g
@@ -46,10 +46,10 @@ is_pending (Gives x) = false
 pub record Wakings (Core Held C A W : Type 0) : Type 1 where
   -- which wakers are registered where
   pub Registered : Type 0
-  -- the wakes of a poll with the waker that is answered so and leaves that at its number
+  -- the wakes of a poll, by the request, its waker, the answer, and what is left at the number
   pub polls : Core → Registered → Held → W → Answer A → Option Held → Handed Registered W
   pub ends : Core → Registered → Held → Handed Registered W
-  -- the wakes of a call that finds this at its number, or None if it concerns none
+  -- the wakes of a call, by what it finds at its number (None if it concerns no number) and the answer
   pub calls : Core → Registered → C → Option Held → Answer A → Handed Registered W
 
 module _ {Core Held C A W : Type 0} (T : Wakings Core Held C A W) where
