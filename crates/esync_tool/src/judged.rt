@@ -18,7 +18,14 @@ pub fn check<O: Write>(
     output: &mut O,
 ) -> Result<bool, Stopped> {
     let verdict = match check_script(alloc, text)? {
-        Verdict::Another(difference) => Verdict::Another(shortened(alloc, &difference)?),
+        Verdict::Another(difference) => {
+            let shown = shortened(alloc, &difference)?;
+            Verdict::Another(Difference {
+                line: shown.line,
+                recorded: escaped(alloc, shown.recorded.as_str())?,
+                given: shown.given,
+            })
+        }
         run => run,
     };
     print_verdict(text, &verdict, output)?;
@@ -101,6 +108,22 @@ fn beginning(alloc: Global, reply: &str) -> Result<String, AllocError> {
         write!(text, ".. ({} bytes)", reply.len())?;
     }
     Ok(text)
+}
+
+// A text whose control characters are written by their numbers, as they may stand in what was recorded.
+fn escaped(alloc: Global, text: &str) -> Result<String, AllocError> {
+    let mut shown = String::new(alloc);
+    for character in text.chars() {
+        match character {
+            '\r' => shown.push_str("\\r")?,
+            '\t' => shown.push_str("\\t")?,
+            '\0'..='\u{1f}' | '\u{7f}'..='\u{9f}' => {
+                write!(shown, "\\u{{{:x}}}", u32::from(character))?
+            }
+            _ => shown.push(character)?,
+        }
+    }
+    Ok(shown)
 }
 
 fn another(
