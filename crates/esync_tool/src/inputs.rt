@@ -1,6 +1,7 @@
 //! Inputs by their names, and what is said of one that was not gone through to its end.
 use crate::Streams;
 use crate::bad_line::{Reason, reason_of};
+use crate::printable::Printable;
 use crate::source::Keeping;
 use crate::stopped::Stopped;
 use esync_words::fault::Fault;
@@ -155,10 +156,10 @@ pub fn status<E: Write>(name: &str, outcome: Result<bool, Stopped>, errors: &mut
     match outcome {
         Ok(holds) => u8::from(!holds),
         Err(stopped) => {
-            let name = if name == "-" { "standard input" } else { name };
+            let text = if name == "-" { "standard input" } else { name };
             let _ = match &stopped {
                 Stopped::Unwritten => writeln!(errors, "esync: {stopped}"),
-                _ => writeln!(errors, "esync: {name}: {stopped}"),
+                _ => writeln!(errors, "esync: {}: {stopped}", Printable { text }),
             };
             let _ = errors.flush();
             stopped.status()

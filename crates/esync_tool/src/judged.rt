@@ -1,4 +1,5 @@
 //! The verdict on a recorded run, for people and as JSON.
+use crate::printable::Printable;
 use crate::stopped::Stopped;
 use esync_check::difference::Difference;
 use esync_check::recording::{Recording, split_line};
@@ -18,14 +19,7 @@ pub fn check<O: Write>(
     output: &mut O,
 ) -> Result<bool, Stopped> {
     let verdict = match check_script(alloc, text)? {
-        Verdict::Another(difference) => {
-            let shown = shortened(alloc, &difference)?;
-            Verdict::Another(Difference {
-                line: shown.line,
-                recorded: escaped(alloc, shown.recorded.as_str())?,
-                given: shown.given,
-            })
-        }
+        Verdict::Another(difference) => Verdict::Another(shown(alloc, &difference)?),
         run => run,
     };
     print_verdict(text, &verdict, output)?;
@@ -90,6 +84,20 @@ pub fn unjudged_as_json<O: Write>(
 // How many characters of a reply are shown. No primitive has a longer one.
 const SHOWN: usize = 1000;
 
+fn shown(alloc: Global, difference: &Difference) -> Result<Difference, AllocError> {
+    let Difference {
+        line,
+        recorded,
+        given,
+    } = shortened(alloc, difference)?;
+    let text = recorded.as_str();
+    Ok(Difference {
+        line,
+        recorded: format!(in alloc; "{}", Printable { text })?,
+        given,
+    })
+}
+
 fn shortened(alloc: Global, difference: &Difference) -> Result<Difference, AllocError> {
     Ok(Difference {
         line: difference.line,
@@ -108,22 +116,6 @@ fn beginning(alloc: Global, reply: &str) -> Result<String, AllocError> {
         write!(text, ".. ({} bytes)", reply.len())?;
     }
     Ok(text)
-}
-
-// A text whose control characters are written by their numbers, as they may stand in what was recorded.
-fn escaped(alloc: Global, text: &str) -> Result<String, AllocError> {
-    let mut shown = String::new(alloc);
-    for character in text.chars() {
-        match character {
-            '\r' => shown.push_str("\\r")?,
-            '\t' => shown.push_str("\\t")?,
-            '\0'..='\u{1f}' | '\u{7f}'..='\u{9f}' => {
-                write!(shown, "\\u{{{:x}}}", u32::from(character))?
-            }
-            _ => shown.push(character)?,
-        }
-    }
-    Ok(shown)
 }
 
 fn another(

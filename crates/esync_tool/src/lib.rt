@@ -16,6 +16,7 @@ mod explored;
 mod inputs;
 mod judged;
 mod language;
+mod printable;
 mod shared;
 mod source;
 mod steps;

@@ -1,5 +1,5 @@
 //! The steps of a script, gathered while it is played.
-ghost use Rattle.std.specs.Prelude.{◌≡◌, OnOk, IfErr, Err};
+ghost use Rattle.std.specs.Prelude.{◌≡◌, OnOk, IfErr};
 ghost use Rattle.esync_words.specs.Played.{IsJudged};
 
 use esync_base::waitqueue::Registered;

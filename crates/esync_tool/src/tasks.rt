@@ -4,6 +4,7 @@ use crate::by_line::ByLine;
 use crate::explored::{Form, explore};
 use crate::inputs::{Readable, hint, reasoned, status, with_reason};
 use crate::judged::{check, check_as_json, unjudged_as_json};
+use crate::printable::Printable;
 use crate::shared::{compared, played};
 use crate::source::Keeping;
 use crate::steps::Steps;
@@ -371,7 +372,8 @@ fn write_told<O: Write>(
     if told.is_empty() {
         return Ok(());
     }
-    if let Some(heading) = heading {
+    if let Some(text) = heading {
+        let heading = Printable { text };
         let behind = match what {
             Work::Shared | Work::Explore(_, _) => "\n",
             _ => " ",
