@@ -89,7 +89,7 @@ impl Steps {
     }
 }
 
-// Whether a machine has no request of this number, found by a poll, which no other request ends by.
+// Whether the machine has no request of this number. It is polled, which ends no other request.
 fn is_gone<V, M>(machine: &mut M, request: usize) -> bool
 where
     V: Vocabulary,
