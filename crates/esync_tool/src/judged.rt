@@ -84,6 +84,7 @@ pub fn unjudged_as_json<O: Write>(
 // How many characters of a reply are shown. No primitive has a longer one.
 const SHOWN: usize = 1000;
 
+// As people are shown it, with no control character.
 fn shown(alloc: Global, difference: &Difference) -> Result<Difference, AllocError> {
     let Difference {
         line,
