@@ -162,7 +162,7 @@ impl Vocabulary for WatchWords {
 
     fn place(number: usize) -> Option<Place> {
         match number {
-            0 => Some(Place::of("the receivers", "a newer value came")),
+            0 => Some(Place::of("the receivers", "a newer version came")),
             _ => None,
         }
     }

@@ -91,7 +91,8 @@ fn command_of<V: Vocabulary>(line: &str) -> Option<Command<V::Ask, u64, V::Call>
     read_command::<V>(words_of(line)?)
 }
 
-fn opening_of(line: &str) -> Option<Opening> {
+/// The primitive that line 1 of a script names.
+pub fn opening_of(line: &str) -> Option<Opening> {
     let mut words = words_of(line)?;
     let name = words.word()?;
     Opening::opening(name, words)

@@ -2,7 +2,7 @@
 use crate::language::{OPENINGS, REQUESTS, asks_of, calls_of, shape_of};
 use esync_words::lines::LONGEST;
 use std::alloc::{AllocError, Global};
-use strsim::levenshtein;
+use strsim::osa_distance;
 
 /// Where in a line it stops to be a command, and why.
 #[derive(Debug, Drop)]
@@ -78,13 +78,18 @@ fn of_command(alloc: Global, primitive: &str, line: &str) -> Result<Option<Reaso
     if name != "start" {
         return of_call(alloc, primitive, name, line);
     }
+    let asks = asks_of(primitive);
+    if asks.is_empty() {
+        let text = format!(in alloc; "{primitive} has no requests")?;
+        return Ok(Some(Reason { column: 1, text }));
+    }
     let (number, ask) = rest.split_once(' ').unwrap_or((rest, ""));
     if let Some(why) = odd_word(b'k', number) {
         return told(alloc, 7, number, why);
     }
     let kind = format!(in alloc; "request of {primitive}")?;
     let column = number.len().saturating_add(8);
-    commanded(alloc, ask, column, &kind, asks_of(primitive))
+    commanded(alloc, ask, column, &kind, asks)
 }
 
 // Why a line that doesn't begin with `start` is no command.
@@ -95,13 +100,29 @@ fn of_call(
     line: &str,
 ) -> Result<Option<Reason>, AllocError> {
     let calls = format!(in alloc; "start {REQUESTS} {}", calls_of(primitive))?;
-    let is_ask = shape_of(&calls, name).is_none() && shape_of(asks_of(primitive), name).is_some();
-    if is_ask {
-        let text = format!(in alloc; "{name} is asked by a request, as start 0 {line}")?;
+    if shape_of(&calls, name).is_none()
+        && let Some(shape) = shape_of(asks_of(primitive), name)
+    {
+        let ask = sample_of(alloc, name, line, shape)?;
+        let text = format!(in alloc; "{name} is asked by a request, as start 0 {ask}")?;
         return Ok(Some(Reason { column: 1, text }));
     }
     let kind = format!(in alloc; "command of {primitive}")?;
     commanded(alloc, line, 1, &kind, &calls)
+}
+
+// This line, where it is a name with the words that its letters ask for. Else the name, with a letter for each word but a number.
+fn sample_of(alloc: Global, name: &str, line: &str, shape: &str) -> Result<String, AllocError> {
+    let (_, words) = line.split_once(' ').unwrap_or((line, ""));
+    if shaped(alloc, name, words, 1, shape)?.is_none() {
+        return String::from_str(alloc, line);
+    }
+    let mut sample = String::from_str(alloc, name)?;
+    for letter in shape.chars() {
+        sample.push(' ')?;
+        sample.push(if letter == 'k' { '0' } else { letter })?;
+    }
+    Ok(sample)
 }
 
 // Why the text that begins at this column is none of the commands.
@@ -139,17 +160,18 @@ fn unknown(
     Ok(Some(Reason { column, text }))
 }
 
-// The name that is nearest to this one, if one is near.
+// The name that is nearest to this one, if one is near. Two letters that changed places are one edit, and a capital is none.
 fn nearest<'a>(
     alloc: Global,
     name: &str,
     commands: &'a str,
 ) -> Result<Option<&'a str>, AllocError> {
+    let name = name.to_ascii_lowercase(alloc)?;
     let mut best = None;
     let mut least = NEAR.saturating_add(1).min(name.len());
     for command in commands.split(' ') {
         let (own, _) = command.split_once(':').unwrap_or((command, ""));
-        let edits = levenshtein(alloc, name, own)?;
+        let edits = osa_distance(alloc, name.as_str(), own)?;
         if edits < least {
             least = edits;
             best = Some(own);

@@ -1,6 +1,7 @@
 //! Inputs by their names, and what is said of one that was not gone through to its end.
 use crate::Streams;
 use crate::bad_line::{Reason, reason_of};
+use crate::printable::Printable;
 use crate::source::Keeping;
 use crate::stopped::Stopped;
 use esync_words::fault::Fault;
@@ -8,21 +9,132 @@ use std::alloc::Global;
 use std::fs::{File, Files};
 use std::io::{Read, Write};
 
-/// All that the input of this name has: standard input is `-`.
-pub fn read_all<R: Files, I: Read>(
+/// The text of an input, as far as it can be read: up to the first line that isn't UTF-8, or that a read that failed has cut.
+///
+/// A line stands in place of that one which is none of any script, recorded run or system. So what goes through the text stops there
+/// at last, and sooner where a line before is bad.
+#[derive(Drop)]
+pub struct Readable {
+    text: String,
+    cut: Option<Cut>,
+}
+
+/// Where a text ends before its input does, and why.
+#[derive(Drop)]
+struct Cut {
+    line: u64,
+    why: Stopped,
+}
+
+// What stands in place of a line that can't be read.
+const UNREAD: &str = "\u{fffd}";
+
+impl Readable {
+    /// What can be read of the input of this name: standard input is `-`.
+    pub fn of<R: Files, I: Read>(
+        rt: &R,
+        alloc: Global,
+        name: &str,
+        input: &mut I,
+    ) -> Result<Self, Stopped> {
+        let mut bytes = Vec::new(alloc);
+        let Some(why) = read_all(rt, name, input, &mut bytes)? else {
+            return Readable::whole(alloc, bytes);
+        };
+        // (the line that is cut isn't judged)
+        let begun = bytes
+            .iter()
+            .rev()
+            .take_while(|byte| **byte != b'\n')
+            .count();
+        bytes.truncate(bytes.len().saturating_sub(begun));
+        let readable = Readable::whole(alloc, bytes)?;
+        if readable.cut.is_some() {
+            return Ok(readable);
+        }
+        let lines = readable.text.into_bytes();
+        let line = line_behind(&lines);
+        Readable::cut(lines, Cut { line, why })
+    }
+
+    // The text of these bytes, up to the first line that isn't UTF-8.
+    fn whole(alloc: Global, bytes: Vec<u8>) -> Result<Self, Stopped> {
+        let mut bytes = match String::from_utf8(bytes) {
+            Ok(text) => return Ok(Readable { text, cut: None }),
+            Err(error) => error.into_bytes(),
+        };
+        let (before, column) = odd_line(&bytes);
+        bytes.truncate(before);
+        let line = line_behind(&bytes);
+        let text = String::from_str(alloc, "a byte that isn't ASCII")?;
+        let why = Stopped::BadLine(line, Reason { column, text });
+        Readable::cut(bytes, Cut { line, why })
+    }
+
+    // The text of these whole lines, and behind them the line that stands for what can't be read.
+    fn cut(lines: Vec<u8>, cut: Cut) -> Result<Self, Stopped> {
+        let mut lines = lines;
+        lines.extend_from_slice(UNREAD.as_bytes())?;
+        match String::from_utf8(lines) {
+            Ok(text) => Ok(Readable {
+                text,
+                cut: Some(cut),
+            }),
+            Err(_) => Err(cut.why),
+        }
+    }
+
+    pub fn text(&self) -> &str {
+        self.text.as_str()
+    }
+
+    /// How it ends for the input, where it ends so for the text.
+    pub fn outcome(self, outcome: Result<bool, Stopped>) -> Result<bool, Stopped> {
+        match (self.cut, outcome) {
+            (Some(cut), Err(stopped)) if stopped.line() == Some(cut.line) => Err(cut.why),
+            (_, outcome) => outcome,
+        }
+    }
+}
+
+// Reads the input of this name, and says why it isn't read to its end, if it isn't. An error is one that can't be opened, or want of
+// memory.
+fn read_all<R: Files, I: Read>(
     rt: &R,
-    alloc: Global,
     name: &str,
     input: &mut I,
-) -> Result<Vec<u8>, Stopped> {
-    let mut bytes = Vec::new(alloc);
-    if name == "-" {
-        input.read_to_end(&mut bytes)?;
-        return Ok(bytes);
+    bytes: &mut Vec<u8>,
+) -> Result<Option<Stopped>, Stopped> {
+    let read = if name == "-" {
+        input.read_to_end(bytes)
+    } else {
+        let mut file = File::open(rt, name).map_err(Stopped::unopened)?;
+        file.read_to_end(bytes)
+    };
+    match read.map_err(Stopped::unread) {
+        Ok(_) => Ok(None),
+        Err(Stopped::Fault(Fault::OutOfMemory)) => Err(Stopped::Fault(Fault::OutOfMemory)),
+        Err(failed) => Ok(Some(failed)),
     }
-    let mut file = File::open(rt, name).map_err(Stopped::unopened)?;
-    file.read_to_end(&mut bytes)?;
-    Ok(bytes)
+}
+
+// How many bytes stand before the first line that isn't UTF-8, and the column in it of the first byte that isn't ASCII.
+fn odd_line(bytes: &[u8]) -> (usize, usize) {
+    let mut before: usize = 0;
+    for line in bytes.split(|byte| *byte == b'\n') {
+        if str::from_utf8(line).is_err() {
+            let column = line.iter().take_while(|byte| byte.is_ascii()).count();
+            return (before, column.saturating_add(1));
+        }
+        before = before.saturating_add(line.len()).saturating_add(1);
+    }
+    (before, 1)
+}
+
+// The number of the line behind these.
+fn line_behind(lines: &[u8]) -> u64 {
+    let feeds = lines.iter().filter(|byte| **byte == b'\n').count() as u64;
+    feeds.saturating_add(1)
 }
 
 /// Says that a terminal is read, where it is.
@@ -44,32 +156,15 @@ pub fn status<E: Write>(name: &str, outcome: Result<bool, Stopped>, errors: &mut
     match outcome {
         Ok(holds) => u8::from(!holds),
         Err(stopped) => {
-            let name = if name == "-" { "standard input" } else { name };
-            let _ = writeln!(errors, "esync: {name}: {stopped}");
+            let text = if name == "-" { "standard input" } else { name };
+            let _ = match &stopped {
+                Stopped::Unwritten => writeln!(errors, "esync: {stopped}"),
+                _ => writeln!(errors, "esync: {}: {stopped}", Printable { text }),
+            };
             let _ = errors.flush();
             stopped.status()
         }
     }
-}
-
-/// The text of these bytes. One that isn't UTF-8 is a bad line.
-pub fn text_of(alloc: Global, bytes: &[u8]) -> Result<&str, Stopped> {
-    let Err(_) = str::from_utf8(bytes) else {
-        return str::from_utf8(bytes).map_err(|_| Stopped::Fault(Fault::InputOutput));
-    };
-    for (place, line) in bytes.split(|byte| *byte == b'\n').enumerate() {
-        if str::from_utf8(line).is_err() {
-            let number = (place as u64).saturating_add(1);
-            let column = line.iter().take_while(|byte| byte.is_ascii()).count();
-            let text = String::from_str(alloc, "a byte that isn't ASCII")?;
-            let reason = Reason {
-                column: column.saturating_add(1),
-                text,
-            };
-            return Err(Stopped::BadLine(number, reason));
-        }
-    }
-    Err(Stopped::Fault(Fault::InputOutput))
 }
 
 /// The outcome of a play, with the reason why a line is no command, as far as it is still kept.
@@ -81,6 +176,9 @@ pub fn with_reason<R: Drop>(
     let Err(fault) = outcome else {
         return Ok(());
     };
+    if fault == Fault::InputOutput && !kept.has_failed() {
+        return Err(Stopped::Unwritten);
+    }
     let Fault::NotACommand(number) = fault else {
         return Err(Stopped::Fault(fault));
     };

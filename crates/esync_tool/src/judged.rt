@@ -1,4 +1,5 @@
 //! The verdict on a recorded run, for people and as JSON.
+use crate::printable::Printable;
 use crate::stopped::Stopped;
 use esync_check::difference::Difference;
 use esync_check::recording::{Recording, split_line};
@@ -18,7 +19,7 @@ pub fn check<O: Write>(
     output: &mut O,
 ) -> Result<bool, Stopped> {
     let verdict = match check_script(alloc, text)? {
-        Verdict::Another(difference) => Verdict::Another(shortened(alloc, &difference)?),
+        Verdict::Another(difference) => Verdict::Another(shown(alloc, &difference)?),
         run => run,
     };
     print_verdict(text, &verdict, output)?;
@@ -82,6 +83,21 @@ pub fn unjudged_as_json<O: Write>(
 
 // How many characters of a reply are shown. No primitive has a longer one.
 const SHOWN: usize = 1000;
+
+// As people are shown it, with no control character.
+fn shown(alloc: Global, difference: &Difference) -> Result<Difference, AllocError> {
+    let Difference {
+        line,
+        recorded,
+        given,
+    } = shortened(alloc, difference)?;
+    let text = recorded.as_str();
+    Ok(Difference {
+        line,
+        recorded: format!(in alloc; "{}", Printable { text })?,
+        given,
+    })
+}
 
 fn shortened(alloc: Global, difference: &Difference) -> Result<Difference, AllocError> {
     Ok(Difference {

@@ -62,7 +62,7 @@ pub fn calls_of(primitive: &str) -> &'static str {
 pub fn shape_of<'a>(commands: &'a str, name: &str) -> Option<&'a str> {
     for command in commands.split(' ') {
         let (own, shape) = command.split_once(':').unwrap_or((command, ""));
-        if own == name {
+        if own == name && !name.is_empty() {
             return Some(shape);
         }
     }

@@ -16,6 +16,8 @@ mod explored;
 mod inputs;
 mod judged;
 mod language;
+mod printable;
+mod shared;
 mod source;
 mod steps;
 mod stopped;

@@ -1,6 +1,6 @@
 //! What is still there of a script when a line turns out to be no command.
 use std::alloc::{AllocError, Global};
-use std::io::{self, Read};
+use std::io::{self, ErrorKind, Read};
 use std::mem;
 
 // How many bytes are kept at least: a script is read in pieces of 8 KB, and a line is judged before the next piece is read.
@@ -21,6 +21,7 @@ pub struct Keeping<R: Drop> {
     lines: u64,
     // There was no memory for something, so nothing is told.
     is_lost: bool,
+    has_failed: bool,
 }
 
 impl<R: Drop> Keeping<R> {
@@ -34,7 +35,18 @@ impl<R: Drop> Keeping<R> {
             last: Vec::new(alloc),
             lines: 0,
             is_lost: false,
+            has_failed: false,
         }
+    }
+
+    /// A read has failed.
+    pub fn has_failed(&self) -> bool {
+        self.has_failed
+    }
+
+    /// A read has failed behind line 1.
+    pub fn is_cut(&self) -> bool {
+        self.has_failed && self.first_has_ended
     }
 
     /// The word that names the primitive, if line 1 was read.
@@ -84,7 +96,12 @@ impl<R: Drop> Keeping<R> {
 
 impl<R: Read + Drop> Read for Keeping<R> {
     fn read(&mut self, buf: &mut [u8]) -> io::Result<usize> {
-        let count = self.source.read(buf)?;
+        let read = self.source.read(buf);
+        if let Err(error) = &read {
+            // (a read that was interrupted is tried again)
+            self.has_failed = error.kind() != ErrorKind::Interrupted;
+        }
+        let count = read?;
         if self.keep(&buf[..count]).is_err() {
             self.is_lost = true;
         }

@@ -2,11 +2,14 @@
 ghost use Rattle.std.specs.Prelude.{◌≡◌, OnOk, IfErr};
 ghost use Rattle.esync_words.specs.Played.{IsJudged};
 
-use esync_machine::primitive::Answer;
+use esync_base::waitqueue::Registered;
+use esync_machine::primitive::{Answer, Command};
+use esync_machine::run::Machine;
+use esync_words::copied::Copied;
 use esync_words::fault::Fault;
-use esync_words::play::{Giver, Telling};
+use esync_words::play::{Giver, Parts, Telling};
 use esync_words::printing::print_answer;
-use esync_words::vocabulary::Vocabulary;
+use esync_words::vocabulary::{REQS, Vocabulary};
 use std::alloc::{AllocError, Global};
 use std::io::Write;
 
@@ -22,6 +25,8 @@ pub struct Step {
     pub is_pending: bool,
     /// The wakers that were handed out, in order.
     pub wakers: Vec<u64>,
+    /// The requests that waited and that it ended, as a `leave` does.
+    pub ended: Vec<usize>,
 }
 
 /// All steps of a script, of which nothing is written.
@@ -30,6 +35,8 @@ pub struct Steps {
     alloc: Global,
     name: String,
     steps: Vec<Step>,
+    // Which requests may wait.
+    waits: [bool; REQS],
 }
 
 impl Steps {
@@ -39,6 +46,7 @@ impl Steps {
             alloc,
             name: String::new(alloc),
             steps: Vec::new(alloc),
+            waits: [false; REQS],
         }
     }
 
@@ -50,6 +58,46 @@ impl Steps {
     pub fn steps(&self) -> &[Step] {
         &self.steps
     }
+
+    // Notes that a request waits, or that it doesn't.
+    fn put(&mut self, request: usize, waits: bool) {
+        if let Some(place) = self.waits.get_mut(request) {
+            *place = waits;
+        }
+    }
+
+    // The requests that may wait and aren't there any more.
+    fn gone<V, M>(&mut self, machine: &M) -> Result<Vec<usize>, AllocError>
+    where
+        V: Vocabulary,
+        M: Machine<Command = Command<V::Ask, u64, V::Call>> + Copied + Drop,
+        M::Reply: Parts<V::Heard> + Drop,
+    {
+        let mut gone = Vec::new(self.alloc);
+        if !self.waits.contains(&true) {
+            return Ok(gone);
+        }
+        let mut copy = machine.copied()?;
+        for request in 0..REQS {
+            let waits = self.waits.get(request) == Some(&true);
+            if waits && is_gone::<V, M>(&mut copy, request) {
+                self.put(request, false);
+                gone.push(request)?;
+            }
+        }
+        Ok(gone)
+    }
+}
+
+// Whether the machine has no request of this number. It is polled, which ends no other request.
+fn is_gone<V, M>(machine: &mut M, request: usize) -> bool
+where
+    V: Vocabulary,
+    M: Machine<Command = Command<V::Ask, u64, V::Call>> + Drop,
+    M::Reply: Parts<V::Heard> + Drop,
+{
+    let reply = machine.step(Command::Poll(request, u64::MAX));
+    matches!(reply.answer(), Answer::NoSuch)
 }
 
 impl Telling for Steps {
@@ -73,6 +121,11 @@ impl Telling for Steps {
         wakers: &[Option<u64>],
         _output: &mut W,
     ) -> Result<(), Fault> {
+        match giver {
+            Giver::Task { request, .. } => self.put(request, matches!(answer, Answer::Pending)),
+            Giver::Dropper(request) => self.put(request, false),
+            Giver::Starter(_) | Giver::Caller => {}
+        }
         let step = Step {
             number,
             line: String::from_str(self.alloc, line).map_err(refused)?,
@@ -80,8 +133,33 @@ impl Telling for Steps {
             answer: text_of::<V>(self.alloc, answer)?,
             is_pending: matches!(answer, Answer::Pending),
             wakers: listed(self.alloc, wakers).map_err(refused)?,
+            ended: Vec::new(self.alloc),
         };
         self.steps.push(step).map_err(|_| Fault::OutOfMemory)
+    }
+
+    fn look<V, M>(
+        &mut self,
+        giver: Giver,
+        _wakers: &[Option<u64>],
+        machine: &M,
+    ) -> Result<(), Fault>
+    where
+        V: Vocabulary,
+        M: Machine<Command = Command<V::Ask, u64, V::Call>>
+            + Registered<Waker = u64>
+            + Copied
+            + Drop,
+        M::Reply: Parts<V::Heard> + Drop,
+    {
+        if giver != Giver::Caller {
+            return Ok(());
+        }
+        let gone = self.gone::<V, M>(machine).map_err(refused)?;
+        if let Some(step) = self.steps.last_mut() {
+            step.ended = gone;
+        }
+        Ok(())
     }
 
     fn close<W: Write>(&self, _output: &mut W) -> Result<(), Fault> {

@@ -11,8 +11,10 @@ use std::io;
 pub enum Stopped {
     /// It can't be opened.
     Unopened(io::Error),
-    /// A line is no command, a read or a write failed, or memory was refused.
+    /// A line is no command, a read failed, or memory was refused.
     Fault(Fault),
+    /// A write failed.
+    Unwritten,
     /// The line of this number is no command, for this reason.
     BadLine(u64, Reason),
     /// The line of this number has no reply.
@@ -30,18 +32,39 @@ impl Stopped {
         Stopped::Unopened(error)
     }
 
+    /// Why an input that can be opened can't be read.
+    pub fn unread(error: io::Error) -> Stopped {
+        if error.kind() == io::ErrorKind::OutOfMemory {
+            return Stopped::Fault(Fault::OutOfMemory);
+        }
+        Stopped::Fault(Fault::InputOutput)
+    }
+
     /// Why an input is not gone through, where all is written to memory: a write that failed had none.
     pub fn of_memory(self) -> Stopped {
         match self {
-            Stopped::Fault(Fault::InputOutput) => Stopped::Fault(Fault::OutOfMemory),
+            Stopped::Unwritten | Stopped::Fault(Fault::InputOutput) => {
+                Stopped::Fault(Fault::OutOfMemory)
+            }
             other => other,
+        }
+    }
+
+    /// The number of the line that is bad, if one is.
+    pub fn line(&self) -> Option<u64> {
+        match self {
+            Stopped::Fault(Fault::NotACommand(line))
+            | Stopped::BadLine(line, _)
+            | Stopped::NoReply(line)
+            | Stopped::BadSystem(line, _) => Some(*line),
+            Stopped::Unopened(_) | Stopped::Unwritten | Stopped::Fault(_) => None,
         }
     }
 
     /// The status of a program that ends so.
     pub fn status(&self) -> u8 {
         match self {
-            Stopped::Unopened(_) => 3,
+            Stopped::Unopened(_) | Stopped::Unwritten => 3,
             Stopped::Fault(fault) => fault.status(),
             Stopped::BadLine(_, _) | Stopped::NoReply(_) | Stopped::BadSystem(_, _) => 2,
         }
@@ -53,6 +76,7 @@ impl Display for Stopped {
         match self {
             Stopped::Unopened(error) => write!(f, "{error}"),
             Stopped::Fault(fault) => write!(f, "{fault}"),
+            Stopped::Unwritten => write!(f, "standard output: {}", Fault::InputOutput),
             Stopped::BadLine(line, reason) => {
                 write!(
                     f,
@@ -74,12 +98,13 @@ impl From<Fault> for Stopped {
     }
 }
 
+/// Why a write failed.
 impl From<io::Error> for Stopped {
     fn from(error: io::Error) -> Stopped {
         if error.kind() == io::ErrorKind::OutOfMemory {
             return Stopped::Fault(Fault::OutOfMemory);
         }
-        Stopped::Fault(Fault::InputOutput)
+        Stopped::Unwritten
     }
 }
 

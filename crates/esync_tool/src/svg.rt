@@ -3,7 +3,7 @@
 //! The picture is a function of the steps of a script, as they are told while it is played. There is a lane for the primitive, for
 //! who calls, and for each task, by its waker. A row has the number of its line, the command above the arrow from who gives it, and
 //! the answer below. Each wake is an arrow. A bar in a task's lane stands from the poll that was answered Pending to the wake, or to
-//! the next poll or the end of that request. A page has 50 lines, and bars go on from one to the next.
+//! the next poll or the end of that request, be it by a `leave`. A page has 50 lines, and bars go on from one to the next.
 use crate::steps::{Step, Steps};
 use crate::stopped::Stopped;
 use esync_words::play::Giver;
@@ -70,7 +70,7 @@ struct Waiting {
     from: u64,
 }
 
-/// What ends a wait: the request was polled or dropped, or the task was woken.
+/// What ends a wait: the request was polled or is over, or the task was woken.
 #[derive(Clone, Copy)]
 enum Over {
     Request(usize),
@@ -228,6 +228,9 @@ impl Pages {
             }
             Giver::Dropper(request) => self.end(y, bars, Over::Request(request))?,
             Giver::Starter(_) | Giver::Caller => {}
+        }
+        for request in step.ended.iter() {
+            self.end(y, bars, Over::Request(*request))?;
         }
         let mut at = y.saturating_add(ANSWER);
         for waker in step.wakers.iter() {

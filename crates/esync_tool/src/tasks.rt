@@ -2,8 +2,10 @@
 use crate::Streams;
 use crate::by_line::ByLine;
 use crate::explored::{Form, explore};
-use crate::inputs::{hint, read_all, reasoned, status, text_of, with_reason};
+use crate::inputs::{Readable, hint, reasoned, status, with_reason};
 use crate::judged::{check, check_as_json, unjudged_as_json};
+use crate::printable::Printable;
+use crate::shared::{compared, played};
 use crate::source::Keeping;
 use crate::steps::Steps;
 use crate::stopped::Stopped;
@@ -11,10 +13,7 @@ use crate::svg::draw;
 use clap::ArgMatches;
 use esync_ends::gauge::Gauge;
 use esync_ends::{Progress, Reaches, try_ends};
-use esync_forms::form::{Door, Doors};
 use esync_script::{play_buffered, play_script, play_text};
-use esync_shared::compare::compare;
-use esync_shared::play::play;
 use esync_words::beside::Beside;
 use esync_words::diagram::Diagram;
 use esync_words::explain::Explained;
@@ -132,7 +131,12 @@ fn told_of<T: Telling, S: Read + Drop, O: Write + Drop>(
     output: &mut O,
 ) -> Result<(), Stopped> {
     let mut kept = Keeping::new(alloc, source);
-    let outcome = play_buffered(alloc, telling, &mut kept, output);
+    let outcome = play_buffered(alloc, telling, &mut kept, &mut *output);
+    if kept.is_cut() {
+        // (what was begun on line 1 ends where a read failed, too)
+        telling.close(output).map_err(|_| Stopped::Unwritten)?;
+        output.flush()?;
+    }
     with_reason(alloc, outcome, &kept)
 }
 
@@ -339,8 +343,8 @@ where
     I: Read + Drop,
     P: Progress,
 {
-    let bytes = read_all(rt, alloc, name, input)?;
-    let text = text_of(alloc, &bytes)?;
+    let readable = Readable::of(rt, alloc, name, input)?;
+    let text = readable.text();
     let holds = match what {
         Work::Check => check(alloc, text, false, told),
         Work::CheckWithReasons => check(alloc, text, true, told),
@@ -354,7 +358,8 @@ where
         Work::Explore(form, limit) => explore(alloc, name, text, form, limit, told),
     };
     // (what is told is kept in memory, so that a write that fails has none)
-    holds.map_err(|stopped| reasoned(alloc, stopped.of_memory(), text))
+    let holds = holds.map_err(|stopped| reasoned(alloc, stopped.of_memory(), text));
+    readable.outcome(holds)
 }
 
 // Writes what is told of a file, behind its name where there are several.
@@ -367,7 +372,8 @@ fn write_told<O: Write>(
     if told.is_empty() {
         return Ok(());
     }
-    if let Some(heading) = heading {
+    if let Some(text) = heading {
+        let heading = Printable { text };
         let behind = match what {
             Work::Shared | Work::Explore(_, _) => "\n",
             _ => " ",
@@ -392,27 +398,4 @@ fn drawn(alloc: Global, text: &str, output: &mut Vec<u8>) -> Result<bool, Stoppe
     outcome?;
     played?;
     Ok(true)
-}
-
-// Plays a script over a shared form, and writes its replies.
-fn played<R: Wait, O: Write>(
-    rt: &R,
-    alloc: Global,
-    text: &str,
-    output: &mut O,
-) -> Result<bool, Stopped> {
-    play(rt, alloc, Doors::from(Door::Own), text, output)?;
-    Ok(true)
-}
-
-// Whether a shared form answers as the machine does, by each way, which is written.
-fn compared<R: Wait, O: Write>(
-    rt: &R,
-    alloc: Global,
-    text: &str,
-    output: &mut O,
-) -> Result<bool, Stopped> {
-    let found = compare(rt, alloc, text)?;
-    writeln!(output, "{found}")?;
-    Ok(found.is_alike())
 }
