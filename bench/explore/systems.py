@@ -88,7 +88,6 @@ def main(folder, kind, number, repeat):
     for path, lines in ((f"{name}.system", as_system(objects, tasks)), (f"{name}.pml", as_promela(globals_, tasks))):
         with open(path, "w", encoding="utf-8") as it:
             it.write("\n".join(lines) + "\n")
-    print(name)
 
 
 if __name__ == "__main__":
