@@ -90,10 +90,15 @@ impl Readable {
 
     /// How it ends for the input, where it ends so for the text.
     pub fn outcome(self, outcome: Result<bool, Stopped>) -> Result<bool, Stopped> {
-        match (self.cut, outcome) {
-            (Some(cut), Err(stopped)) if stopped.line() == Some(cut.line) => Err(cut.why),
-            (_, outcome) => outcome,
-        }
+        let Readable { cut, .. } = self;
+        let Some(cut) = cut else {
+            return outcome;
+        };
+        let stops_there = match &outcome {
+            Ok(_) => false,
+            Err(stopped) => stopped.line() == Some(cut.line),
+        };
+        if stops_there { Err(cut.why) } else { outcome }
     }
 }
 
