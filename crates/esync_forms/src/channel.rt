@@ -17,10 +17,16 @@ pub struct Channel<'c, S, H> {
     doors: Doors,
 }
 
+/// A future that sends. A variant with the future itself, which has a model, gets no proof where it is taken out.
+#[derive(Drop)]
+pub struct Sending<'c, S: Store, H: Hand<u64>> {
+    future: SendFuture<'c, SharedMailbox<S, u64, H>>,
+}
+
 /// A future, or a request that is polled by calls that take a context.
 #[derive(Drop)]
 pub enum Held<'c, S: Store, H: Hand<u64>> {
-    Send(SendFuture<'c, SharedMailbox<S, u64, H>>),
+    Send(Sending<'c, S, H>),
     TrySend(u32),
     Receive(ReceiveFuture<'c, SharedMailbox<S, u64, H>>),
     TryReceive,
@@ -101,8 +107,12 @@ impl<'c, S: Store<Message = u32>, H: Hand<u64>> Channel<'c, S, H> {
             return Held::TrySend(message);
         }
         match self.doors.next() {
-            Door::Own => Held::Send(self.channel.send(message)),
-            Door::Handle | Door::Dynamic => Held::Send(self.sender.send(message)),
+            Door::Own => Held::Send(Sending {
+                future: self.channel.send(message),
+            }),
+            Door::Handle | Door::Dynamic => Held::Send(Sending {
+                future: self.sender.send(message),
+            }),
         }
     }
 
@@ -183,14 +193,15 @@ impl<'c, S: Store<Message = u32>, H: Hand<u64>> Channel<'c, S, H> {
 }
 
 fn send<'c, S: Store<Message = u32>, H: Hand<u64>>(
-    mut future: SendFuture<'c, SharedMailbox<S, u64, H>>,
+    sending: Sending<'c, S, H>,
     cx: &Context<u64>,
 ) -> Turn<ChannelHeard<u32>, Held<'c, S, H>> {
+    let Sending { mut future } = sending;
     if future.is_finished() {
         return over();
     }
     let polled = future.poll(cx);
-    is_ready(polled, Held::Send(future))
+    is_ready(polled, Held::Send(Sending { future }))
 }
 
 fn receive<'c, S: Store<Message = u32>, H: Hand<u64>>(
