@@ -118,7 +118,7 @@ impl Vocabulary for PipeWords {
 
     fn place(number: usize) -> Option<Place> {
         match number {
-            0 => Some(Place::of("the readers", "bytes came")),
+            0 => Some(Place::of("the readers", "a write came")),
             1 => Some(Place::of("the writers", "there may be room")),
             _ => None,
         }

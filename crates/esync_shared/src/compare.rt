@@ -26,6 +26,7 @@ impl Found {
 impl Display for Found {
     fn fmt<W: fmt::Write>(&self, f: &mut Formatter<W>) -> fmt::Result {
         match self {
+            Found::Alike(1) => f.write_str("1 reply, as the machine's"),
             Found::Alike(count) => write!(f, "{count} replies, as the machine's"),
             Found::Another(count, first) => {
                 write!(f, "another reply after {count}, where {first} comes first")

@@ -12,7 +12,7 @@ pub struct Reason {
     pub text: String,
 }
 
-// How many letters a name may differ from the one that is suggested for it.
+// How many edits at most make a name the one that is suggested for it.
 const NEAR: usize = 2;
 
 /// Why this line of a script is no command. Line 1 has no primitive before it. `None` where nothing is known.
@@ -108,6 +108,10 @@ fn of_call(
         return Ok(Some(Reason { column: 1, text }));
     }
     let kind = format!(in alloc; "command of {primitive}")?;
+    if shape_of(&calls, name).is_none() {
+        let named = format!(in alloc; "{calls} {}", asks_of(primitive))?;
+        return unknown(alloc, name, 1, &kind, &named);
+    }
     commanded(alloc, line, 1, &kind, &calls)
 }
 
@@ -160,7 +164,8 @@ fn unknown(
     Ok(Some(Reason { column, text }))
 }
 
-// The name that is nearest to this one, if one is near. Two letters that changed places are one edit, and a capital is none.
+// The name that is nearest to this one, if one is near. Two letters that changed places are one edit, and a capital is none. Of names
+// that are equally near one with the same first letter is taken.
 fn nearest<'a>(
     alloc: Global,
     name: &str,
@@ -168,16 +173,29 @@ fn nearest<'a>(
 ) -> Result<Option<&'a str>, AllocError> {
     let name = name.to_ascii_lowercase(alloc)?;
     let mut best = None;
-    let mut least = NEAR.saturating_add(1).min(name.len());
+    let mut least = usize::MAX;
     for command in commands.split(' ') {
         let (own, _) = command.split_once(':').unwrap_or((command, ""));
         let edits = osa_distance(alloc, name.as_str(), own)?;
-        if edits < least {
-            least = edits;
+        let begins_so = own.bytes().next() == name.bytes().next();
+        let distance = edits
+            .saturating_mul(2)
+            .saturating_add(usize::from(!begins_so));
+        if edits <= near(own.len().min(name.len())) && distance < least {
+            least = distance;
             best = Some(own);
         }
     }
     Ok(best)
+}
+
+// How many edits may make a name of so many letters another one.
+fn near(letters: usize) -> usize {
+    match letters {
+        0 | 1 => 0,
+        2 | 3 => 1,
+        _ => NEAR,
+    }
 }
 
 // Why the words behind a name, from this column on, aren't those that its letters ask for.

@@ -197,12 +197,13 @@ pub fn with_reason<R: Drop>(
     }
 }
 
-/// Why a text was not gone through, with the reason why a line is no command. What a recorded run has behind a command isn't looked at.
-pub fn reasoned(alloc: Global, stopped: Stopped, text: &str) -> Stopped {
+/// Why a text was not gone through, with the reason why a line is no command. What stands behind a command of a recorded run isn't
+/// looked at.
+pub fn reasoned(alloc: Global, stopped: Stopped, text: &str, is_recorded: bool) -> Stopped {
     let Stopped::Fault(Fault::NotACommand(number)) = stopped else {
         return stopped;
     };
-    match reason_in(alloc, number, text) {
+    match reason_in(alloc, number, text, is_recorded) {
         Ok(Some(reason)) => Stopped::BadLine(number, reason),
         Ok(None) => Stopped::Fault(Fault::NotACommand(number)),
         Err(_) => Stopped::Fault(Fault::OutOfMemory),
@@ -213,6 +214,7 @@ fn reason_in(
     alloc: Global,
     number: u64,
     text: &str,
+    is_recorded: bool,
 ) -> Result<Option<Reason>, std::alloc::AllocError> {
     let mut lines = text.split('\n');
     let first = lines.next().unwrap_or("");
@@ -221,6 +223,9 @@ fn reason_in(
         return reason_of(alloc, None, first.as_bytes());
     }
     let line = lines.nth((number - 2) as usize).unwrap_or("");
-    let (command, _) = line.split_once(" => ").unwrap_or((line, ""));
+    let command = match line.split_once(" => ") {
+        Some((command, _)) if is_recorded => command,
+        _ => line,
+    };
     reason_of(alloc, Some(name), command.as_bytes())
 }

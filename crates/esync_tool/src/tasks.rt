@@ -211,6 +211,14 @@ enum Work {
 }
 
 impl Work {
+    // Each file is a recorded run, whose lines have replies.
+    fn is_recorded(self) -> bool {
+        matches!(
+            self,
+            Work::Check | Work::CheckWithReasons | Work::CheckAsJson
+        )
+    }
+
     // Each file has a line of JSON.
     fn is_json(self) -> bool {
         matches!(self, Work::CheckAsJson | Work::Explore(Form::Json, _))
@@ -358,7 +366,8 @@ where
         Work::Explore(form, limit) => explore(alloc, name, text, form, limit, told),
     };
     // (what is told is kept in memory, so that a write that fails has none)
-    let holds = holds.map_err(|stopped| reasoned(alloc, stopped.of_memory(), text));
+    let is_recorded = what.is_recorded();
+    let holds = holds.map_err(|stopped| reasoned(alloc, stopped.of_memory(), text, is_recorded));
     readable.outcome(holds)
 }
 
