@@ -1,4 +1,4 @@
-//! How a test says that a growth was refused: by a line, which `tools/refused-growths` reads.
+//! How a test says that a growth was refused: by a line, which `tools/refused-calls` reads.
 
 /// What the test tries was refused.
 pub fn says_refused(rt: &impl Print) {
