@@ -1,7 +1,5 @@
 -- The verdict on a recorded run.
 use Rattle.std.specs.Prelude.{◌≡◌, ℕ, ◌+◌, ◌-◌, ◌^◌, min, Bool, true, false, ◌==◌, List, [], ◌∷◌, ◌++◌, Some, Result, Ok, codes, decimal, string_bytes}
-use Rattle.std.proofs.Common.{nat_eq, nat_cmp}
-use Rattle.esync_priority.specs.Prio.{greater, less}
 use Rattle.esync_words.specs.declared.fault.Fault.{Fault}
 use Rattle.esync_words.specs.Fault.{message_of as fault_message}
 use Rattle.esync_words.specs.Story.{replies_story}
@@ -17,7 +15,7 @@ use Rattle.esync_check.specs.declared.Verdict.TheVariants.{Run, Another}
 -- A script is played with this outcome, and its replies have this text: a line each, of the answer and all its wakers.
 abbrev pub Replies : List ℕ → List ℕ → Result (Unit {0}) Fault → Type 0
 Replies script replies outcome =
-    PlaysScript nat_eq (greater nat_cmp) (less nat_cmp) replies_story (Some script) (Some []) (Some replies) outcome
+    PlaysScript replies_story (Some script) (Some []) (Some replies) outcome
 
 -- A text is the record of a run of so many commands, of the primitive that its line 1 names: its script is played to
 -- its end, and the replies are those that were recorded.

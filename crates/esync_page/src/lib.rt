@@ -13,9 +13,10 @@
 ghost use Rattle.std.specs.Prelude.{◌≡◌, [], Some, IfErr, take};
 ghost use Rattle.esync_page.specs.Ended.{line_of};
 ghost use Rattle.esync_script.specs.Opening.{PlaysScript, status_of_outcome};
+ghost use Rattle.esync_words.specs.Explained.{explained_story};
+ghost use Rattle.esync_words.specs.Story.{replies_story};
 
 use crate::row::Row;
-use esync_priority::prio::{Kind, Max, Min};
 use esync_script::play_bytes;
 use esync_words::explain::Explained;
 use esync_words::fault::Fault;
@@ -47,7 +48,7 @@ pub extern "C" fn explain(text: &[u8], answers: &mut Row, notes: &mut Row, line:
 ///
 /// Returns which line is no command, or that the row has no room.
 pub fn play_into(text: &[u8], answers: &mut Row) -> Result<(), Fault>
-    ensures plays { PlaysScript ⟦<u64 as PartialEq>⟧.eq ⟦<Max as Kind<u32>>⟧.above ⟦<Min as Kind<u32>>⟧.above ⟦<Replies as Telling>⟧.story (Some text.now) (Some []) (Some (take answers.new.len answers.new.bytes)) result }
+    ensures plays { PlaysScript replies_story (Some text.now) (Some []) (Some (take answers.new.len answers.new.bytes)) result }
     ensures err { IfErr result (λ fault. fault ≡ Fault.InputOutput → ⊥) }
 {
     answers.clear();
@@ -64,7 +65,7 @@ pub fn play_into(text: &[u8], answers: &mut Row) -> Result<(), Fault>
 ///
 /// Returns which line is no command, or that a row has no room.
 pub fn explain_into<'n>(text: &[u8], answers: &mut Row, notes: &'n mut Row) -> Result<(), Fault>
-    ensures plays { PlaysScript ⟦<u64 as PartialEq>⟧.eq ⟦<Max as Kind<u32>>⟧.above ⟦<Min as Kind<u32>>⟧.above ⟦<Explained<&'n mut Row> as Telling>⟧.story (Some text.now) (Some []) (Some (take answers.new.len answers.new.bytes)) result }
+    ensures plays { PlaysScript explained_story (Some text.now) (Some []) (Some (take answers.new.len answers.new.bytes)) result }
     ensures err { IfErr result (λ fault. fault ≡ Fault.InputOutput → ⊥) }
 {
     answers.clear();
@@ -78,7 +79,7 @@ pub fn explain_into<'n>(text: &[u8], answers: &mut Row, notes: &'n mut Row) -> R
 // Plays a script, and writes what is told of it into an empty row.
 fn play_row<T: Telling>(telling: &mut T, text: &[u8], row: &mut Row) -> Result<(), Fault>
     requires { take row.old.len row.old.bytes ≡ [] }
-    ensures { PlaysScript ⟦<u64 as PartialEq>⟧.eq ⟦<Max as Kind<u32>>⟧.above ⟦<Min as Kind<u32>>⟧.above T.story (Some text.now) (Some []) (Some (take row.new.len row.new.bytes)) result }
+    ensures { PlaysScript T.story (Some text.now) (Some []) (Some (take row.new.len row.new.bytes)) result }
 {
     play_bytes(telling, text, row)
 }

@@ -1,6 +1,7 @@
 -- The words of a channel, and the text of what it tells.
-use Rattle.std.specs.Prelude.{ℕ, List, ◌++◌, codes, decimal, Option, None, Ok, Err, if◌then◌else◌, [], Bool}
+use Rattle.std.specs.Prelude.{ℕ, List, ◌++◌, codes, decimal, Option, None, Ok, Err, if◌then◌else◌, []}
 use Rattle.std.specs.Option.{option_map}
+use Rattle.std.proofs.Common.{nat_eq}
 use Rattle.esync_channel.specs.declared.channel.TrySendError.TheVariants.{Full}
 use Rattle.esync_channel.specs.declared.channel.TryReceiveError.TheVariants.{Empty}
 use Rattle.esync_channel.specs.declared.channel.machine.ChannelAsk.{ChannelAsk}
@@ -46,5 +47,5 @@ abbrev pub nobody_waits : Slots ℕ
 nobody_waits = record { receivers = []; senders = [] }
 
 -- a channel or a priority channel that keeps its messages in this way
-abbrev pub channel_setting : (ℕ → ℕ → Bool) → Keeping ℕ → Setting
-channel_setting eq keeping = setting_of 1 (channel_rules keeping) (channel_wakings eq keeping) channel_asks channel_calls channel_text [] nobody_waits
+abbrev pub channel_setting : Keeping ℕ → Setting
+channel_setting keeping = setting_of 1 (channel_rules keeping) (channel_wakings nat_eq keeping) channel_asks channel_calls channel_text [] nobody_waits

@@ -1,6 +1,7 @@
 -- The words of a mutex of two values, and the text of what it tells.
-use Rattle.std.specs.Prelude.{ℕ, List, ◌++◌, codes, decimal, Option, None, Ok, Err, if◌then◌else◌, [], false, Bool}
+use Rattle.std.specs.Prelude.{ℕ, List, ◌++◌, codes, decimal, Option, None, Ok, Err, if◌then◌else◌, [], false}
 use Rattle.std.specs.Option.{option_map}
+use Rattle.std.proofs.Common.{nat_eq}
 use Rattle.esync_guards.specs.declared.mutex.machine.Lock.{Lock}
 use Rattle.esync_guards.specs.declared.mutex.machine.MutexCall.{MutexCall}
 use Rattle.esync_guards.specs.declared.mutex.machine.MutexCall.TheVariants.{TryLock, Read, Write, Map, WritePart}
@@ -43,5 +44,5 @@ second v = v.1
 abbrev pub with_second : ℕ × ℕ → ℕ → ℕ × ℕ
 with_second v x = (v.0, x)
 
-abbrev pub mutex_setting : (ℕ → ℕ → Bool) → ℕ → ℕ → Setting
-mutex_setting eq v x = setting_of 1 (mutex_rules second with_second) (mutex_wakings eq) mutex_asks mutex_calls mutex_text (a_free_lock v x) []
+abbrev pub mutex_setting : ℕ → ℕ → Setting
+mutex_setting v x = setting_of 1 (mutex_rules second with_second) (mutex_wakings nat_eq) mutex_asks mutex_calls mutex_text (a_free_lock v x) []

@@ -1,12 +1,13 @@
 -- Line 1 of a script, and what is played behind it.
-use Rattle.std.specs.Prelude.{◌≡◌, ℕ, ◌==◌, Bool, List, Option, Some, None, ◌⊎◌, Result, Ok, Err, if◌then◌else◌, codes}
+use Rattle.std.specs.Prelude.{◌≡◌, ℕ, ◌==◌, List, Option, Some, None, ◌⊎◌, Result, Ok, Err, if◌then◌else◌, codes}
 use Rattle.std.specs.Option.{option_map, unwrap_or}
 use Rattle.std.specs.Io.KnownBytes.{Appends}
+use Rattle.std.specs.Ordering.{nat_cmp}
 use Rattle.esync_base.specs.Keeping.{BoundedList}
 use Rattle.esync_machine.specs.declared.primitive.Answer.{Answer}
 use Rattle.esync_machine.specs.declared.primitive.Command.{Command}
 use Rattle.esync_machine.specs.Runs.{Meaning}
-use Rattle.esync_priority.specs.Prio.{Bag}
+use Rattle.esync_priority.specs.Prio.{Bag, greater, less}
 use Rattle.esync_words.specs.declared.fault.Fault.{Fault}
 use Rattle.esync_words.specs.Fault.{status_of}
 use Rattle.esync_words.specs.Words.{is_text, and_then, one, two, number_and_values}
@@ -69,48 +70,52 @@ opening name words =
     else if is_text name (codes "watch") then and_then (one_or_two 64 32 words) (λ p. option_map (λ c. Watch c p.1) (capacity p.0))
     else None
 
--- the setting of the primitive that line 1 names, by an equality of wakers and two orders of messages by priority
-abbrev pub setting : (eq max_above min_above : ℕ → ℕ → Bool) → Opening → Setting
-setting eq max_above min_above (Channel c) = channel_setting eq (BoundedList ℕ (places c))
-setting eq max_above min_above (Max c) = channel_setting eq (Bag ℕ max_above (places c))
-setting eq max_above min_above (Min c) = channel_setting eq (Bag ℕ min_above (places c))
-setting eq max_above min_above Signal = signal_setting eq
-setting eq max_above min_above (Greedy permits) = greedy_setting eq permits
-setting eq max_above min_above (Fair c permits) = fair_setting (places c) permits
-setting eq max_above min_above (Pipe c) = pipe_setting eq (places c)
-setting eq max_above min_above (PubSub c first) = pubsub_setting eq (places c) first
-setting eq max_above min_above Once = once_setting
-setting eq max_above min_above (Lazy v) = lazy_setting v
-setting eq max_above min_above (Mutex v x) = mutex_setting eq v x
-setting eq max_above min_above (Watch c value) = watch_setting eq (places c) value
-setting eq max_above min_above (Zerocopy c) = zero_setting eq (places c)
+-- the setting of the primitive that line 1 names
+abbrev pub setting : Opening → Setting
+setting (Channel c) = channel_setting (BoundedList ℕ (places c))
+setting (Max c) = channel_setting (Bag ℕ (greater nat_cmp) (places c))
+setting (Min c) = channel_setting (Bag ℕ (less nat_cmp) (places c))
+setting Signal = signal_setting
+setting (Greedy permits) = greedy_setting permits
+setting (Fair c permits) = fair_setting (places c) permits
+setting (Pipe c) = pipe_setting (places c)
+setting (PubSub c first) = pubsub_setting (places c) first
+setting Once = once_setting
+setting (Lazy v) = lazy_setting v
+setting (Mutex v x) = mutex_setting v x
+setting (Watch c value) = watch_setting (places c) value
+setting (Zerocopy c) = zero_setting (places c)
 
 -- Behind lines that were played, the foot is written. The script's outcome is theirs, unless a write or memory failed.
 abbrev pub Closes : List ℕ → Option (List ℕ) → Option (List ℕ) → Result (Unit {0}) Fault → Result (Unit {0}) Fault → Type 0
 Closes foot before after played outcome = IsJudged outcome → (outcome ≡ played) × Appends before after foot
 
 -- The statement `plays` on the lines behind line n and on the named primitive's machine, which begins as line 1 says.
-module _ (eq : ℕ → ℕ → Bool) (plays : (Q C A Reply : Type 0) (M : Meaning (Command Q ℕ C) Reply ℕ) → (List ℕ → Option (Command Q ℕ C)) → (A → List ℕ) → (Reply → Answer A) → (Reply → List ℕ) → M.Object → M.Registered → ℕ → Option (List ℕ) → Option (List ℕ) → Option (List ℕ) → Result (Unit {0}) Fault → Type 0) where
-  abbrev pub Plays : (max_above min_above : ℕ → ℕ → Bool) → Opening → ℕ → Option (List ℕ) → Option (List ℕ) → Option (List ℕ) → Result (Unit {0}) Fault → Type 0
-  Plays max_above min_above o n left before after outcome = PlaysFrom eq plays (setting eq max_above min_above o) n left before after outcome
+module _ (plays : (Q C A Reply : Type 0) (M : Meaning (Command Q ℕ C) Reply ℕ) → (List ℕ → Option (Command Q ℕ C)) → (A → List ℕ) → (Reply → Answer A) → (Reply → List ℕ) → M.Object → M.Registered → ℕ → Option (List ℕ) → Option (List ℕ) → Option (List ℕ) → Result (Unit {0}) Fault → Type 0) where
+  abbrev pub Plays : Opening → ℕ → Option (List ℕ) → Option (List ℕ) → Option (List ℕ) → Result (Unit {0}) Fault → Type 0
+  Plays o n left before after outcome = PlaysFrom plays (setting o) n left before after outcome
 
 -- A whole script. Line 1 names a primitive, the story tells of it, the lines behind it are played, and the foot is
 -- written. Or line 1 names none; or a read, a write or memory failed before.
-abbrev pub PlaysBehind : (eq max_above min_above : ℕ → ℕ → Bool) (S : Story) → (S.Notes → S.Notes → (Q C A Reply : Type 0) (M : Meaning (Command Q ℕ C) Reply ℕ) → (List ℕ → Option (Command Q ℕ C)) → (A → List ℕ) → (Reply → Answer A) → (Reply → List ℕ) → M.Object → M.Registered → ℕ → Option (List ℕ) → Option (List ℕ) → Option (List ℕ) → Result (Unit {0}) Fault → Type 0) → Option (List ℕ) → Option (List ℕ) → Option (List ℕ) → Result (Unit {0}) Fault → Type 0
-PlaysBehind eq max_above min_above S plays left before after outcome =
-    ((o : Opening) × (was now : S.Notes) × (rest mid last : Option (List ℕ)) × (played : Result (Unit {0}) Fault) × Opened (says opening) S o was left rest before mid × Plays eq (plays was now) max_above min_above o 1 rest mid last played × Closes S.foot last after played outcome)
+abbrev pub PlaysBehind : (S : Story) → (S.Notes → S.Notes → (Q C A Reply : Type 0) (M : Meaning (Command Q ℕ C) Reply ℕ) → (List ℕ → Option (Command Q ℕ C)) → (A → List ℕ) → (Reply → Answer A) → (Reply → List ℕ) → M.Object → M.Registered → ℕ → Option (List ℕ) → Option (List ℕ) → Option (List ℕ) → Result (Unit {0}) Fault → Type 0) → Option (List ℕ) → Option (List ℕ) → Option (List ℕ) → Result (Unit {0}) Fault → Type 0
+PlaysBehind S plays left before after outcome =
+    ((o : Opening) × (was now : S.Notes) × (rest mid last : Option (List ℕ)) × (played : Result (Unit {0}) Fault) × Opened (says opening) S o was left rest before mid × Plays (plays was now) o 1 rest mid last played × Closes S.foot last after played outcome)
     ⊎ ((fault : Fault) × (outcome ≡ Err fault) × (IsJudged (Err fault) → NotOpened (says opening) fault left before after))
 
 -- A whole script, whose lines are given to the primitive as commands, and of which the story is written.
-abbrev pub PlaysScript : (eq max_above min_above : ℕ → ℕ → Bool) → Story → Option (List ℕ) → Option (List ℕ) → Option (List ℕ) → Result (Unit {0}) Fault → Type 0
-PlaysScript eq max_above min_above S left before after outcome = PlaysBehind eq max_above min_above S (plays_and_tells S) left before after outcome
+abbrev pub PlaysScript : Story → Option (List ℕ) → Option (List ℕ) → Option (List ℕ) → Result (Unit {0}) Fault → Type 0
+PlaysScript S left before after outcome = PlaysBehind S (plays_and_tells S) left before after outcome
 
 -- A script with this outcome was played up to it: to its end, or to a line that is no command.
-abbrev pub EndsScript : (eq max_above min_above : ℕ → ℕ → Bool) → Story → Option (List ℕ) → Result (Unit {0}) Fault → Type 0
-EndsScript eq max_above min_above S left outcome =
-    IsJudged outcome → (before after : Option (List ℕ)) × PlaysScript eq max_above min_above S left before after outcome
+abbrev pub EndsScript : Story → Option (List ℕ) → Result (Unit {0}) Fault → Type 0
+EndsScript S left outcome =
+    IsJudged outcome → (before after : Option (List ℕ)) × PlaysScript S left before after outcome
 
 -- the status of a script with this outcome
 abbrev pub status_of_outcome : Result (Unit {0}) Fault → ℕ
 status_of_outcome (Ok _) = 0
 status_of_outcome (Err fault) = status_of fault
+
+-- a script that was played up to its outcome has this status
+abbrev pub EndsWith : Story → Option (List ℕ) → ℕ → Type 0
+EndsWith S left status = (outcome : Result (Unit {0}) Fault) × (status ≡ status_of_outcome outcome) × EndsScript S left outcome

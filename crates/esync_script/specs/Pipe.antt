@@ -1,6 +1,7 @@
 -- The words of a pipe, and the text of what it tells.
-use Rattle.std.specs.Prelude.{ℕ, List, ◌++◌, codes, decimal, Option, None, Result, Ok, Err, if◌then◌else◌, [], Bool}
+use Rattle.std.specs.Prelude.{ℕ, List, ◌++◌, codes, decimal, Option, None, Result, Ok, Err, if◌then◌else◌, []}
 use Rattle.std.specs.Option.{option_map}
+use Rattle.std.proofs.Common.{nat_eq}
 use Rattle.esync_pipe.specs.declared.pipe.TryReadError.{TryReadError}
 use Rattle.esync_pipe.specs.declared.pipe.TryReadError.TheVariants.{Empty}
 use Rattle.esync_pipe.specs.declared.pipe.TryWriteError.TheVariants.{Full}
@@ -68,5 +69,5 @@ abbrev pub no_slot : PipeSlots ℕ
 no_slot = record { readers = []; writers = [] }
 
 -- a pipe, whose steps hand out two wakers at most
-abbrev pub pipe_setting : (ℕ → ℕ → Bool) → ℕ → Setting
-pipe_setting eq places = setting_of 2 (pipe_rules places) (pipe_wakings eq places) pipe_asks pipe_calls pipe_text an_empty_pipe no_slot
+abbrev pub pipe_setting : ℕ → Setting
+pipe_setting places = setting_of 2 (pipe_rules places) (pipe_wakings nat_eq places) pipe_asks pipe_calls pipe_text an_empty_pipe no_slot

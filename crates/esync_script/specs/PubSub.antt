@@ -1,6 +1,7 @@
 -- The words of publishers and subscribers, and the text of what they hear.
-use Rattle.std.specs.Prelude.{ℕ, List, ◌++◌, codes, decimal, Option, Some, None, Ok, Err, if◌then◌else◌, [], Bool}
+use Rattle.std.specs.Prelude.{ℕ, List, ◌++◌, codes, decimal, Option, Some, None, Ok, Err, if◌then◌else◌, []}
 use Rattle.std.specs.Option.{option_map}
+use Rattle.std.proofs.Common.{nat_eq}
 use Rattle.esync_pubsub.specs.declared.pubsub.Error.TheVariants.{MaximumSubscribersReached, MaximumPublishersReached}
 use Rattle.esync_log.specs.declared.log.TryPublishError.TheVariants.{Full, Exhausted}
 use Rattle.esync_log.specs.declared.log.WaitResult.{WaitResult}
@@ -81,5 +82,5 @@ abbrev pub no_lists : Lists ℕ
 no_lists = record { subscribers = []; publishers = [] }
 
 -- a channel of `places` messages for four subscribers and four publishers, whose steps hand out four wakers at most
-abbrev pub pubsub_setting : (ℕ → ℕ → Bool) → ℕ → ℕ → Setting
-pubsub_setting eq places first = setting_of 4 (pubsub_rules IsSame NeedsNone places 4) (pubsub_wakings eq 4 4) pubsub_asks pubsub_calls pubsub_text (a_new_topic first) no_lists
+abbrev pub pubsub_setting : ℕ → ℕ → Setting
+pubsub_setting places first = setting_of 4 (pubsub_rules IsSame NeedsNone places 4) (pubsub_wakings nat_eq 4 4) pubsub_asks pubsub_calls pubsub_text (a_new_topic first) no_lists

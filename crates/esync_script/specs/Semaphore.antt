@@ -1,6 +1,7 @@
 -- The words of the semaphores, and the text of what they tell.
-use Rattle.std.specs.Prelude.{ℕ, List, ◌++◌, codes, decimal, Option, None, Result, Ok, Err, if◌then◌else◌, [], Bool}
+use Rattle.std.specs.Prelude.{ℕ, List, ◌++◌, codes, decimal, Option, None, Result, Ok, Err, if◌then◌else◌, []}
 use Rattle.std.specs.Option.{option_map}
+use Rattle.std.proofs.Common.{nat_eq}
 use Rattle.esync_permits.specs.declared.semaphore.Amount.{Amount}
 use Rattle.esync_permits.specs.declared.semaphore.Amount.TheVariants.{Exactly, AllFrom}
 use Rattle.esync_permits.specs.declared.semaphore.WaitQueueFull.{WaitQueueFull}
@@ -41,8 +42,8 @@ abbrev pub fair_text : Result ℕ WaitQueueFull → List ℕ
 fair_text (Ok permits) = decimal permits
 fair_text (Err e) = codes "Err(WaitQueueFull)"
 
-abbrev pub greedy_setting : (ℕ → ℕ → Bool) → ℕ → Setting
-greedy_setting eq permits = setting_of 1 greedy_rules (greedy_wakings eq) permit_asks permit_calls (permit_text decimal) permits []
+abbrev pub greedy_setting : ℕ → Setting
+greedy_setting permits = setting_of 1 greedy_rules (greedy_wakings nat_eq) permit_asks permit_calls (permit_text decimal) permits []
 
 -- this many permits, and no request in the queue
 abbrev pub an_empty_queue : ℕ → PermitQueue

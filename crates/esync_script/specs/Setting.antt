@@ -1,5 +1,6 @@
 -- What a script needs of a primitive, and what is played of the script.
-use Rattle.std.specs.Prelude.{◌≡◌, ℕ, Bool, List, Option, None, Result}
+use Rattle.std.specs.Prelude.{◌≡◌, ℕ, List, Option, None, Result}
+use Rattle.std.proofs.Common.{nat_eq}
 use Rattle.std.proofs.Math.ListN.{replicate}
 use Rattle.esync_machine.specs.declared.primitive.Answer.{Answer}
 use Rattle.esync_machine.specs.declared.primitive.Command.{Command}
@@ -61,7 +62,7 @@ abbrev pub NeedsNone : ℕ → Type 0
 NeedsNone v = Unit {0}
 
 -- The statement `plays` on the lines behind line n and on the primitive's machine, which begins without requests.
-module _ (eq : ℕ → ℕ → Bool) (plays : (Q C A Reply : Type 0) (M : Meaning (Command Q ℕ C) Reply ℕ) → (List ℕ → Option (Command Q ℕ C)) → (A → List ℕ) → (Reply → Answer A) → (Reply → List ℕ) → M.Object → M.Registered → ℕ → Option (List ℕ) → Option (List ℕ) → Option (List ℕ) → Result (Unit {0}) Fault → Type 0) where
+module _ (plays : (Q C A Reply : Type 0) (M : Meaning (Command Q ℕ C) Reply ℕ) → (List ℕ → Option (Command Q ℕ C)) → (A → List ℕ) → (Reply → Answer A) → (Reply → List ℕ) → M.Object → M.Registered → ℕ → Option (List ℕ) → Option (List ℕ) → Option (List ℕ) → Result (Unit {0}) Fault → Type 0) where
   abbrev pub PlaysFrom : Setting → ℕ → Option (List ℕ) → Option (List ℕ) → Option (List ℕ) → Result (Unit {0}) Fault → Type 0
   PlaysFrom s n left before after outcome =
-      plays s.Ask s.Call s.Heard (Reply (Answer s.Heard) ℕ s.most) (requests_meaning s.rules s.wakings eq s.most) (says (command s.asks s.calls)) s.text (λ a. a.answer) (λ a. a.wakes) (new_object s.core) s.registered n left before after outcome
+      plays s.Ask s.Call s.Heard (Reply (Answer s.Heard) ℕ s.most) (requests_meaning s.rules s.wakings nat_eq s.most) (says (command s.asks s.calls)) s.text (λ a. a.answer) (λ a. a.wakes) (new_object s.core) s.registered n left before after outcome

@@ -1,6 +1,7 @@
 -- The words of a signal, and the text of what it tells.
-use Rattle.std.specs.Prelude.{ℕ, List, ◌++◌, codes, decimal, true, false, Option, None, if◌then◌else◌, [], Bool}
+use Rattle.std.specs.Prelude.{ℕ, List, ◌++◌, codes, decimal, true, false, Option, None, if◌then◌else◌, []}
 use Rattle.std.specs.Option.{option_map}
+use Rattle.std.proofs.Common.{nat_eq}
 use Rattle.esync_cells.specs.declared.signal.machine.Wait.{Wait}
 use Rattle.esync_cells.specs.declared.signal.machine.SignalCall.{SignalCall}
 use Rattle.esync_cells.specs.declared.signal.machine.SignalCall.TheVariants.{Signal, Reset, TryTake, Signaled as AskSignaled}
@@ -31,5 +32,5 @@ signal_text (Taken taken) = option_text taken
 signal_text (Signaled true) = codes "true"
 signal_text (Signaled false) = codes "false"
 
-abbrev pub signal_setting : (ℕ → ℕ → Bool) → Setting
-signal_setting eq = setting_of 1 (signal_rules ℕ) (signal_wakings eq) signal_asks signal_calls signal_text None []
+abbrev pub signal_setting : Setting
+signal_setting = setting_of 1 (signal_rules ℕ) (signal_wakings nat_eq) signal_asks signal_calls signal_text None []

@@ -1,6 +1,7 @@
 -- The words of a watch, the text of what it tells, and what its changes and tests mean.
 use Rattle.std.specs.Prelude.{◌≡◌, ℕ, ◌+◌, ◌%◌, ◌^◌, ◌==◌, Bool, true, false, List, ◌++◌, codes, decimal, Option, Some, None, Ok, Err, if◌then◌else◌, refl, [], nat_lt}
 use Rattle.std.specs.Option.{option_map}
+use Rattle.std.proofs.Common.{nat_eq}
 use Rattle.esync_cells.specs.declared.watch.machine.Await.{Await}
 use Rattle.esync_cells.specs.declared.watch.machine.Reading.TheVariants.{Get, Changed, GetAnd, ChangedAnd}
 use Rattle.esync_cells.specs.declared.watch.machine.WatchCall.{WatchCall}
@@ -88,5 +89,5 @@ abbrev pub passes : Below → ℕ → Bool
 passes below value = nat_lt value below.limit
 
 -- a watch, whose steps hand out as many wakers at most as there are counted receivers
-abbrev pub watch_setting : (ℕ → ℕ → Bool) → ℕ → Option ℕ → Setting
-watch_setting eq places value = setting_of places (watch_rules places IsSame NeedsNone changed tells_change passes) (watch_wakings eq places tells_change) watch_asks watch_calls watch_text (a_new_watch value) []
+abbrev pub watch_setting : ℕ → Option ℕ → Setting
+watch_setting places value = setting_of places (watch_rules places IsSame NeedsNone changed tells_change passes) (watch_wakings nat_eq places tells_change) watch_asks watch_calls watch_text (a_new_watch value) []

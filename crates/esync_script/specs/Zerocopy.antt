@@ -1,6 +1,7 @@
 -- The words of a zero-copy channel, and the text of what it tells.
-use Rattle.std.specs.Prelude.{ℕ, List, ◌++◌, codes, decimal, Option, Some, None, Ok, Err, if◌then◌else◌, [], Bool}
+use Rattle.std.specs.Prelude.{ℕ, List, ◌++◌, codes, decimal, Option, Some, None, Ok, Err, if◌then◌else◌, []}
 use Rattle.std.specs.Option.{option_map}
+use Rattle.std.proofs.Common.{nat_eq}
 use Rattle.esync_zerocopy.specs.declared.zerocopy_channel.Side.{Side}
 use Rattle.esync_zerocopy.specs.declared.zerocopy_channel.Side.TheVariants.{Sender, Receiver}
 use Rattle.esync_zerocopy.specs.declared.zerocopy_channel.machine.Lent.{Lent}
@@ -57,5 +58,5 @@ zero_slots n = record { sides = all_spare n; values = replicate n 0 }
 abbrev pub no_side_waits : Waiting ℕ
 no_side_waits = record { senders = []; receivers = [] }
 
-abbrev pub zero_setting : (ℕ → ℕ → Bool) → ℕ → Setting
-zero_setting eq places = setting_of 1 (zero_rules ℕ) (zero_wakings eq) zero_asks zero_calls zero_text (zero_slots places) no_side_waits
+abbrev pub zero_setting : ℕ → Setting
+zero_setting places = setting_of 1 (zero_rules ℕ) (zero_wakings nat_eq) zero_asks zero_calls zero_text (zero_slots places) no_side_waits

@@ -88,7 +88,7 @@ impl<const N: usize> Scripted<ChannelWords> for Listed<N> {
 
     ghost CanBegin = { λ first. N ≤ 8 };
 
-    ghost IsNew = { λ first m. BeginsAs (channel_setting ⟦<u64 as PartialEq>⟧.eq (BoundedList ℕ N)) (Self.semantics.object m) (Self.semantics.registrations m) };
+    ghost IsNew = { λ first m. BeginsAs (channel_setting (BoundedList ℕ N)) (Self.semantics.object m) (Self.semantics.registrations m) };
 
     fn begin(_first: ()) -> Self {
         Requests::new(Mailbox::new())
@@ -108,7 +108,7 @@ impl<Q: Kind<u32>, const N: usize> Scripted<ChannelWords> for Prioritized<Q, N> 
 
     ghost CanBegin = { λ first. N ≤ 8 };
 
-    ghost IsNew = { λ first m. BeginsAs (channel_setting ⟦<u64 as PartialEq>⟧.eq (Bag ℕ Q.above N)) (Self.semantics.object m) (Self.semantics.registrations m) };
+    ghost IsNew = { λ first m. BeginsAs (channel_setting (Bag ℕ Q.above N)) (Self.semantics.object m) (Self.semantics.registrations m) };
 
     fn begin(_first: ()) -> Self {
         Requests::new(Mailbox::new())

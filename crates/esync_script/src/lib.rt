@@ -1,10 +1,12 @@
 //! Scripts: commands for one primitive, a line each, and the lines that answer them.
 #![tactic(auto)]
 
-ghost use Rattle.std.specs.Prelude.{◌≡◌, ◌⊎◌, Result, Some, Err, IsOk, OnOk, IfErr};
-ghost use Rattle.esync_script.specs.Opening.{PlaysScript, EndsScript, status_of_outcome};
+ghost use Rattle.std.specs.Prelude.{◌≡◌, ◌⊎◌, Some, Err, IsOk, OnOk, IfErr};
+ghost use Rattle.esync_script.specs.Opening.{PlaysScript, EndsScript, EndsWith, status_of_outcome};
+ghost use Rattle.esync_words.specs.Diagram.{diagram_story};
+ghost use Rattle.esync_words.specs.Explained.{explained_story};
+ghost use Rattle.esync_words.specs.Story.{replies_story};
 
-use esync_priority::prio::{Kind, Max, Min};
 use esync_words::diagram::Diagram;
 use esync_words::explain::Explained;
 use esync_words::fault::Fault;
@@ -48,7 +50,7 @@ pub fn script<R: Read + Drop, W: Write + Drop, E: Write + Drop>(
     output: W,
     errors: E,
 ) -> u8
-    ensures { (outcome : Result (Unit {0}) Fault) × (result ≡ status_of_outcome outcome) × EndsScript ⟦<u64 as PartialEq>⟧.eq ⟦<Max as Kind<u32>>⟧.above ⟦<Min as Kind<u32>>⟧.above ⟦<Replies as Telling>⟧.story (R.remaining input) outcome }
+    ensures { EndsWith replies_story (R.remaining input) result }
 {
     run(alloc, &mut Replies {}, input, output, errors)
 }
@@ -65,7 +67,7 @@ pub fn trace<R: Read + Drop, W: Write + Drop, E: Write + Drop>(
     output: W,
     errors: E,
 ) -> u8
-    ensures { (outcome : Result (Unit {0}) Fault) × (result ≡ status_of_outcome outcome) × EndsScript ⟦<u64 as PartialEq>⟧.eq ⟦<Max as Kind<u32>>⟧.above ⟦<Min as Kind<u32>>⟧.above ⟦<Diagram as Telling>⟧.story (R.remaining input) outcome }
+    ensures { EndsWith diagram_story (R.remaining input) result }
 {
     run(alloc, &mut Diagram {}, input, output, errors)
 }
@@ -84,7 +86,7 @@ pub fn explain<R: Read + Drop, W: Write + Drop, N: Write + Drop, E: Write + Drop
     notes: N,
     errors: E,
 ) -> u8
-    ensures { (outcome : Result (Unit {0}) Fault) × (result ≡ status_of_outcome outcome) × EndsScript ⟦<u64 as PartialEq>⟧.eq ⟦<Max as Kind<u32>>⟧.above ⟦<Min as Kind<u32>>⟧.above ⟦<Explained<N> as Telling>⟧.story (R.remaining input) outcome }
+    ensures { EndsWith explained_story (R.remaining input) result }
 {
     let mut explained = Explained::new(notes);
     let outcome = play_script(alloc, &mut explained, input, &mut output);
@@ -105,7 +107,7 @@ pub fn play_script<T: Telling, R: Read + Drop, W: Write>(
     input: R,
     output: &mut W,
 ) -> Result<(), Fault>
-    ensures { PlaysScript ⟦<u64 as PartialEq>⟧.eq ⟦<Max as Kind<u32>>⟧.above ⟦<Min as Kind<u32>>⟧.above T.story (R.remaining input) (W.contents output.old) (W.contents output.new) result }
+    ensures { PlaysScript T.story (R.remaining input) (W.contents output.old) (W.contents output.new) result }
 {
     match Lines::buffered(alloc, input) {
         Ok(mut lines) => opening::play_lines(telling, &mut lines, output),
@@ -124,7 +126,7 @@ pub fn play_bytes<T: Telling, W: Write>(
     text: &[u8],
     output: &mut W,
 ) -> Result<(), Fault>
-    ensures { PlaysScript ⟦<u64 as PartialEq>⟧.eq ⟦<Max as Kind<u32>>⟧.above ⟦<Min as Kind<u32>>⟧.above T.story (Some text.now) (W.contents output.old) (W.contents output.new) result }
+    ensures { PlaysScript T.story (Some text.now) (W.contents output.old) (W.contents output.new) result }
 {
     let mut lines = Lines::new(text);
     opening::play_lines(telling, &mut lines, output)
@@ -137,7 +139,7 @@ pub fn play_bytes<T: Telling, W: Write>(
 /// Returns which line is no command, or that memory was refused, be it for `output`. No read or write of the script
 /// fails.
 pub fn play_text<T: Telling>(telling: &mut T, text: &str, output: &mut Vec<u8>) -> Result<(), Fault>
-    ensures plays { PlaysScript ⟦<u64 as PartialEq>⟧.eq ⟦<Max as Kind<u32>>⟧.above ⟦<Min as Kind<u32>>⟧.above T.story (Some text.now) (Some output.old.items) (Some output.new.items) result }
+    ensures plays { PlaysScript T.story (Some text.now) (Some output.old.items) (Some output.new.items) result }
     ensures err { IfErr result (λ fault. fault ≡ Fault.InputOutput → ⊥) }
 {
     match play_bytes(telling, text.as_bytes(), output) {
@@ -153,7 +155,7 @@ fn run<T: Telling, R: Read + Drop, W: Write + Drop, E: Write + Drop>(
     output: W,
     errors: E,
 ) -> u8
-    ensures { (outcome : Result (Unit {0}) Fault) × (result ≡ status_of_outcome outcome) × EndsScript ⟦<u64 as PartialEq>⟧.eq ⟦<Max as Kind<u32>>⟧.above ⟦<Min as Kind<u32>>⟧.above T.story (R.remaining input) outcome }
+    ensures { EndsWith T.story (R.remaining input) result }
 {
     status(play_buffered(alloc, telling, input, output), errors)
 }
@@ -187,7 +189,7 @@ pub fn play_buffered<T: Telling, R: Read + Drop, W: Write + Drop>(
     input: R,
     output: W,
 ) -> Result<(), Fault>
-    ensures { EndsScript ⟦<u64 as PartialEq>⟧.eq ⟦<Max as Kind<u32>>⟧.above ⟦<Min as Kind<u32>>⟧.above T.story (R.remaining input) result }
+    ensures { EndsScript T.story (R.remaining input) result }
 {
     let mut output = BufWriter::new(alloc, output).map_err(|_| Fault::OutOfMemory)?;
     let outcome = play_script(alloc, telling, input, &mut output);

@@ -81,7 +81,7 @@ impl Scripted<MutexWords> for MutexRun<(u32, u32), u32, Second, u64, REQS, 1> {
     ghost use Rattle.esync_script.specs.Mutex.{mutex_setting};
     ghost use Rattle.esync_script.specs.Setting.{BeginsAs};
 
-    ghost IsNew = { λ value m. BeginsAs (mutex_setting ⟦<u64 as PartialEq>⟧.eq value.0 value.1) (Self.semantics.object m) (Self.semantics.registrations m) };
+    ghost IsNew = { λ value m. BeginsAs (mutex_setting value.0 value.1) (Self.semantics.object m) (Self.semantics.registrations m) };
 
     fn begin(value: (u32, u32)) -> Self {
         Requests::new(Guarded::new(value, Second {}))

@@ -168,7 +168,7 @@ fn serve_list<const N: usize, P: Player<R, W>, R: ByteSource, W: Write>(
     output: &mut W,
 ) -> Result<(), Fault>
     requires { N ≤ 8 }
-    ensures { PlaysFrom ⟦<u64 as PartialEq>⟧.eq (P.plays player.old player.new) (channel_setting ⟦<u64 as PartialEq>⟧.eq (BoundedList ℕ N)) lines.old.number lines.old.left (W.contents output.old) (W.contents output.new) result }
+    ensures { PlaysFrom (P.plays player.old player.new) (channel_setting (BoundedList ℕ N)) lines.old.number lines.old.left (W.contents output.old) (W.contents output.new) result }
 {
     serve::<ChannelWords, Listed<N>, P, R, W>(player, (), lines, output)
 }
@@ -179,7 +179,7 @@ fn serve_channel<P: Player<R, W>, R: ByteSource, W: Write>(
     lines: &mut Lines<R>,
     output: &mut W,
 ) -> Result<(), Fault>
-    ensures { PlaysFrom ⟦<u64 as PartialEq>⟧.eq (P.plays player.old player.new) (channel_setting ⟦<u64 as PartialEq>⟧.eq (BoundedList ℕ (places capacity))) lines.old.number lines.old.left (W.contents output.old) (W.contents output.new) result }
+    ensures { PlaysFrom (P.plays player.old player.new) (channel_setting (BoundedList ℕ (places capacity))) lines.old.number lines.old.left (W.contents output.old) (W.contents output.new) result }
 {
     at_capacity!(capacity => at_places!(serve_list::<P, R, W>(player, lines, output)))
 }
@@ -191,7 +191,7 @@ fn serve_bag<const N: usize, Q: Kind<u32>, P: Player<R, W>, R: ByteSource, W: Wr
     output: &mut W,
 ) -> Result<(), Fault>
     requires { N ≤ 8 }
-    ensures { PlaysFrom ⟦<u64 as PartialEq>⟧.eq (P.plays player.old player.new) (channel_setting ⟦<u64 as PartialEq>⟧.eq (Bag ℕ Q.above N)) lines.old.number lines.old.left (W.contents output.old) (W.contents output.new) result }
+    ensures { PlaysFrom (P.plays player.old player.new) (channel_setting (Bag ℕ Q.above N)) lines.old.number lines.old.left (W.contents output.old) (W.contents output.new) result }
 {
     serve::<ChannelWords, Prioritized<Q, N>, P, R, W>(player, (), lines, output)
 }
@@ -202,7 +202,7 @@ fn serve_priority<Q: Kind<u32>, P: Player<R, W>, R: ByteSource, W: Write>(
     lines: &mut Lines<R>,
     output: &mut W,
 ) -> Result<(), Fault>
-    ensures { PlaysFrom ⟦<u64 as PartialEq>⟧.eq (P.plays player.old player.new) (channel_setting ⟦<u64 as PartialEq>⟧.eq (Bag ℕ Q.above (places capacity))) lines.old.number lines.old.left (W.contents output.old) (W.contents output.new) result }
+    ensures { PlaysFrom (P.plays player.old player.new) (channel_setting (Bag ℕ Q.above (places capacity))) lines.old.number lines.old.left (W.contents output.old) (W.contents output.new) result }
 {
     at_capacity!(capacity => at_places!(serve_bag::<Q, P, R, W>(player, lines, output)))
 }
@@ -215,7 +215,7 @@ fn serve_queue<const N: usize, P: Player<R, W>, R: ByteSource, W: Write>(
     output: &mut W,
 ) -> Result<(), Fault>
     requires { N ≤ 8 }
-    ensures { PlaysFrom ⟦<u64 as PartialEq>⟧.eq (P.plays player.old player.new) (fair_setting N permits) lines.old.number lines.old.left (W.contents output.old) (W.contents output.new) result }
+    ensures { PlaysFrom (P.plays player.old player.new) (fair_setting N permits) lines.old.number lines.old.left (W.contents output.old) (W.contents output.new) result }
 {
     serve::<FairWords, Queued<N>, P, R, W>(player, permits, lines, output)
 }
@@ -227,7 +227,7 @@ fn serve_fair<P: Player<R, W>, R: ByteSource, W: Write>(
     lines: &mut Lines<R>,
     output: &mut W,
 ) -> Result<(), Fault>
-    ensures { PlaysFrom ⟦<u64 as PartialEq>⟧.eq (P.plays player.old player.new) (fair_setting (places capacity) permits) lines.old.number lines.old.left (W.contents output.old) (W.contents output.new) result }
+    ensures { PlaysFrom (P.plays player.old player.new) (fair_setting (places capacity) permits) lines.old.number lines.old.left (W.contents output.old) (W.contents output.new) result }
 {
     at_capacity!(capacity => at_places!(serve_queue::<P, R, W>(player, permits, lines, output)))
 }
@@ -239,7 +239,7 @@ fn serve_bytes<const N: usize, P: Player<R, W>, R: ByteSource, W: Write>(
     output: &mut W,
 ) -> Result<(), Fault>
     requires { N ≤ 8 }
-    ensures { PlaysFrom ⟦<u64 as PartialEq>⟧.eq (P.plays player.old player.new) (pipe_setting ⟦<u64 as PartialEq>⟧.eq N) lines.old.number lines.old.left (W.contents output.old) (W.contents output.new) result }
+    ensures { PlaysFrom (P.plays player.old player.new) (pipe_setting N) lines.old.number lines.old.left (W.contents output.old) (W.contents output.new) result }
 {
     serve::<PipeWords, Ring<N>, P, R, W>(player, (), lines, output)
 }
@@ -250,7 +250,7 @@ fn serve_pipe<P: Player<R, W>, R: ByteSource, W: Write>(
     lines: &mut Lines<R>,
     output: &mut W,
 ) -> Result<(), Fault>
-    ensures { PlaysFrom ⟦<u64 as PartialEq>⟧.eq (P.plays player.old player.new) (pipe_setting ⟦<u64 as PartialEq>⟧.eq (places capacity)) lines.old.number lines.old.left (W.contents output.old) (W.contents output.new) result }
+    ensures { PlaysFrom (P.plays player.old player.new) (pipe_setting (places capacity)) lines.old.number lines.old.left (W.contents output.old) (W.contents output.new) result }
 {
     at_capacity!(capacity => at_places!(serve_bytes::<P, R, W>(player, lines, output)))
 }
@@ -264,7 +264,7 @@ fn serve_value<const N: usize, P: Player<R, W>, R: ByteSource, W: Write>(
 ) -> Result<(), Fault>
     requires some { 1 ≤ N }
     requires few { N ≤ 8 }
-    ensures { PlaysFrom ⟦<u64 as PartialEq>⟧.eq (P.plays player.old player.new) (watch_setting ⟦<u64 as PartialEq>⟧.eq N value) lines.old.number lines.old.left (W.contents output.old) (W.contents output.new) result }
+    ensures { PlaysFrom (P.plays player.old player.new) (watch_setting N value) lines.old.number lines.old.left (W.contents output.old) (W.contents output.new) result }
 {
     serve::<WatchWords, Counted<N>, P, R, W>(player, value, lines, output)
 }
@@ -276,7 +276,7 @@ fn serve_watch<P: Player<R, W>, R: ByteSource, W: Write>(
     lines: &mut Lines<R>,
     output: &mut W,
 ) -> Result<(), Fault>
-    ensures { PlaysFrom ⟦<u64 as PartialEq>⟧.eq (P.plays player.old player.new) (watch_setting ⟦<u64 as PartialEq>⟧.eq (places capacity) value) lines.old.number lines.old.left (W.contents output.old) (W.contents output.new) result }
+    ensures { PlaysFrom (P.plays player.old player.new) (watch_setting (places capacity) value) lines.old.number lines.old.left (W.contents output.old) (W.contents output.new) result }
 {
     at_capacity!(capacity => at_places!(serve_value::<P, R, W>(player, value, lines, output)))
 }
@@ -293,7 +293,7 @@ fn serve_topic<L: LogStore<Message = u32> + Kept, P: Player<R, W>, R: ByteSource
     requires subscribers { L.places ≡ 4 }
     requires object { ⟦<Topic<L> as Machine>⟧.semantics.object machine ≡ new_object (a_new_topic first) }
     requires registrations { ⟦<Topic<L> as Machine>⟧.semantics.registrations machine ≡ no_lists }
-    ensures { PlaysFrom ⟦<u64 as PartialEq>⟧.eq (P.plays player.old player.new) (pubsub_setting ⟦<u64 as PartialEq>⟧.eq L.capacity first) lines.old.number lines.old.left (W.contents output.old) (W.contents output.new) result }
+    ensures { PlaysFrom (P.plays player.old player.new) (pubsub_setting L.capacity first) lines.old.number lines.old.left (W.contents output.old) (W.contents output.new) result }
 {
     let _ = first;
     player.play::<PubSubWords, Topic<L>>(machine, lines, output)
@@ -306,7 +306,7 @@ fn serve_pubsub<P: Player<R, W>, R: ByteSource, W: Write>(
     lines: &mut Lines<R>,
     output: &mut W,
 ) -> Result<(), Fault>
-    ensures { PlaysFrom ⟦<u64 as PartialEq>⟧.eq (P.plays player.old player.new) (pubsub_setting ⟦<u64 as PartialEq>⟧.eq (places capacity) first) lines.old.number lines.old.left (W.contents output.old) (W.contents output.new) result }
+    ensures { PlaysFrom (P.plays player.old player.new) (pubsub_setting (places capacity) first) lines.old.number lines.old.left (W.contents output.old) (W.contents output.new) result }
 {
     at_capacity!(capacity => topic_at!(player, first, lines, output))
 }
@@ -319,7 +319,7 @@ fn serve_slots<const N: usize, P: Player<R, W>, R: ByteSource, W: Write>(
 ) -> Result<(), Fault>
     requires some { 0 < N }
     requires few { N ≤ 8 }
-    ensures { PlaysFrom ⟦<u64 as PartialEq>⟧.eq (P.plays player.old player.new) (zero_setting ⟦<u64 as PartialEq>⟧.eq N) lines.old.number lines.old.left (W.contents output.old) (W.contents output.new) result }
+    ensures { PlaysFrom (P.plays player.old player.new) (zero_setting N) lines.old.number lines.old.left (W.contents output.old) (W.contents output.new) result }
 {
     serve::<ZeroWords, Slotted<N>, P, R, W>(player, (), lines, output)
 }
@@ -330,7 +330,7 @@ fn serve_zerocopy<P: Player<R, W>, R: ByteSource, W: Write>(
     lines: &mut Lines<R>,
     output: &mut W,
 ) -> Result<(), Fault>
-    ensures { PlaysFrom ⟦<u64 as PartialEq>⟧.eq (P.plays player.old player.new) (zero_setting ⟦<u64 as PartialEq>⟧.eq (places capacity)) lines.old.number lines.old.left (W.contents output.old) (W.contents output.new) result }
+    ensures { PlaysFrom (P.plays player.old player.new) (zero_setting (places capacity)) lines.old.number lines.old.left (W.contents output.old) (W.contents output.new) result }
 {
     at_capacity!(capacity => at_places!(serve_slots::<P, R, W>(player, lines, output)))
 }
@@ -342,7 +342,7 @@ fn serve_opening<P: Player<R, W>, R: ByteSource, W: Write>(
     lines: &mut Lines<R>,
     output: &mut W,
 ) -> Result<(), Fault>
-    ensures { Plays ⟦<u64 as PartialEq>⟧.eq (P.plays player.old player.new) ⟦<Max as Kind<u32>>⟧.above ⟦<Min as Kind<u32>>⟧.above opening lines.old.number lines.old.left (W.contents output.old) (W.contents output.new) result }
+    ensures { Plays (P.plays player.old player.new) opening lines.old.number lines.old.left (W.contents output.old) (W.contents output.new) result }
 {
     match opening {
         Opening::Channel(capacity) => serve_channel(player, capacity, lines, output),
@@ -405,7 +405,7 @@ pub fn play_lines<T: Telling, R: ByteSource, W: Write>(
     output: &mut W,
 ) -> Result<(), Fault>
     requires { lines.old.number ≡ 0 }
-    ensures { PlaysScript ⟦<u64 as PartialEq>⟧.eq ⟦<Max as Kind<u32>>⟧.above ⟦<Min as Kind<u32>>⟧.above T.story lines.old.left (W.contents output.old) (W.contents output.new) result }
+    ensures { PlaysScript T.story lines.old.left (W.contents output.old) (W.contents output.new) result }
 {
     match open::<Opening, T, R, W>(telling, lines, output) {
         Ok(opening) => {
@@ -428,7 +428,7 @@ pub fn play_with<P: Player<R, W>, R: ByteSource, W: Write>(
     output: &mut W,
 ) -> Result<(), Fault>
     requires { lines.old.number ≡ 0 }
-    ensures { PlaysBehind ⟦<u64 as PartialEq>⟧.eq ⟦<Max as Kind<u32>>⟧.above ⟦<Min as Kind<u32>>⟧.above replies_story (λ was now. P.plays player.old player.new) lines.old.left (W.contents output.old) (W.contents output.new) result }
+    ensures { PlaysBehind replies_story (λ was now. P.plays player.old player.new) lines.old.left (W.contents output.old) (W.contents output.new) result }
 {
     match open::<Opening, Replies, R, W>(&mut Replies {}, lines, output) {
         Ok(opening) => {

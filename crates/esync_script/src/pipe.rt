@@ -137,7 +137,7 @@ impl<const N: usize> Scripted<PipeWords> for Ring<N> {
 
     ghost CanBegin = { λ first. N ≤ 8 };
 
-    ghost IsNew = { λ first m. BeginsAs (pipe_setting ⟦<u64 as PartialEq>⟧.eq N) (Self.semantics.object m) (Self.semantics.registrations m) };
+    ghost IsNew = { λ first m. BeginsAs (pipe_setting N) (Self.semantics.object m) (Self.semantics.registrations m) };
 
     fn begin(_first: ()) -> Self {
         Requests::new(PipeRows::new())

@@ -161,7 +161,7 @@ impl Scripted<GreedyWords> for GreedyRun<u64, REQS, 1> {
     ghost use Rattle.esync_script.specs.Semaphore.{greedy_setting};
     ghost use Rattle.esync_script.specs.Setting.{BeginsAs};
 
-    ghost IsNew = { λ permits m. BeginsAs (greedy_setting ⟦<u64 as PartialEq>⟧.eq permits) (Self.semantics.object m) (Self.semantics.registrations m) };
+    ghost IsNew = { λ permits m. BeginsAs (greedy_setting permits) (Self.semantics.object m) (Self.semantics.registrations m) };
 
     fn begin(permits: usize) -> Self {
         Requests::new(GreedyState::new(permits))

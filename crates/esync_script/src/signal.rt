@@ -70,7 +70,7 @@ impl Scripted<SignalWords> for SignalRun<u32, u64, REQS, 1> {
     ghost use Rattle.esync_script.specs.Setting.{BeginsAs};
     ghost use Rattle.esync_script.specs.Signal.{signal_setting};
 
-    ghost IsNew = { λ first m. BeginsAs (signal_setting ⟦<u64 as PartialEq>⟧.eq) (Self.semantics.object m) (Self.semantics.registrations m) };
+    ghost IsNew = { λ first m. BeginsAs (signal_setting) (Self.semantics.object m) (Self.semantics.registrations m) };
 
     fn begin(_first: ()) -> Self {
         Requests::new(SignalState::new())

@@ -181,7 +181,7 @@ impl<const N: usize> Scripted<WatchWords> for Counted<N> {
 
     ghost CanBegin = { λ value. (1 ≤ N) × (N ≤ 8) };
 
-    ghost IsNew = { λ value m. BeginsAs (watch_setting ⟦<u64 as PartialEq>⟧.eq N value) (Self.semantics.object m) (Self.semantics.registrations m) };
+    ghost IsNew = { λ value m. BeginsAs (watch_setting N value) (Self.semantics.object m) (Self.semantics.registrations m) };
 
     fn begin(value: Option<u32>) -> Self {
         match value {

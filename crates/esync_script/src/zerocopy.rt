@@ -107,7 +107,7 @@ impl<const N: usize> Scripted<ZeroWords> for Slotted<N> {
 
     ghost CanBegin = { λ first. (0 < N) × (N ≤ 8) };
 
-    ghost IsNew = { λ first m. BeginsAs (zero_setting ⟦<u64 as PartialEq>⟧.eq N) (Self.semantics.object m) (Self.semantics.registrations m) };
+    ghost IsNew = { λ first m. BeginsAs (zero_setting N) (Self.semantics.object m) (Self.semantics.registrations m) };
 
     fn begin(_first: ()) -> Self {
         Requests::new(RowState::new(ArrayVec::from([0; N])))

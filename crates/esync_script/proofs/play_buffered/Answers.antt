@@ -1,6 +1,5 @@
-use Rattle.std.proofs.Common.{◌≡◌, ◌⊎◌, ℕ, List, nat_eq, nat_cmp, inl, inr, subst, sym, T}
+use Rattle.std.proofs.Common.{◌≡◌, ◌⊎◌, ℕ, List, inl, inr, subst, sym, T}
 use Rattle.std.specs.Prelude.{Option, Result, Ok, Err, IsOk, OnOk, IfErr}
-use Rattle.esync_priority.specs.Prio.{greater, less}
 use Rattle.esync_words.specs.declared.fault.Fault.{Fault}
 use Rattle.esync_words.specs.declared.fault.Fault.TheVariants.{InputOutput}
 use Rattle.esync_words.specs.Played.{IsJudged}
@@ -21,5 +20,5 @@ judged Q before after (Err fault) outcome ok err p j = elim err [
 
 pub returns : goal.returns
 returns g c j =
-    judged (λ b a outcome. PlaysScript nat_eq (greater nat_cmp) (less nat_cmp) g.T.Telling.story (g.R.Read.remaining c.args.input) b a outcome) _ _ _ _
+    judged (λ b a outcome. PlaysScript g.T.Telling.story (g.R.Read.remaining c.args.input) b a outcome) _ _ _ _
     c.finish.ensures.ok c.finish.ensures.err c.play_script-outcome.ensures j
