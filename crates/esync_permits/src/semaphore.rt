@@ -4,7 +4,7 @@
 //! The state forms take `&mut self`, hold no lock and never wait. Each call appends the wakers that it hands out to the
 //! list of wakes that it is given, and the caller wakes their tasks. A registration in a greedy semaphore hands out the
 //! waker that it displaces.
-ghost use Rattle.std.specs.Prelude.{◌≡◌, ℕ, ◌<◌, ◌-◌, ◌^◌, ◌++◌, [], length, nat_lt, ◌↔◌, Some, None, true, false, IsTrue, IsSome, IfSome, is_some, is_none};
+ghost use Rattle.std.specs.Prelude.{◌≡◌, ℕ, ◌<◌, ◌++◌, [], length, nat_lt, ◌↔◌, Some, None, true, false, IsTrue, IsSome, IfSome, is_some, is_none};
 ghost use Rattle.esync_permits.specs.Permits.{least, taken, Takes, TakesInTurn, released, granted, woken_if};
 ghost use Rattle.esync_permits.specs.Greedy.{slot_after_poll, wakes_of_poll, slot_after_more, rest_of};
 ghost use Rattle.esync_base.specs.Listed.{is_in};
@@ -76,17 +76,17 @@ fn give_back(permits: &mut usize, more: usize)
     if *permits <= usize::MAX - more {
         *permits += more;
     } else {
-        give_all(permits);
+        give_too_many(permits, more);
     }
 }
 
-// Sets the permits to as many as there can be.
+// Gives permits back, of which as many stay as a number can say.
 #[cold]
 #[inline(never)]
-fn give_all(permits: &mut usize)
-    ensures { permits.new ≡ 2 ^ 64 - 1 }
+fn give_too_many(permits: &mut usize, more: usize)
+    ensures { permits.new ≡ released permits.old more }
 {
-    *permits = usize::MAX;
+    *permits = permits.saturating_add(more);
 }
 
 /// The state of a greedy semaphore: its permits, and a slot for the waker of a task that waits for some.
