@@ -127,7 +127,7 @@ fn explore<'a>(alloc: Global) -> Result<Command<'a>, AllocError> {
     let limit = Arg::new(alloc, "limit")
         .long("limit")
         .value_name("N")
-        .value_parser(value_parser!(u64))
+        .value_parser(value_parser!(u64).range(1..))
         .default_value("10000")
         .help("Gather at most so many states");
     let json = Arg::new(alloc, "json")

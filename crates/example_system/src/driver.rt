@@ -1,6 +1,7 @@
 //! A driver of three tasks over a channel and a mutex. A task that holds the mutex while it sends ends on the executor, and stalls
 //! under another schedule.
-ghost use Rattle.std.specs.Prelude.{◌≡◌, map, Ok};
+ghost use Rattle.std.specs.Prelude.{◌≡◌, [], Ok};
+ghost use Rattle.esync_systems.specs.Positions.{plan_of};
 ghost use Rattle.esync_systems.specs.Schedules.{opened, EveryScheduleCanEnd};
 
 use esync_base::waitqueue::TaskId;
@@ -95,7 +96,7 @@ fn explore_driver(
     driver: Driver,
     tasks: &[Vec<DriverAct>],
 ) -> Result<Verdict, NewError>
-    ensures { result ≡ Ok Verdict.AllCanEnd → EveryScheduleCanEnd ⟦<Driver as Machine>⟧.semantics.meaning ⟦<Driver as Awaits>⟧.starting (opened ⟦<Driver as Machine>⟧.semantics driver (map (λ acts. acts.items) tasks.now)) }
+    ensures { result ≡ Ok Verdict.AllCanEnd → EveryScheduleCanEnd ⟦<Driver as Machine>⟧.semantics.meaning ⟦<Driver as Awaits>⟧.starting (opened ⟦<Driver as Machine>⟧.semantics driver (plan_of tasks.now [])) }
 {
     let compares = ComparesBoth {
         left: ComparesRequests {
@@ -105,7 +106,7 @@ fn explore_driver(
             states: MutexStates {},
         },
     };
-    explore_pair_determined(alloc, &compares, driver, tasks, 1000)
+    explore_pair_determined(alloc, &compares, driver, tasks, &[], 1000)
 }
 
 /// Tells what is true of every schedule of the three tasks.

@@ -1,7 +1,8 @@
 //! Systems of two mutexes, of three, of one channel, and of a channel and a mutex: what is true of every schedule of their tasks.
 #![tactic(auto)]
 
-ghost use Rattle.std.specs.Prelude.{◌≡◌, ℕ, map, Ok};
+ghost use Rattle.std.specs.Prelude.{◌≡◌, ℕ, [], Ok};
+ghost use Rattle.esync_systems.specs.Positions.{plan_of};
 ghost use Rattle.esync_systems.specs.Schedules.{opened, EveryScheduleCanEnd, EveryScheduleEnds};
 
 use esync_base::waitqueue::TaskId;
@@ -75,7 +76,11 @@ fn right_first(alloc: Global, r: u8) -> Result<Vec<LockAct>, AllocError> {
     ]?)
 }
 
-fn explore_mutexes(alloc: Global, tasks: &[Vec<LockAct>]) -> Result<Verdict, NewError> {
+fn explore_mutexes(
+    alloc: Global,
+    tasks: &[Vec<LockAct>],
+    priorities: &[Option<u8>],
+) -> Result<Verdict, NewError> {
     let mutexes: Pair<Mutex, Mutex> = Pair {
         left: Requests::new(Guarded::new((0, 0), Second {})),
         right: Requests::new(Guarded::new((0, 0), Second {})),
@@ -87,7 +92,7 @@ fn explore_mutexes(alloc: Global, tasks: &[Vec<LockAct>]) -> Result<Verdict, New
         left: mutex,
         right: mutex,
     };
-    explore_pair(alloc, &compares, mutexes, tasks, 1000)
+    explore_pair(alloc, &compares, mutexes, tasks, priorities, 1000)
 }
 
 // Two tasks, each of which takes both mutexes, in opposite orders.
@@ -134,14 +139,14 @@ fn philosophers(alloc: Global, one_turns_round: bool) -> Result<Vec<Vec<ForkAct>
 
 // Explores three forks. The steps of a mutex are determined, so a verdict on them holds of every schedule.
 fn explore_forks(alloc: Global, forks: Forks, tasks: &[Vec<ForkAct>]) -> Result<Verdict, NewError>
-    ensures { (turns : ℕ) → result ≡ Ok (Verdict.AllEnd turns) → EveryScheduleEnds ⟦<Forks as Machine>⟧.semantics.meaning ⟦<Forks as Awaits>⟧.starting turns (opened ⟦<Forks as Machine>⟧.semantics forks (map (λ acts. acts.items) tasks.now)) }
+    ensures { (turns : ℕ) → result ≡ Ok (Verdict.AllEnd turns) → EveryScheduleEnds ⟦<Forks as Machine>⟧.semantics.meaning ⟦<Forks as Awaits>⟧.starting turns (opened ⟦<Forks as Machine>⟧.semantics forks (plan_of tasks.now [])) }
 {
     let compares = ComparesEach {
         parts: ComparesRequests {
             states: MutexStates {},
         },
     };
-    explore_several_determined(alloc, &compares, forks, tasks, 1000)
+    explore_several_determined(alloc, &compares, forks, tasks, &[], 1000)
 }
 
 fn forks(alloc: Global) -> Result<Forks, AllocError> {
@@ -173,12 +178,12 @@ fn explore_channel(
     channel: Channel,
     tasks: &[Vec<ChannelAct>],
 ) -> Result<Verdict, NewError>
-    ensures { result ≡ Ok Verdict.AllCanEnd → EveryScheduleCanEnd ⟦<Channel as Machine>⟧.semantics.meaning ⟦<Channel as Awaits>⟧.starting (opened ⟦<Channel as Machine>⟧.semantics channel (map (λ acts. acts.items) tasks.now)) }
+    ensures { result ≡ Ok Verdict.AllCanEnd → EveryScheduleCanEnd ⟦<Channel as Machine>⟧.semantics.meaning ⟦<Channel as Awaits>⟧.starting (opened ⟦<Channel as Machine>⟧.semantics channel (plan_of tasks.now [])) }
 {
     let compares = ComparesRequests {
         states: ChannelStates {},
     };
-    explore_determined(alloc, &compares, channel, tasks, 1000)
+    explore_determined(alloc, &compares, channel, tasks, &[], 1000)
 }
 
 fn tell(rt: &impl Print, title: &str, found: Result<Verdict, NewError>) -> io::Result<()> {
@@ -189,11 +194,11 @@ fn tell(rt: &impl Print, title: &str, found: Result<Verdict, NewError>) -> io::R
 }
 
 fn lock(alloc: Global, count: u8) -> Result<Verdict, NewError> {
-    explore_mutexes(alloc, &one_order(alloc, count)?)
+    explore_mutexes(alloc, &one_order(alloc, count)?, &[])
 }
 
-fn lock_crosswise(alloc: Global) -> Result<Verdict, NewError> {
-    explore_mutexes(alloc, &opposite_orders(alloc)?)
+fn lock_crosswise(alloc: Global, priorities: &[Option<u8>]) -> Result<Verdict, NewError> {
+    explore_mutexes(alloc, &opposite_orders(alloc)?, priorities)
 }
 
 fn dine(alloc: Global, one_turns_round: bool) -> Result<Verdict, NewError> {
@@ -210,7 +215,12 @@ fn consume(alloc: Global, count: usize, sent: usize) -> Result<Verdict, NewError
 
 fn main(rt: HostRuntime) -> io::Result<()> {
     let alloc = rt.alloc();
-    tell(&rt, "two mutexes in opposite orders", lock_crosswise(alloc))?;
+    tell(&rt, "two mutexes in opposite orders", lock_crosswise(alloc, &[]))?;
+    tell(
+        &rt,
+        "two mutexes in opposite orders, on one executor",
+        lock_crosswise(alloc, &[Some(0), Some(0)]),
+    )?;
     tell(&rt, "two mutexes in one order", lock(alloc, 2))?;
     tell(&rt, "three tasks in one order", lock(alloc, 3))?;
     tell(&rt, "one consumer", consume(alloc, 1, 1))?;

@@ -47,7 +47,7 @@ fn consumers(alloc: Global, count: usize, sent: usize) -> Result<Vec<Vec<OneAct>
 
 fn consume(alloc: Global, count: usize, sent: usize, limit: usize) -> Result<Verdict, NewError> {
     let tasks = consumers(alloc, count, sent)?;
-    explore(alloc, &CHANNEL, channel(), &tasks, limit)
+    explore(alloc, &CHANNEL, channel(), &tasks, &[], limit)
 }
 
 fn ask(r: u8, ask: ChannelAsk<u32>) -> ServiceAct {
@@ -89,7 +89,7 @@ fn serve(alloc: Global, limit: usize) -> Result<Verdict, NewError> {
         left: CHANNEL,
         right: CHANNEL,
     };
-    explore_pair(alloc, &compares, both, &service(alloc)?, limit)
+    explore_pair(alloc, &compares, both, &service(alloc)?, &[], limit)
 }
 
 #[test]

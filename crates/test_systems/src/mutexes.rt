@@ -43,7 +43,7 @@ fn lockers(alloc: Global, count: usize) -> Result<Vec<Vec<OneAct>>, AllocError> 
 }
 
 fn explore_one(alloc: Global, count: usize, limit: usize) -> Result<Verdict, NewError> {
-    explore(alloc, &MUTEX, mutex(), &lockers(alloc, count)?, limit)
+    explore(alloc, &MUTEX, mutex(), &lockers(alloc, count)?, &[], limit)
 }
 
 // A task that takes the left mutex first, or the right one.
@@ -68,7 +68,12 @@ fn takers(alloc: Global, orders: &[bool]) -> Result<Vec<Vec<BothAct>>, AllocErro
     Ok(tasks)
 }
 
-fn explore_both(alloc: Global, orders: &[bool], limit: usize) -> Result<Verdict, NewError> {
+fn explore_both(
+    alloc: Global,
+    orders: &[bool],
+    priorities: &[Option<u8>],
+    limit: usize,
+) -> Result<Verdict, NewError> {
     let both: Pair<Mutex, Mutex> = Pair {
         left: mutex(),
         right: mutex(),
@@ -77,7 +82,7 @@ fn explore_both(alloc: Global, orders: &[bool], limit: usize) -> Result<Verdict,
         left: MUTEX,
         right: MUTEX,
     };
-    explore_pair(alloc, &compares, both, &takers(alloc, orders)?, limit)
+    explore_pair(alloc, &compares, both, &takers(alloc, orders)?, priorities, limit)
 }
 
 // Two tasks, where the left mutex has no number for the second one's request.
@@ -95,6 +100,7 @@ fn explore_narrow(alloc: Global) -> Result<Verdict, NewError> {
         &compares,
         both,
         &takers(alloc, &[true, false])?,
+        &[],
         1000,
     )
 }
@@ -128,22 +134,50 @@ fn three_tasks_of_one_mutex_may_displace_one_another(rt: HostRuntime) -> Result<
 #[test]
 fn one_order_ends(rt: HostRuntime) -> Result<(), NewError> {
     let two = [true, true];
-    assert!(&rt; explore_both(rt.alloc(), &two, 23)? == Verdict::TooMany(23));
-    assert!(&rt; explore_both(rt.alloc(), &two, 24)? == Verdict::AllEnd(9));
+    assert!(&rt; explore_both(rt.alloc(), &two, &[], 23)? == Verdict::TooMany(23));
+    assert!(&rt; explore_both(rt.alloc(), &two, &[], 24)? == Verdict::AllEnd(9));
     Ok(())
 }
 
 #[test]
 fn opposite_orders_stall(rt: HostRuntime) -> Result<(), NewError> {
-    let schedule = schedule(rt.alloc(), &[0, 1, 0, 1])?;
-    assert!(&rt; explore_both(rt.alloc(), &[true, false], 1000)? == Verdict::Stalls(schedule));
+    let orders = [true, false];
+    let stalls = Verdict::Stalls(schedule(rt.alloc(), &[0, 1, 0, 1])?);
+    assert!(&rt; explore_both(rt.alloc(), &orders, &[], 1000)? == stalls);
+    assert!(&rt; explore_both(rt.alloc(), &orders, &[None, None], 1000)? == stalls);
+    Ok(())
+}
+
+// Neither waits while it has one mutex, so neither stops there.
+#[test]
+fn opposite_orders_on_one_executor_end(rt: HostRuntime) -> Result<(), NewError> {
+    let (orders, one) = ([true, false], [Some(0), Some(0)]);
+    assert!(&rt; explore_both(rt.alloc(), &orders, &one, 15)? == Verdict::TooMany(15));
+    assert!(&rt; explore_both(rt.alloc(), &orders, &one, 16)? == Verdict::AllEnd(8));
+    Ok(())
+}
+
+#[test]
+fn opposite_orders_on_an_executor_that_preempts_stall(rt: HostRuntime) -> Result<(), NewError> {
+    let stalls = Verdict::Stalls(schedule(rt.alloc(), &[0, 1, 1, 0])?);
+    let (orders, two) = ([true, false], [Some(3), Some(7)]);
+    assert!(&rt; explore_both(rt.alloc(), &orders, &two, 1000)? == stalls);
+    Ok(())
+}
+
+// The thread takes turns between those of the task, and the task between those of the thread.
+#[test]
+fn opposite_orders_on_an_executor_and_a_thread_stall(rt: HostRuntime) -> Result<(), NewError> {
+    let stalls = Verdict::Stalls(schedule(rt.alloc(), &[0, 1, 0, 1])?);
+    let (orders, mixed) = ([true, false], [Some(0), None]);
+    assert!(&rt; explore_both(rt.alloc(), &orders, &mixed, 1000)? == stalls);
     Ok(())
 }
 
 #[test]
 fn a_number_that_is_used_twice_is_refused(rt: HostRuntime) -> Result<(), NewError> {
     let tasks = locks_twice(rt.alloc())?;
-    let refused = explore(rt.alloc(), &MUTEX, mutex(), &tasks, 10);
+    let refused = explore(rt.alloc(), &MUTEX, mutex(), &tasks, &[], 10);
     assert!(&rt; matches!(refused, Err(NewError::NoSuch)));
     Ok(())
 }

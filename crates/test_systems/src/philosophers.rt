@@ -71,7 +71,7 @@ fn explore_table(alloc: Global, tasks: &[Vec<ForkAct>], limit: usize) -> Result<
             states: MutexStates {},
         },
     };
-    explore_several(alloc, &compares, forks(alloc)?, tasks, limit)
+    explore_several(alloc, &compares, forks(alloc)?, tasks, &[], limit)
 }
 
 // One task of one act.

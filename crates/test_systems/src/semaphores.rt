@@ -58,12 +58,12 @@ fn explore_takers(
     limit: usize,
 ) -> Result<Verdict, NewError> {
     let tasks = takers(alloc, count)?;
-    explore_determined(alloc, &SEMAPHORE, semaphore(permits), &tasks, limit)
+    explore_determined(alloc, &SEMAPHORE, semaphore(permits), &tasks, &[], limit)
 }
 
 fn explore_two(alloc: Global, permits: usize, limit: usize) -> Result<Verdict, NewError> {
     let tasks = two_takers(alloc)?;
-    explore_determined(alloc, &SEMAPHORE, semaphore(permits), &tasks, limit)
+    explore_determined(alloc, &SEMAPHORE, semaphore(permits), &tasks, &[], limit)
 }
 
 #[test]

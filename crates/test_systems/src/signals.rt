@@ -40,7 +40,7 @@ fn waiters(alloc: Global, count: usize, values: u32) -> Result<Vec<Vec<SignalAct
 
 fn wait(alloc: Global, count: usize, values: u32, limit: usize) -> Result<Verdict, NewError> {
     let tasks = waiters(alloc, count, values)?;
-    explore_determined(alloc, &SIGNAL, signal(), &tasks, limit)
+    explore_determined(alloc, &SIGNAL, signal(), &tasks, &[], limit)
 }
 
 #[test]
