@@ -215,7 +215,11 @@ fn consume(alloc: Global, count: usize, sent: usize) -> Result<Verdict, NewError
 
 fn main(rt: HostRuntime) -> io::Result<()> {
     let alloc = rt.alloc();
-    tell(&rt, "two mutexes in opposite orders", lock_crosswise(alloc, &[]))?;
+    tell(
+        &rt,
+        "two mutexes in opposite orders",
+        lock_crosswise(alloc, &[]),
+    )?;
     tell(
         &rt,
         "two mutexes in opposite orders, on one executor",

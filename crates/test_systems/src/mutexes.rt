@@ -82,7 +82,14 @@ fn explore_both(
         left: MUTEX,
         right: MUTEX,
     };
-    explore_pair(alloc, &compares, both, &takers(alloc, orders)?, priorities, limit)
+    explore_pair(
+        alloc,
+        &compares,
+        both,
+        &takers(alloc, orders)?,
+        priorities,
+        limit,
+    )
 }
 
 // Two tasks, where the left mutex has no number for the second one's request.
