@@ -1,4 +1,4 @@
-// The page: what is written in the text field is played or checked by the module, and shown beside it and as a picture.
+// The page: what is written in the text field is played or judged by the module, and shown beside it and as a picture.
 "use strict";
 
 // Of a longer script the picture and the list of answers have the first lines.
@@ -30,7 +30,7 @@ function linesOf(text) {
   return lines[lines.length - 1] === "" ? lines.slice(0, -1) : lines;
 }
 
-/** A line of a recorded run in its parts, as the module takes it apart. */
+/** A line of a recorded run in its parts, as it is drawn. */
 function entryOf(line) {
   const at = line.indexOf(" => ");
   return at < 0 ? { command: line } : { command: line.slice(0, at), reply: line.slice(at + 4) };
@@ -45,9 +45,10 @@ function eventsOf(commands, replies) {
   return replies.map((reply, place) => ({ number: place + 2, line: commands[place + 1], ...reply }));
 }
 
-function tooLong(result) {
-  const what = result.isTextTooLong ? "The text is" : "The answers are";
-  return { isWrong: true, said: [`${what} longer than 1 MiB, for which this page has no room.`] };
+/** What is said where there is no room, of a text of at most so many MiB. */
+function tooLong(result, most) {
+  const what = result.isTextTooLong ? `The text is longer than ${most} MiB` : "The answers are longer than 1 MiB";
+  return { isWrong: true, said: [`${what}, for which this page has no room.`] };
 }
 
 function noCommand(lines, number, primitive) {
@@ -72,7 +73,7 @@ function playedOf(machine, text) {
   if (result.status === 0) {
     shown.message = { isWrong: false, said: [`${counted(replies.length, "command")} of ${lines[0]}, each answered.`] };
   } else {
-    shown.message = result.status === 2 ? noCommand(lines, result.line, primitive) : tooLong(result);
+    shown.message = result.status === 2 ? noCommand(lines, result.line, primitive) : tooLong(result, 1);
   }
   return shown;
 }
@@ -86,24 +87,18 @@ function another(primitive, number, recorded, given) {
   return { isWrong: true, line: number, recorded, given, said };
 }
 
-/** What a recorded run is found to be beside what the primitive answers to its commands: the first line that is wrong. */
-function verdictOf(lines, entries, result, replies) {
-  for (const [place, { reply }] of entries.entries()) {
-    const number = place + 1;
-    if (place > 0 && reply === undefined) {
-      return noReply(number);
-    }
-    if (result.status === 2 && result.line === number) {
-      return noCommand(lines, number, lines[0].split(" ")[0]);
-    }
-    if (place > 0 && replies[place - 1] === undefined) {
-      return tooLong(result);
-    }
-    if (place > 0 && reply !== replies[place - 1].text) {
-      return another(lines[0], number, reply, replies[place - 1].text);
-    }
+/** What is said of a recorded run that the module has judged. */
+function verdictOf(lines, found) {
+  if (found.status === 0) {
+    return { isWrong: false, said: [`A run of ${lines[0]}: ${counted(found.commands, "command")}, each answered as the primitive does.`] };
   }
-  return { isWrong: false, said: [`A run of ${lines[0]}: ${counted(replies.length, "command")}, each answered as the primitive does.`] };
+  if (found.status === 1) {
+    return another(lines[0], found.line, found.recorded, found.given);
+  }
+  if (found.status === 2) {
+    return found.unanswered > 0 ? noReply(found.unanswered) : noCommand(lines, found.line, lines[0].split(" ")[0]);
+  }
+  return tooLong(found, 3);
 }
 
 /** What is shown of a recorded run. */
@@ -111,9 +106,8 @@ function checkedOf(machine, text) {
   const lines = linesOf(text);
   const entries = lines.map((line, place) => (place === 0 ? { command: line } : entryOf(line)));
   const script = entries.map((it) => it.command).join("\n");
-  const result = machine.call("play", script);
-  const given = linesOf(result.texts[0]).map(replyOf);
-  const verdict = result.isTextTooLong ? tooLong(result) : verdictOf(lines, entries, result, given);
+  const verdict = verdictOf(lines, machine.check(text));
+  const given = linesOf(machine.call("play", script).texts[0]).map(replyOf);
   const events = [];
   for (const [place, { command, reply }] of entries.entries()) {
     if (place === 0 || reply === undefined) {

@@ -1,100 +1,98 @@
 //! A recorded run, taken apart into the script and the replies in it.
-ghost use Rattle.std.specs.Prelude.{◌≡◌, ℕ, ◌+◌, ◌-◌, ◌^◌, min, List, [], ◌++◌, length, OnOk, IfOk, IfErr, ◌⊎◌, string_bytes, false, true};
+ghost use Rattle.std.specs.Prelude.{◌≡◌, ℕ, List, [], ◌++◌, IfOk, IfErr, IfSome, OnOk, ◌⊎◌, codes, true};
+ghost use Rattle.std.specs.Io.KnownBytes.{Appends};
 ghost use Rattle.esync_words.specs.Lines.{first_line, other_lines};
-ghost use Rattle.esync_words.specs.Played.{Reads};
-ghost use Rattle.esync_check.specs.Recorded.{Records, Entry, entry_lines, commands_text, replies_text, line_text};
+ghost use Rattle.esync_check.specs.Recorded.{AddsEntries, TakesApart, line_text};
 
+use crate::print_line;
+use crate::room::Room;
 use esync_words::fault::Fault;
-use std::alloc::Global;
+use std::io::Write;
 
-/// The script and the replies of a recorded run.
-#[derive(Drop)]
+/// What was found of a recorded run, beside its script and its replies.
+#[derive(Clone, Copy)]
 pub struct Recording {
-    /// Line 1, and the commands, a line each.
-    pub script: String,
-    /// The replies, a line each.
-    pub replies: String,
     /// The number of commands.
     pub commands: u64,
     /// Whether each line has a reply. A line without one is left out, with the lines behind it.
     pub is_whole: bool,
 }
 
-/// Returns the first line of the text, without its line feed, and the text behind it.
-pub fn split_line(text: &str) -> (&str, &str)
-    ensures line { result.0.now ≡ first_line text.now }
-    ensures rest { result.1.now ≡ other_lines text.now }
-{
-    match text.split_once('\n') {
-        Some(parts) => parts,
-        None => (text, ""),
-    }
-}
-
-// Appends the line and a line feed.
-fn append_line(text: &mut String, line: &str) -> Result<(), Fault>
-    ensures ok { OnOk result (string_bytes text.new ≡ string_bytes text.old ++ line_text line.now) }
-    ensures err { IfErr result (λ fault. fault ≡ Fault.OutOfMemory) }
-{
-    text.push_str(line).map_err(|_| Fault::OutOfMemory)?;
-    text.push('\n').map_err(|_| Fault::OutOfMemory)?;
-    Ok(())
-}
-
 impl Recording {
-    /// Takes a recorded run apart, and returns its script and its replies.
+    /// Takes a recorded run apart. It writes line 1 and the commands into one room, and the replies into another one, a
+    /// line each. What the rooms had before is forgotten.
     ///
     /// # Errors
     ///
-    /// Returns `NotACommand(1)` for an empty text, which has no line 1, and otherwise `OutOfMemory` if memory was
-    /// refused.
-    pub fn read(alloc: Global, text: &str) -> Result<Self, Fault>
-        ensures ok { IfOk result (λ recording. (rest : List ℕ) × Records text.now (string_bytes recording.script) (string_bytes recording.replies) recording.commands rest × (recording.is_whole ≡ true → rest ≡ [])) }
+    /// Returns `NotACommand(1)` for an empty text, which has no line 1, and otherwise `OutOfMemory` if a room is full.
+    pub fn read<R: Room>(text: &[u8], script: &mut R, replies: &mut R) -> Result<Self, Fault>
+        ensures ok { IfOk result (λ recording. TakesApart text.now (R.contents script.new) (R.contents replies.new) recording.commands recording.is_whole) }
         ensures err { IfErr result (λ fault. (fault ≡ Fault.OutOfMemory) ⊎ ((text.now ≡ []) × (fault ≡ Fault.NotACommand 1))) }
     {
         if text.is_empty() {
             return Err(Fault::NotACommand(1));
         }
         let (first, lines) = split_line(text);
-        let mut recording = Recording {
-            script: String::new(alloc),
-            replies: String::new(alloc),
-            commands: 0,
-            is_whole: false,
+        script.clear();
+        replies.clear();
+        append_line(first, script)?;
+        read_entries(lines, script, replies)
+    }
+}
+
+// Reads the lines behind line 1, up to the first that has no reply, and appends their commands and their replies.
+fn read_entries<W: Write>(lines: &[u8], script: &mut W, replies: &mut W) -> Result<Recording, Fault>
+    ensures ok { IfOk result (λ it. (rest : List ℕ) × AddsEntries lines.now (W.contents script.old) (W.contents script.new) (W.contents replies.old) (W.contents replies.new) it.commands rest × (it.is_whole ≡ true → rest ≡ [])) }
+    ensures err { IfErr result (λ fault. fault ≡ Fault.OutOfMemory) }
+{
+    let mut commands: u64 = 0;
+    let mut rest = lines;
+    while !rest.is_empty() {
+        let (line, behind) = split_line(rest);
+        let Some((command, reply)) = split_entry(line) else {
+            return Ok(Recording {
+                commands,
+                is_whole: false,
+            });
         };
-        append_line(&mut recording.script, first)?;
-        recording.is_whole = recording.read_entries(lines)?;
-        Ok(recording)
+        append_line(command, script)?;
+        append_line(reply, replies)?;
+        commands = commands.saturating_add(1);
+        rest = behind;
     }
+    Ok(Recording {
+        commands,
+        is_whole: true,
+    })
+}
 
-    // Reads the lines behind line 1, up to the first that has no reply. Returns whether each line has one.
-    fn read_entries(&mut self, lines: &str) -> Result<bool, Fault>
-        requires { self.old.commands ≡ 0 }
-        ensures ok { IfOk result (λ is_whole. (entries : List Entry) × (rest : List ℕ) × Reads lines.now (entry_lines entries) rest × (string_bytes self.new.script ≡ string_bytes self.old.script ++ commands_text entries) × (string_bytes self.new.replies ≡ string_bytes self.old.replies ++ replies_text entries) × (self.new.commands ≡ min (length entries) (2 ^ 64 - 1)) × (is_whole ≡ true → rest ≡ [])) }
-        ensures err { IfErr result (λ fault. fault ≡ Fault.OutOfMemory) }
-    {
-        let mut rest = lines;
-        while !rest.is_empty() {
-            let (line, behind) = split_line(rest);
-            let Some((command, reply)) = line.split_once(" => ") else {
-                return Ok(false);
-            };
-            self.add(command, reply)?;
-            rest = behind;
+/// Returns the first line of the text, without its line feed, and the text behind it.
+pub fn split_line(text: &[u8]) -> (&[u8], &[u8])
+    ensures line { result.0.now ≡ first_line text.now }
+    ensures rest { result.1.now ≡ other_lines text.now }
+{
+    match text.iter().position(|byte| *byte == b'\n') {
+        Some(end) => (&text[..end], &text[end + 1..]),
+        None => (text, &[]),
+    }
+}
+
+// Returns the command and the reply of a line, if it has a reply.
+fn split_entry(line: &[u8]) -> Option<(&[u8], &[u8])>
+    ensures { IfSome result (λ parts. line.now ≡ parts.0.now ++ (codes " => " ++ parts.1.now)) }
+{
+    for end in 0..line.len() {
+        if let Some(reply) = line[end..].strip_prefix(b" => ") {
+            return Some((&line[..end], reply));
         }
-        Ok(true)
     }
+    None
+}
 
-    // Adds a command and its reply.
-    fn add(&mut self, command: &str, reply: &str) -> Result<(), Fault>
-        ensures script { OnOk result (string_bytes self.new.script ≡ string_bytes self.old.script ++ line_text command.now) }
-        ensures replies { OnOk result (string_bytes self.new.replies ≡ string_bytes self.old.replies ++ line_text reply.now) }
-        ensures commands { OnOk result (self.new.commands ≡ min (self.old.commands + 1) (2 ^ 64 - 1)) }
-        ensures err { IfErr result (λ fault. fault ≡ Fault.OutOfMemory) }
-    {
-        append_line(&mut self.script, command)?;
-        append_line(&mut self.replies, reply)?;
-        self.commands = self.commands.saturating_add(1);
-        Ok(())
-    }
+// Appends the line and a line feed. A room refuses them only for want of memory.
+fn append_line<W: Write>(line: &[u8], output: &mut W) -> Result<(), Fault>
+    ensures ok { OnOk result (Appends (W.contents output.old) (W.contents output.new) (line_text line.now)) }
+    ensures err { IfErr result (λ fault. fault ≡ Fault.OutOfMemory) }
+{
+    print_line(line, output).map_err(|_| Fault::OutOfMemory)
 }

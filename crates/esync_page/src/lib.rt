@@ -1,27 +1,43 @@
-//! The calls of a page in a browser: a script is played, or explained, in memory that the page lends.
+//! The calls of a page in a browser: a script is played or explained, or a recorded run is judged, in memory that the
+//! page lends.
 //!
 //! Nothing is allocated, and nothing is imported from the page. The page grows the module's memory, puts a text there,
-//! and lends it with rows for the output and a place for the number of a line.
+//! and lends it with rows for the output and a place for what else is told.
 //!
 //! | Status | The script | `line` |
 //! |---|---|---|
 //! | 0 | came to its end | 0 |
 //! | 2 | has a line that is no command | its number |
 //! | 4 | has answers, or notes, that don't fit into their row | 0 |
+//!
+//! | Status | The recorded run | `found` has |
+//! |---|---|---|
+//! | 0 | is a run of the primitive that line 1 names | how many `commands` |
+//! | 1 | has a reply that the primitive doesn't give | the `line`, what was `recorded` and what is `given` |
+//! | 2 | has a line that is no command | its number in `line`, and 0 in `unanswered` |
+//! | 2 | has a line without a reply | its number in `unanswered`, and 0 in `line` |
+//! | 4 | has a script or replies that don't fit into their rows | 0 in both |
 #![tactic(auto)]
 
-ghost use Rattle.std.specs.Prelude.{◌≡◌, [], Some, IfErr, take};
+ghost use Rattle.std.specs.Prelude.{◌≡◌, [], Some, IfOk, IfErr, take};
+ghost use Rattle.esync_check.specs.Checked.{IsRun, IsAnother};
 ghost use Rattle.esync_page.specs.Ended.{line_of};
+ghost use Rattle.esync_page.specs.Found.{IsFound, written};
 ghost use Rattle.esync_script.specs.Opening.{PlaysScript, status_of_outcome};
 ghost use Rattle.esync_words.specs.Explained.{explained_story};
 ghost use Rattle.esync_words.specs.Story.{replies_story};
 
+use crate::found::Found;
 use crate::row::Row;
+use esync_check::check_script;
+use esync_check::fault::Unchecked;
+use esync_check::room::Room;
 use esync_script::play_bytes;
 use esync_words::explain::Explained;
 use esync_words::fault::Fault;
 use esync_words::play::{Replies, Telling};
 
+pub mod found;
 pub mod row;
 
 /// Plays a script, writes its answers into a row, and returns its status. `play_into` says what is proved of the
@@ -37,6 +53,28 @@ pub extern "C" fn play(text: &[u8], answers: &mut Row, line: &mut u64) -> u8 {
 #[unsafe(no_mangle)]
 pub extern "C" fn explain(text: &[u8], answers: &mut Row, notes: &mut Row, line: &mut u64) -> u8 {
     ended(explain_into(text, answers, notes), line)
+}
+
+/// Judges a recorded run, stores what is found, and returns its status.
+///
+/// At status 0 the text is such a run, of so many commands. At status 1 the recorded reply of the stored line is the
+/// first that the primitive doesn't give. Three rows are room for the script and the replies.
+#[unsafe(no_mangle)]
+pub extern "C" fn check(
+    text: &[u8],
+    script: &mut Row,
+    replies: &mut Row,
+    given: &mut Row,
+    found: &mut Found,
+) -> u8
+    ensures run { result ≡ 0 → IsRun text.now found.new.commands }
+    ensures another { result ≡ 1 → IsAnother text.now found.new.line (written found.new.recorded) (written found.new.given) }
+{
+    match check_into(text, script, replies, given, found) {
+        Ok(true) => 0,
+        Ok(false) => 1,
+        Err(unchecked) => found.store_fault(unchecked),
+    }
 }
 
 /// Plays a script, and writes its answers into the row, whose old bytes are forgotten.
@@ -74,6 +112,26 @@ pub fn explain_into<'n>(text: &[u8], answers: &mut Row, notes: &'n mut Row) -> R
         Err(Fault::InputOutput) => Err(Fault::OutOfMemory),
         outcome => outcome,
     }
+}
+
+/// Judges a recorded run, stores the verdict, and returns whether it is a run.
+///
+/// # Errors
+///
+/// Returns which line is no command or has no reply, if the replies before it are the primitive's, or `OutOfMemory` if
+/// a row has no room. Then `found` may have parts of a verdict.
+pub fn check_into(
+    text: &[u8],
+    script: &mut Row,
+    replies: &mut Row,
+    given: &mut Row,
+    found: &mut Found,
+) -> Result<bool, Unchecked>
+    ensures ok { IfOk result (λ is_run. IsFound text.now is_run found.new) }
+    ensures err { IfErr result (λ unchecked. unchecked ≡ Unchecked.Script Fault.InputOutput → ⊥) }
+{
+    let verdict = check_script(text, script, replies, given)?;
+    Ok(found.store(&verdict)?)
 }
 
 // Plays a script, and writes what is told of it into an empty row.

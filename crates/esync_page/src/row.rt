@@ -1,14 +1,15 @@
 //! A row of bytes that is written from its front on.
-ghost use Rattle.std.specs.Prelude.{◌≡◌, ◌≤◌, ◌-◌, ◌++◌, min, length, take, drop, Some, Ok, [], IfOk};
+ghost use Rattle.std.specs.Prelude.{◌≡◌, ◌≤◌, ◌-◌, ◌++◌, min, length, take, drop, Some, Ok};
 ghost use Rattle.std.specs.Io.{WritesAtMost};
 ghost use Rattle.std.specs.Io.KnownBytes.{WriteAppends, Keeps};
 
+use esync_check::room::Room;
 use std::io::{self, Write};
 
 /// The number of bytes of a row.
 pub const ROOM: usize = 1 << 20;
 
-/// A row of bytes, of which the first `len` are written. A write that finds no room fails.
+/// A row of bytes, of which the first `len` are written. A write stops where the row is full.
 #[repr(C)]
 #[derive(Drop)]
 pub struct Row {
@@ -16,22 +17,6 @@ pub struct Row {
     pub bytes: [u8; ROOM],
 
     ghost fits: { len ≤ length bytes },
-}
-
-impl Row {
-    /// Forgets the bytes that were written.
-    pub fn clear(&mut self)
-        ensures { take self.new.len self.new.bytes ≡ [] }
-    {
-        self.len = 0;
-    }
-
-    /// Returns the bytes that were written.
-    pub fn written(&self) -> &[u8]
-        ensures { result.now ≡ take self.now.len self.now.bytes }
-    {
-        &self.bytes[..self.len]
-    }
 }
 
 // Copies as many bytes as fit in the target, and returns how many.
@@ -64,5 +49,15 @@ impl Write for Row {
         ensures unchanged { self.new ≡ self.old }
     {
         Ok(())
+    }
+}
+
+impl Room for Row {
+    fn clear(&mut self) {
+        self.len = 0;
+    }
+
+    fn written(&self) -> &[u8] {
+        &self.bytes[..self.len]
     }
 }

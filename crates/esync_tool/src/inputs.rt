@@ -142,6 +142,11 @@ fn line_behind(lines: &[u8]) -> u64 {
     feeds.saturating_add(1)
 }
 
+/// The first line of a text.
+pub fn first_line(text: &str) -> &str {
+    text.split('\n').next().unwrap_or("")
+}
+
 /// Says that a terminal is read, where it is.
 pub fn hint<I: Drop, O: Drop, N: Drop, E: Write + Drop>(
     name: &str,

@@ -1,10 +1,10 @@
 //! The verdict on a recorded run, for people and as JSON.
+use crate::inputs::first_line;
 use crate::printable::Printable;
 use crate::stopped::Stopped;
 use esync_check::difference::Difference;
-use esync_check::recording::{Recording, split_line};
 use esync_check::{Verdict, check_script, print_verdict};
-use esync_script::play_text;
+use esync_script::play_bytes;
 use esync_words::explain::Explained;
 use serde_json::{Value, json};
 use std::alloc::{AllocError, Global};
@@ -18,16 +18,19 @@ pub fn check<O: Write>(
     is_why_asked: bool,
     output: &mut O,
 ) -> Result<bool, Stopped> {
-    let verdict = match check_script(alloc, text)? {
-        Verdict::Another(difference) => Verdict::Another(shown(alloc, &difference)?),
-        run => run,
-    };
-    print_verdict(text, &verdict, output)?;
+    let text = text.as_bytes();
+    let mut script = Vec::new(alloc);
+    let mut replies = Vec::new(alloc);
+    let mut given = Vec::new(alloc);
+    let verdict = check_script(text, &mut script, &mut replies, &mut given)?;
     let Verdict::Another(difference) = verdict else {
+        print_verdict(text, &verdict, output)?;
         return Ok(true);
     };
+    let shown = printable(alloc, shortened(alloc, &difference)?)?;
+    print_verdict(text, &Verdict::Another(shown.as_difference()), output)?;
     if is_why_asked {
-        for reason in &reasons(alloc, text, difference.line) {
+        for reason in &reasons(alloc, &script, shown.line) {
             writeln!(output, "why: {reason}")?;
         }
     }
@@ -46,9 +49,12 @@ pub fn check_as_json<O: Write>(
     text: &str,
     output: &mut O,
 ) -> Result<bool, Stopped> {
-    let (primitive, _) = split_line(text);
-    match check_script(alloc, text)? {
+    let mut script = Vec::new(alloc);
+    let mut replies = Vec::new(alloc);
+    let mut given = Vec::new(alloc);
+    match check_script(text.as_bytes(), &mut script, &mut replies, &mut given)? {
         Verdict::Run(commands) => {
+            let primitive = first_line(text);
             let found = json!(in alloc; {
                 "file": name, "verdict": "run", "primitive": primitive, "commands": commands
             })?;
@@ -56,9 +62,9 @@ pub fn check_as_json<O: Write>(
             Ok(true)
         }
         Verdict::Another(difference) => {
-            let difference = shortened(alloc, &difference)?;
-            let reasons = reasons(alloc, text, difference.line);
-            let found = another(alloc, name, text, &difference, &reasons)?;
+            let shown = shortened(alloc, &difference)?;
+            let reasons = reasons(alloc, &script, shown.line);
+            let found = another(alloc, name, text, &shown, &reasons)?;
             write_line(alloc, &found, output)?;
             Ok(false)
         }
@@ -84,31 +90,50 @@ pub fn unjudged_as_json<O: Write>(
 // How many characters of a reply are shown. No primitive has a longer one.
 const SHOWN: usize = 1000;
 
+// A reply that isn't the primitive's, as it is shown.
+#[derive(Drop)]
+struct Shown {
+    line: u64,
+    recorded: String,
+    given: String,
+}
+
+impl Shown {
+    fn as_difference(&self) -> Difference<'_> {
+        Difference {
+            line: self.line,
+            recorded: self.recorded.as_bytes(),
+            given: self.given.as_bytes(),
+        }
+    }
+}
+
+fn shortened(alloc: Global, difference: &Difference<'_>) -> Result<Shown, AllocError> {
+    Ok(Shown {
+        line: difference.line,
+        recorded: beginning(alloc, difference.recorded)?,
+        given: beginning(alloc, difference.given)?,
+    })
+}
+
 // As people are shown it, with no control character.
-fn shown(alloc: Global, difference: &Difference) -> Result<Difference, AllocError> {
-    let Difference {
+fn printable(alloc: Global, shown: Shown) -> Result<Shown, AllocError> {
+    let Shown {
         line,
         recorded,
         given,
-    } = shortened(alloc, difference)?;
+    } = shown;
     let text = recorded.as_str();
-    Ok(Difference {
+    Ok(Shown {
         line,
         recorded: format!(in alloc; "{}", Printable { text })?,
         given,
     })
 }
 
-fn shortened(alloc: Global, difference: &Difference) -> Result<Difference, AllocError> {
-    Ok(Difference {
-        line: difference.line,
-        recorded: beginning(alloc, difference.recorded.as_str())?,
-        given: beginning(alloc, difference.given.as_str())?,
-    })
-}
-
-// The beginning of a reply, and how long it is where that isn't all.
-fn beginning(alloc: Global, reply: &str) -> Result<String, AllocError> {
+// The beginning of a reply, and how long it is where that isn't all. (A part of a text between line feeds and arrows is a text.)
+fn beginning(alloc: Global, reply: &[u8]) -> Result<String, AllocError> {
+    let reply = str::from_utf8(reply).unwrap_or("");
     let mut text = String::new(alloc);
     for character in reply.chars().take(SHOWN) {
         text.push(character)?;
@@ -123,13 +148,13 @@ fn another(
     alloc: Global,
     name: &str,
     text: &str,
-    difference: &Difference,
+    shown: &Shown,
     reasons: &[String],
 ) -> Result<Value, AllocError> {
-    let (primitive, _) = split_line(text);
+    let primitive = first_line(text);
     let recorded = text
         .split('\n')
-        .nth(difference.line.saturating_sub(1) as usize)
+        .nth(shown.line.saturating_sub(1) as usize)
         .unwrap_or("");
     let (command, _) = recorded.split_once(" => ").unwrap_or((recorded, ""));
     let mut why = Vec::new(alloc);
@@ -140,10 +165,10 @@ fn another(
         "file": name,
         "verdict": "another",
         "primitive": primitive,
-        "line": difference.line,
+        "line": shown.line,
         "command": command,
-        "recorded": difference.recorded.as_str(),
-        "given": difference.given.as_str(),
+        "recorded": shown.recorded.as_str(),
+        "given": shown.given.as_str(),
         "why": Value::Array(why)
     })
 }
@@ -153,19 +178,18 @@ fn write_line<O: Write>(alloc: Global, value: &Value, output: &mut O) -> io::Res
     writeln!(output, "{line}")
 }
 
-// Why each waker is handed out at the line of this number of a recorded run. Where there is no memory to find out, nothing is said,
-// and the verdict stands alone.
-fn reasons(alloc: Global, text: &str, number: u64) -> Vec<String> {
-    match explained_at(alloc, text, number) {
+// Why each waker is handed out at the line of this number of a script. Where there is no memory to find out, nothing is said, and the
+// verdict stands alone.
+fn reasons(alloc: Global, script: &[u8], number: u64) -> Vec<String> {
+    match explained_at(alloc, script, number) {
         Ok(reasons) => reasons,
         Err(_) => Vec::new(alloc),
     }
 }
 
 // Why each waker is handed out there, as an explanation of the script says.
-fn explained_at(alloc: Global, text: &str, number: u64) -> Result<Vec<String>, Stopped> {
-    let recording = Recording::read(alloc, text)?;
-    let notes = numbered_notes(alloc, recording.script.as_str(), number)?;
+fn explained_at(alloc: Global, script: &[u8], number: u64) -> Result<Vec<String>, Stopped> {
+    let notes = numbered_notes(alloc, script, number)?;
     let margin = format!(in alloc; "{number}: ")?;
     let mut reasons = Vec::new(alloc);
     for note in str::from_utf8(&notes).unwrap_or("").split('\n') {
@@ -183,16 +207,16 @@ fn explained_at(alloc: Global, text: &str, number: u64) -> Result<Vec<String>, S
 }
 
 // The notes of an explanation of the first so many lines of a script, each behind the number of its line.
-fn numbered_notes(alloc: Global, script: &str, count: u64) -> Result<Vec<u8>, Stopped> {
-    let mut lines = String::new(alloc);
-    for line in script.split('\n').take(count as usize) {
-        lines.push_str(line)?;
-        lines.push('\n')?;
+fn numbered_notes(alloc: Global, script: &[u8], count: u64) -> Result<Vec<u8>, Stopped> {
+    let mut lines = Vec::new(alloc);
+    for line in script.split(|byte| *byte == b'\n').take(count as usize) {
+        lines.extend_from_slice(line)?;
+        lines.extend_from_slice(b"\n")?;
     }
     let mut notes = Vec::new(alloc);
     let mut answers = Vec::new(alloc);
     let mut explained = Explained::numbered(&mut notes);
-    play_text(&mut explained, lines.as_str(), &mut answers)?;
+    play_bytes(&mut explained, &lines, &mut answers)?;
     drop(explained);
     Ok(notes)
 }

@@ -1,7 +1,7 @@
 //! Scripts over the shared forms of their primitives.
 use crate::bad_line::Reason;
+use crate::inputs::first_line;
 use crate::stopped::Stopped;
-use esync_check::recording::split_line;
 use esync_forms::form::{Door, Doors};
 use esync_script::opening::Opening;
 use esync_shared::compare::compare;
@@ -37,7 +37,7 @@ pub fn compared<R: Wait, O: Write>(
 
 // That scripts can play the shared form of what line 1 names, if that is a primitive.
 fn is_shared(alloc: Global, text: &str) -> Result<(), Stopped> {
-    let (line, _) = split_line(text);
+    let line = first_line(text);
     let (column, text) = match opening_of(line) {
         Some(Opening::Lazy(_)) => {
             let why = "the shared form of lazy can't be played by scripts";

@@ -1,16 +1,14 @@
-use Rattle.std.proofs.Common.{◌<◌, ◌∙◌, ◌∷◌, ◌++◌, [], length, sym, rules, refl}
+use Rattle.std.proofs.Common.{◌<◌, ◌∙◌, ◌∷◌, ◌++◌, [], length, sym, refl}
 use Rattle.esync_check.proofs.Recorded.{shorter, not_empty, line_read, differ, alike, next_line}
 use Rattle.esync_check.proofs.difference.first_difference.Goals as goal
 
-pub returns-then-ne-clause-ok : goal.returns-then-ne-clause-ok
-returns-then-ne-clause-ok c =
+pub returns-then-ne : goal.returns-then-ne
+returns-then-ne c =
     let kept = c.loop-others.invariant in
     let others = not_empty c.loop-others.others.now (sym c.is_empty.ensures ∙ c.loop-others-test.true) in
-    let owns = not_empty c.loop-others.owns.now (sym c.is_empty-in-loop-others.ensures ∙ c.if-not-is_empty.true) in
-    let made = c.in_ok-made.ensures in
-    let n = length kept.same in (
-      n,
-      rw (made.recorded, made.given) (record {
+    let owns = not_empty c.loop-others.owns.now (sym c.is_empty-in-loop-others.ensures ∙ c.if-not-is_empty.true) in (
+      length kept.same,
+      record {
         same = kept.same;
         recorded_rest = c.split_line.result.1.now;
         given_rest = c.split_line-in-loop-others.result.1.now;
@@ -18,8 +16,8 @@ returns-then-ne-clause-ok c =
         given_read = line_read _ kept.same _ _ _ kept.given owns c.split_line-in-loop-others.ensures.line c.split_line-in-loop-others.ensures.rest;
         counted = refl;
         differ = differ _ _ _ c.ne.ensures c.if-ne.true;
-      }),
-      made.line ∙ kept.line,
+      },
+      kept.line,
     )
 
 pub loop-others-smaller : goal.loop-others-smaller
@@ -35,8 +33,6 @@ loop-others-preserved c =
     let line = c.split_line.result.0.now in
     let same = alike _ _ _ c.ne.ensures c.if-ne.false in
     record {
-      others = search rules;
-      owns = search rules;
       same = kept.same ++ line ∷ [];
       recorded = line_read _ kept.same _ line _ kept.recorded others c.split_line.ensures.line c.split_line.ensures.rest;
       given = line_read _ kept.same _ line _ kept.given owns (same ∙ c.split_line-in-loop-others.ensures.line) c.split_line-in-loop-others.ensures.rest;

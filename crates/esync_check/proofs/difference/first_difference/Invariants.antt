@@ -1,13 +1,9 @@
 use Rattle.std.proofs.Common.{◌≡◌, ℕ, List, ◌+◌, ◌-◌, ◌^◌, min, length}
-use denote.Text.{Utf8}
-use denote.Shadow.{shadow}
 use Rattle.esync_words.specs.Played.{Reads}
 use Rattle.esync_check.proofs.difference.first_difference.Given as goal
 
 abbrev pub invariant-loop-others : goal.invariant-loop-others
 invariant-loop-others l = record {
-  others : shadow (Utf8 l.others);
-  owns : shadow (Utf8 l.owns);
   same : List (List ℕ);
   recorded : Reads l.recorded same l.others;
   given : Reads l.given same l.owns;
