@@ -6,7 +6,7 @@ use Rattle.esync_base.specs.ListedLaws.{true_or_false, has_number-front, has_num
 use Rattle.esync_base.specs.declared.waitqueue.TaskId.{TaskId}
 use Rattle.esync_machine.specs.Runs.{Semantics}
 use Rattle.esync_history.specs.declared.executor.Act.{Act}
-use Rattle.esync_history.specs.Suited.{all_acts, AreSuited}
+use Rattle.esync_history.specs.Suited.{AreSuited}
 use Rattle.esync_history.specs.Todo.{Todo, fresh, has_ended, numbers_from, unended}
 use Rattle.esync_history.specs.Standing.{AreStanding}
 use Rattle.esync_history.specs.StandingLaws.{standing_first}
@@ -32,9 +32,9 @@ module _ {Ask Command : Type 0} where
   fresh_all items (v ∷ vs) = ap (λ ts. fresh (items v) ∷ ts) (fresh_all items vs)
 
 module _ {S Command Reply : Type 0} (X : Semantics S Command Reply TaskId) (numbers : ℕ) {Ask : Type 0} where
-  pub standing_new : {V : Type 0} (m : S) (items : V → List (Act Ask Command)) (vs given : List V) (tasks lent : List (Todo Ask Command)) (queue : List ℕ) → given ≡ vs → AreSuited X.meaning numbers (all_acts (map items given)) → tasks ≡ map (λ v. fresh (items v)) vs → lent ≡ tasks → queue ≡ unended lent → AreStanding X m tasks queue
+  pub standing_new : {V : Type 0} (m : S) (items : V → List (Act Ask Command)) (vs given : List V) (tasks lent : List (Todo Ask Command)) (queue : List ℕ) → given ≡ vs → AreSuited X.meaning numbers (map items given) → tasks ≡ map (λ v. fresh (items v)) vs → lent ≡ tasks → queue ≡ unended lent → AreStanding X m tasks queue
   standing_new m items vs given tasks lent queue g h t l q =
-      let first = standing_first X numbers (λ k. is_in k (unended (map fresh (map items vs))) ≡ true) m (map items vs) (subst (λ xs. AreSuited X.meaning numbers (all_acts (map items xs))) g h) (λ k t e u. (let z : 0 + k ≡ k = omega arith in subst (λ n. is_in n (unended (map fresh (map items vs))) ≡ true) z (unended_queued 0 (map fresh (map items vs)) k t e u))) in
+      let first = standing_first X numbers (λ k. is_in k (unended (map fresh (map items vs))) ≡ true) m (map items vs) (subst (λ xs. AreSuited X.meaning numbers (map items xs)) g h) (λ k t e u. (let z : 0 + k ≡ k = omega arith in subst (λ n. is_in n (unended (map fresh (map items vs))) ≡ true) z (unended_queued 0 (map fresh (map items vs)) k t e u))) in
       let made : tasks ≡ map fresh (map items vs) = t ∙ sym (fresh_all items vs) in
       let queued : queue ≡ unended (map fresh (map items vs)) = q ∙ ap unended (l ∙ made) in
       subst (λ xs. AreStanding X m xs queue) (sym made) (subst (λ ns. AreStanding X m (map fresh (map items vs)) ns) (sym queued) first)

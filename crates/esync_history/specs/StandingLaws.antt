@@ -1,8 +1,7 @@
 -- What acts make of the tasks without a turn, under any order of turns.
-use Rattle.std.proofs.Common.{◌≡◌, ℕ, zero, suc, Bool, true, false, ◌||◌, List, [], ◌∷◌, ◌++◌, map, Option, Some, None, ◌⊎◌, inl, inr, refl, sym, ap, subst, ◌∙◌, ◌==◌}
+use Rattle.std.proofs.Common.{◌≡◌, ℕ, zero, suc, Bool, true, false, ◌||◌, List, [], ◌∷◌, map, Option, Some, None, ◌⊎◌, inl, inr, refl, sym, ap, subst, ◌∙◌, ◌==◌}
 use Rattle.std.specs.Prelude.{slice_get, slice_set}
 use Rattle.std.specs.List.{list_any}
-use Rattle.std.proofs.lemmas.List.Folds.{list_any-append}
 use Rattle.esync_base.specs.declared.waitqueue.TaskId.{TaskId}
 use Rattle.esync_base.specs.ListedLaws.{true_or_false, same_number, equal_number, same_or_not}
 use Rattle.esync_machine.specs.Runs.{Meaning, Semantics, Step, Each, AtSome, Polls, HandsOut, OwedAreIdle, IdleIsPending, OnlyLiveArePolled}
@@ -10,7 +9,7 @@ use Rattle.esync_machine.specs.Keeps.{KeepsRequests}
 use Rattle.esync_machine.specs.Histories.{Turn, Through}
 use Rattle.esync_history.specs.declared.executor.Act.{Act}
 use Rattle.esync_history.specs.declared.executor.Act.TheVariants.{Await, Call}
-use Rattle.esync_history.specs.Suited.{awaits_at, all_acts, AreSuited}
+use Rattle.esync_history.specs.Suited.{awaits_at, some_awaits_at, IsSuitedTask, AreSuited}
 use Rattle.esync_history.specs.Todo.{Todo, fresh, has_ended}
 use Rattle.esync_history.specs.Turns.{IsPoll, Acts}
 use Rattle.esync_history.specs.Standing.{Uses, ArePlain, IsStanding, AreStandingBut, WouldMiss, WouldWait, AreStalled}
@@ -226,64 +225,52 @@ module _ {S Command Reply : Type 0} (X : Semantics S Command Reply TaskId) (idle
       let p = standing.idle k t there unended (none k) in
       (p.0, p.1, would_be_answered m p.0 (record { 0 = k }) p.2)
 
-second_false : (a b : Bool) → (a || b) ≡ false → b ≡ false
-second_false true b e = absurd cc
-second_false false b e = e
-
 second_true : (a b : Bool) → b ≡ true → (a || b) ≡ true
 second_true true b e = refl
 second_true false b e = e
 
-first_true : (a b : Bool) → a ≡ true → (a || b) ≡ true
-first_true true b e = refl
-first_true false b e = absurd cc
-
 module _ {Command Reply : Type 0} (M : Meaning Command Reply TaskId) (numbers : ℕ) {Ask : Type 0} where
-  suited_behind : (xs zs : List (Act Ask Command)) → AreSuited M numbers (xs ++ zs) → AreSuited M numbers zs
-  suited_behind [] zs h = h
-  suited_behind (x ∷ xs) zs h = suited_behind xs zs h.1
+  suited_plain : (later : List (List (Act Ask Command))) (acts : List (Act Ask Command)) → IsSuitedTask M numbers later acts → ArePlain M acts
+  suited_plain later [] h = tt
+  suited_plain later (Await r ask ∷ acts) h = suited_plain later acts h.1
+  suited_plain later (Call c ∷ acts) h = (h.0.0, h.0.1, suited_plain later acts h.1)
 
-  suited_plain : (xs zs : List (Act Ask Command)) → AreSuited M numbers (xs ++ zs) → ArePlain M xs
-  suited_plain [] zs h = tt
-  suited_plain (Await r ask ∷ xs) zs h = suited_plain xs zs h.1
-  suited_plain (Call c ∷ xs) zs h = (h.0.0, h.0.1, suited_plain xs zs h.1)
-
-  -- a request that an act awaits is awaited by no later act
-  suited_apart : (r : ℕ) (xs zs : List (Act Ask Command)) → AreSuited M numbers (xs ++ zs) → list_any (awaits_at r) xs ≡ true → list_any (awaits_at r) zs ≡ false
-  suited_apart r [] zs h e = absurd cc
-  suited_apart r (Call c ∷ xs) zs h e = suited_apart r xs zs h.1 e
-  suited_apart r (Await t ask ∷ xs) zs h e = elim (true_or_false (t == r)) [
-    | inl s ↦ subst (λ x. list_any (awaits_at x) zs ≡ false) (same_number t r s) (second_false (list_any (awaits_at t) xs) (list_any (awaits_at t) zs) (sym (list_any-append (awaits_at t) xs zs) ∙ h.0.1))
-    | inr s ↦ suited_apart r xs zs h.1 (rw s at e)
+  -- no later task awaits at a number at which a task awaits
+  suited_apart : (r : ℕ) (later : List (List (Act Ask Command))) (acts : List (Act Ask Command)) → IsSuitedTask M numbers later acts → list_any (awaits_at r) acts ≡ true → some_awaits_at r later ≡ false
+  suited_apart r later [] h e = absurd cc
+  suited_apart r later (Call c ∷ acts) h e = suited_apart r later acts h.1 e
+  suited_apart r later (Await t ask ∷ acts) h e = elim (true_or_false (t == r)) [
+    | inl s ↦ subst (λ x. some_awaits_at x later ≡ false) (same_number t r s) h.0.1
+    | inr s ↦ suited_apart r later acts h.1 (rw s at e)
   ]
 
-  awaited : (r : ℕ) (lists : List (List (Act Ask Command))) (k : ℕ) (xs : List (Act Ask Command)) → slice_get lists k ≡ Some xs → list_any (awaits_at r) xs ≡ true → list_any (awaits_at r) (all_acts lists) ≡ true
+  awaited : (r : ℕ) (lists : List (List (Act Ask Command))) (k : ℕ) (xs : List (Act Ask Command)) → slice_get lists k ≡ Some xs → list_any (awaits_at r) xs ≡ true → some_awaits_at r lists ≡ true
   awaited r [] k xs h e = absurd cc
   awaited r (ys ∷ lists) zero xs h e =
       let s : ys ≡ xs = cc in
-      list_any-append (awaits_at r) ys (all_acts lists) ∙ first_true (list_any (awaits_at r) ys) (list_any (awaits_at r) (all_acts lists)) (subst (λ x. list_any (awaits_at r) x ≡ true) (sym s) e)
+      rw (s, e) refl
   awaited r (ys ∷ lists) (suc k) xs h e =
-      list_any-append (awaits_at r) ys (all_acts lists) ∙ second_true (list_any (awaits_at r) ys) (list_any (awaits_at r) (all_acts lists)) (awaited r lists k xs h e)
+      second_true (list_any (awaits_at r) ys) (some_awaits_at r lists) (awaited r lists k xs h e)
 
-  lists_apart : (lists : List (List (Act Ask Command))) (j k r : ℕ) (xs ys : List (Act Ask Command)) → AreSuited M numbers (all_acts lists) → slice_get lists j ≡ Some xs → slice_get lists k ≡ Some ys → list_any (awaits_at r) xs ≡ true → list_any (awaits_at r) ys ≡ true → j ≡ k
+  lists_apart : (lists : List (List (Act Ask Command))) (j k r : ℕ) (xs ys : List (Act Ask Command)) → AreSuited M numbers lists → slice_get lists j ≡ Some xs → slice_get lists k ≡ Some ys → list_any (awaits_at r) xs ≡ true → list_any (awaits_at r) ys ≡ true → j ≡ k
   lists_apart [] j k r xs ys h hx hy ex ey = absurd cc
   lists_apart (zs ∷ lists) zero zero r xs ys h hx hy ex ey = refl
   lists_apart (zs ∷ lists) zero (suc k) r xs ys h hx hy ex ey =
       let s : zs ≡ xs = cc in
-      let none = suited_apart r zs (all_acts lists) h (subst (λ x. list_any (awaits_at r) x ≡ true) (sym s) ex) in
+      let none = suited_apart r lists zs h.0 (subst (λ x. list_any (awaits_at r) x ≡ true) (sym s) ex) in
       let some = awaited r lists k ys hy ey in
       absurd cc
   lists_apart (zs ∷ lists) (suc j) zero r xs ys h hx hy ex ey =
       let s : zs ≡ ys = cc in
-      let none = suited_apart r zs (all_acts lists) h (subst (λ x. list_any (awaits_at r) x ≡ true) (sym s) ey) in
+      let none = suited_apart r lists zs h.0 (subst (λ x. list_any (awaits_at r) x ≡ true) (sym s) ey) in
       let some = awaited r lists j xs hx ex in
       absurd cc
-  lists_apart (zs ∷ lists) (suc j) (suc k) r xs ys h hx hy ex ey = ap suc (lists_apart lists j k r xs ys (suited_behind zs (all_acts lists) h) hx hy ex ey)
+  lists_apart (zs ∷ lists) (suc j) (suc k) r xs ys h hx hy ex ey = ap suc (lists_apart lists j k r xs ys h.1 hx hy ex ey)
 
-  lists_plain : (lists : List (List (Act Ask Command))) (k : ℕ) (xs : List (Act Ask Command)) → AreSuited M numbers (all_acts lists) → slice_get lists k ≡ Some xs → ArePlain M xs
+  lists_plain : (lists : List (List (Act Ask Command))) (k : ℕ) (xs : List (Act Ask Command)) → AreSuited M numbers lists → slice_get lists k ≡ Some xs → ArePlain M xs
   lists_plain [] k xs h e = absurd cc
-  lists_plain (zs ∷ lists) zero xs h e = (let s : zs ≡ xs = cc in subst (λ x. ArePlain M x) s (suited_plain zs (all_acts lists) h))
-  lists_plain (zs ∷ lists) (suc k) xs h e = lists_plain lists k xs (suited_behind zs (all_acts lists) h) e
+  lists_plain (zs ∷ lists) zero xs h e = (let s : zs ≡ xs = cc in subst (λ x. ArePlain M x) s (suited_plain lists zs h.0))
+  lists_plain (zs ∷ lists) (suc k) xs h e = lists_plain lists k xs h.1 e
 
   fresh_at : (lists : List (List (Act Ask Command))) (k : ℕ) (t : Todo Ask Command) → slice_get (map fresh lists) k ≡ Some t → (xs : List (Act Ask Command)) × (slice_get lists k ≡ Some xs) × (t ≡ fresh xs)
   fresh_at [] k t e = absurd cc
@@ -296,7 +283,7 @@ module _ {Command Reply : Type 0} (M : Meaning Command Reply TaskId) (numbers : 
 
 module _ {S Command Reply : Type 0} (X : Semantics S Command Reply TaskId) (numbers : ℕ) {Ask : Type 0} where
   -- before the first turn, if each task that hasn't ended has a turn
-  pub standing_first : (HasTurn : ℕ → Type 0) (m : S) (lists : List (List (Act Ask Command))) → AreSuited X.meaning numbers (all_acts lists) → ((k : ℕ) (t : Todo Ask Command) → slice_get (map fresh lists) k ≡ Some t → has_ended t ≡ false → HasTurn k) → AreStandingBut X HasTurn m (map fresh lists)
+  pub standing_first : (HasTurn : ℕ → Type 0) (m : S) (lists : List (List (Act Ask Command))) → AreSuited X.meaning numbers lists → ((k : ℕ) (t : Todo Ask Command) → slice_get (map fresh lists) k ≡ Some t → has_ended t ≡ false → HasTurn k) → AreStandingBut X HasTurn m (map fresh lists)
   standing_first HasTurn m lists h turns = record {
     apart = λ j k a b r ha hb ua ub.
         let p = fresh_at X.meaning numbers lists j a ha in

@@ -2,7 +2,7 @@
 ghost use Rattle.std.specs.Prelude.{◌≡◌, ◌≤◌, [], length, map, slice_get, ◌⊎◌, IfOk, IfNone, Err};
 ghost use Rattle.std.specs.Option.{option_copied};
 ghost use Rattle.std.specs.Bool.{OnTrue, OnFalse};
-ghost use Rattle.esync_history.specs.Suited.{all_acts, AreSuited};
+ghost use Rattle.esync_history.specs.Suited.{AreSuited};
 ghost use Rattle.esync_history.specs.Todo.{fresh, unended, act_counts};
 
 use crate::queue::Queue;
@@ -20,7 +20,7 @@ use thiserror::Error;
 #[derive(Clone, Copy, Debug, PartialEq, Eq)]
 pub enum Act<A, C> {
     /// Starts a request at the number, and polls it until the answer is neither Pending nor NoMemory. The act is over
-    /// at once if the start is answered NoSuch.
+    /// at once if the start is answered NoSuch. Later acts of the task may await at the number again; no other task may.
     Await(usize, A),
     /// Makes a call. The act is over with any answer.
     Call(C),
@@ -29,9 +29,9 @@ pub enum Act<A, C> {
 /// The reason why an executor was refused. The machine and the tasks that were handed in are dropped.
 #[derive(Clone, Copy, Debug, PartialEq, Eq, Error)]
 pub enum NewError {
-    /// Two Awaits use one number, an Await uses a number that the machine doesn't have, or a Call starts or polls. No
-    /// memory was asked for.
-    #[error("a request is used twice or isn't the machine's, or a call starts or polls")]
+    /// Two tasks await at one number, an Await's number isn't the machine's, or a Call starts or polls. No memory was
+    /// asked for.
+    #[error("two tasks use one request, or it isn't the machine's, or a call starts or polls")]
     NoSuch,
     /// There was no memory for the tasks, or for the answers of their acts.
     #[error("there was no memory for the tasks")]
@@ -109,8 +109,8 @@ where
         machine: M,
         tasks: Vec<Vec<Act<M::Ask, M::Command>>>,
     ) -> Result<Self, NewError>
-        ensures unsuited { result ≡ Err NewError.NoSuch → AreSuited M.semantics.meaning M.REQS (all_acts (map (λ acts. acts.items) tasks.items)) → ⊥ }
-        ensures suited { (result ≡ Err NewError.NoSuch) ⊎ AreSuited M.semantics.meaning M.REQS (all_acts (map (λ acts. acts.items) tasks.items)) }
+        ensures unsuited { result ≡ Err NewError.NoSuch → AreSuited M.semantics.meaning M.REQS (map (λ acts. acts.items) tasks.items) → ⊥ }
+        ensures suited { (result ≡ Err NewError.NoSuch) ⊎ AreSuited M.semantics.meaning M.REQS (map (λ acts. acts.items) tasks.items) }
         ensures machine { IfOk result (λ executor. executor.machine ≡ machine) }
         ensures tasks { IfOk result (λ executor. executor.tasks ≡ map (λ acts. fresh acts.items) tasks.items) }
         ensures queue { IfOk result (λ executor. executor.queue ≡ unended executor.tasks) }

@@ -1,7 +1,7 @@
 //! Which tasks an executor takes.
-ghost use Rattle.std.specs.Prelude.{◌≡◌, ◌++◌, map, ◌↔◌, IsTrue};
+ghost use Rattle.std.specs.Prelude.{◌≡◌, map, ◌↔◌, IsTrue};
 ghost use Rattle.std.specs.List.{list_any};
-ghost use Rattle.esync_history.specs.Suited.{awaits_at, all_acts, IsSuited, AreSuited};
+ghost use Rattle.esync_history.specs.Suited.{awaits_at, some_awaits_at, IsSuited, IsSuitedTask, AreSuited};
 
 use crate::executor::Act;
 use esync_base::waitqueue::TaskId;
@@ -24,45 +24,36 @@ fn any_awaits_at<A, C>(acts: &[Act<A, C>], r: usize) -> bool
     acts.iter().any(|act| awaits_at(act, r))
 }
 
-// Returns whether one of the tasks' acts awaits the request at the number.
-fn any_task_awaits_at<A, C>(tasks: &[Vec<Act<A, C>>], r: usize) -> bool
-    ensures { result ≡ list_any (λ acts. list_any (awaits_at r) acts.items) tasks.now }
+// Returns whether one of the tasks awaits the request at the number.
+fn some_awaits_at<A, C>(tasks: &[Vec<Act<A, C>>], r: usize) -> bool
+    ensures { result ≡ some_awaits_at r (map (λ acts. acts.items) tasks.now) }
 {
     tasks.iter().any(|acts| any_awaits_at(acts, r))
 }
 
-// Returns whether a later act awaits the request at the number: one behind this act in its task, or one of a later
-// task.
-fn later_awaits_at<A, C>(behind: &[Act<A, C>], later: &[Vec<Act<A, C>>], r: usize) -> bool
-    ensures { result ≡ list_any (awaits_at r) (behind.now ++ all_acts (map (λ acts. acts.items) later.now)) }
-{
-    any_awaits_at(behind, r) || any_task_awaits_at(later, r)
-}
-
-// Returns whether the act is suited to the acts that come after it.
+// Returns whether an act of a task is suited to the tasks behind it.
 fn is_suited<M: Awaits<Waker = TaskId>>(
     act: &Act<M::Ask, M::Command>,
-    behind: &[Act<M::Ask, M::Command>],
     later: &[Vec<Act<M::Ask, M::Command>>],
 ) -> bool
-    ensures { IsTrue result ↔ IsSuited M.semantics.meaning M.REQS act.now (behind.now ++ all_acts (map (λ acts. acts.items) later.now)) }
+    ensures { IsTrue result ↔ IsSuited M.semantics.meaning M.REQS (map (λ acts. acts.items) later.now) act.now }
 {
     match act {
-        Act::Await(r, _) => *r < M::REQS && !later_awaits_at(behind, later, *r),
+        Act::Await(r, _) => *r < M::REQS && !some_awaits_at(later, *r),
         Act::Call(command) => !M::is_start(command) && !M::is_poll(command),
     }
 }
 
-// Returns whether all acts of a task are suited to those of the later tasks.
+// Returns whether a task with these acts is suited to the tasks behind it.
 fn is_suited_task<M: Awaits<Waker = TaskId>>(
     acts: &[Act<M::Ask, M::Command>],
     later: &[Vec<Act<M::Ask, M::Command>>],
 ) -> bool
-    ensures { let others = all_acts (map (λ acts. acts.items) later.now) in AreSuited M.semantics.meaning M.REQS (acts.now ++ others) ↔ (IsTrue result × AreSuited M.semantics.meaning M.REQS others) }
+    ensures { IsTrue result ↔ IsSuitedTask M.semantics.meaning M.REQS (map (λ acts. acts.items) later.now) acts.now }
 {
     let mut rest = acts;
     while let Some((act, behind)) = rest.split_first() {
-        if !is_suited::<M>(act, behind, later) {
+        if !is_suited::<M>(act, later) {
             return false;
         }
         rest = behind;
@@ -70,10 +61,10 @@ fn is_suited_task<M: Awaits<Waker = TaskId>>(
     true
 }
 
-/// Returns whether an executor takes the tasks: no two Awaits use one number, each number is one of the machine's, and
-/// no Call starts or polls.
+/// Returns whether an executor takes the tasks: no two tasks await at one number, each number is one of the machine's,
+/// and no Call starts or polls.
 pub fn are_suited<M: Awaits<Waker = TaskId>>(tasks: &[Vec<Act<M::Ask, M::Command>>]) -> bool
-    ensures { IsTrue result ↔ AreSuited M.semantics.meaning M.REQS (all_acts (map (λ acts. acts.items) tasks.now)) }
+    ensures { IsTrue result ↔ AreSuited M.semantics.meaning M.REQS (map (λ acts. acts.items) tasks.now) }
 {
     let mut rest = tasks;
     while let Some((acts, later)) = rest.split_first() {

@@ -32,18 +32,27 @@ fn mutex() -> Mutex {
     Requests::new(Guarded::new((0, 0), Second {}))
 }
 
-// So many tasks, each of which locks the mutex and unlocks it.
-fn lockers(alloc: Global, count: usize) -> Result<Vec<Vec<OneAct>>, AllocError> {
+// So many tasks, each of which locks the mutex and unlocks it so many times, always under its own number.
+fn lockers(alloc: Global, count: usize, times: u8) -> Result<Vec<Vec<OneAct>>, AllocError> {
     let mut tasks = Vec::new(alloc);
     for r in 0..count {
-        let task = vec![in alloc; Act::Await(r, Lock {}), Act::Call(Command::End(r))]?;
+        let mut task = Vec::new(alloc);
+        for _time in 0..times {
+            task.push(Act::Await(r, Lock {}))?;
+            task.push(Act::Call(Command::End(r)))?;
+        }
         tasks.push(task)?;
     }
     Ok(tasks)
 }
 
-fn explore_one(alloc: Global, count: usize, limit: usize) -> Result<Verdict, NewError> {
-    explore(alloc, &MUTEX, mutex(), &lockers(alloc, count)?, &[], limit)
+fn explore_one(
+    alloc: Global,
+    count: usize,
+    times: u8,
+    limit: usize,
+) -> Result<Verdict, NewError> {
+    explore(alloc, &MUTEX, mutex(), &lockers(alloc, count, times)?, &[], limit)
 }
 
 // A task that takes the left mutex first, or the right one.
@@ -112,29 +121,43 @@ fn explore_narrow(alloc: Global) -> Result<Verdict, NewError> {
     )
 }
 
-// Two requests of one number.
+// A task that locks the mutex under one number, and again while its guard stays there.
 fn locks_twice(alloc: Global) -> Result<Vec<Vec<OneAct>>, AllocError> {
     let locks = vec![in alloc; Act::Await(0, Lock {}), Act::Await(0, Lock {})]?;
     Ok(vec![in alloc; locks]?)
 }
 
+// Two tasks that lock the mutex under one number, the second one once it has locked it under its own.
+fn lock_under_one(alloc: Global) -> Result<Vec<Vec<OneAct>>, AllocError> {
+    let one = vec![in alloc; Act::Await(0, Lock {})]?;
+    let other = vec![in alloc; Act::Await(1, Lock {}), Act::Await(0, Lock {})]?;
+    Ok(vec![in alloc; one, other]?)
+}
+
 #[test]
 fn no_task_has_ended(rt: HostRuntime) -> Result<(), NewError> {
-    assert!(&rt; explore_one(rt.alloc(), 0, 1)? == Verdict::AllEnd(0));
+    assert!(&rt; explore_one(rt.alloc(), 0, 1, 1)? == Verdict::AllEnd(0));
     Ok(())
 }
 
 #[test]
 fn two_tasks_of_one_mutex_end(rt: HostRuntime) -> Result<(), NewError> {
-    assert!(&rt; explore_one(rt.alloc(), 2, 11)? == Verdict::TooMany(11));
-    assert!(&rt; explore_one(rt.alloc(), 2, 12)? == Verdict::AllEnd(5));
+    assert!(&rt; explore_one(rt.alloc(), 2, 1, 11)? == Verdict::TooMany(11));
+    assert!(&rt; explore_one(rt.alloc(), 2, 1, 12)? == Verdict::AllEnd(5));
+    Ok(())
+}
+
+#[test]
+fn two_tasks_use_their_numbers_again(rt: HostRuntime) -> Result<(), NewError> {
+    assert!(&rt; explore_one(rt.alloc(), 2, 2, 40)? == Verdict::TooMany(40));
+    assert!(&rt; explore_one(rt.alloc(), 2, 2, 41)? == Verdict::AllEnd(11));
     Ok(())
 }
 
 #[test]
 fn three_tasks_of_one_mutex_may_displace_one_another(rt: HostRuntime) -> Result<(), NewError> {
-    assert!(&rt; explore_one(rt.alloc(), 3, 55)? == Verdict::TooMany(55));
-    assert!(&rt; explore_one(rt.alloc(), 3, 56)? == Verdict::AllCanEnd);
+    assert!(&rt; explore_one(rt.alloc(), 3, 1, 55)? == Verdict::TooMany(55));
+    assert!(&rt; explore_one(rt.alloc(), 3, 1, 56)? == Verdict::AllCanEnd);
     Ok(())
 }
 
@@ -181,9 +204,18 @@ fn opposite_orders_on_an_executor_and_a_thread_stall(rt: HostRuntime) -> Result<
     Ok(())
 }
 
+// Its second start is answered NoSuch, so it ends.
 #[test]
-fn a_number_that_is_used_twice_is_refused(rt: HostRuntime) -> Result<(), NewError> {
+fn a_number_under_which_a_guard_stays_starts_nothing(rt: HostRuntime) -> Result<(), NewError> {
     let tasks = locks_twice(rt.alloc())?;
+    let ends = explore(rt.alloc(), &MUTEX, mutex(), &tasks, &[], 10)?;
+    assert!(&rt; ends == Verdict::AllEnd(2));
+    Ok(())
+}
+
+#[test]
+fn a_number_that_two_tasks_use_is_refused(rt: HostRuntime) -> Result<(), NewError> {
+    let tasks = lock_under_one(rt.alloc())?;
     let refused = explore(rt.alloc(), &MUTEX, mutex(), &tasks, &[], 10);
     assert!(&rt; matches!(refused, Err(NewError::NoSuch)));
     Ok(())

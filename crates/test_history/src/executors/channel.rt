@@ -180,9 +180,27 @@ const RECEIVE_AT_2: ChannelAct = Act::Await(2, ChannelAsk::Receive);
 
 const SEND_1: ChannelAct = Act::Call(Command::Call(ChannelCall::TrySend(1)));
 
+const USES_A_NUMBER_AGAIN: Tasks = &[&[SEND_1, RECEIVE_AT_2, SEND, RECEIVE_AT_2]];
+
+const RECEIVES_TWICE: Runs = &[(
+    4,
+    Outcome::Done,
+    Some(&[&[
+        SENT,
+        Answer::Gives(ChannelHeard::Received(1)),
+        SENT,
+        RECEIVED,
+    ]]),
+)];
+
+#[test]
+fn a_task_uses_a_number_again(rt: HostRuntime) -> Result<(), NewError> {
+    plays(&rt, rt.alloc(), &[], USES_A_NUMBER_AGAIN, RECEIVES_TWICE, 0)
+}
+
 const UNSUITED: &[Tasks] = &[
-    &[&[RECEIVE_AT_2, SEND_1, RECEIVE_AT_2]],
     &[&[RECEIVE_AT_2], &[SEND_1], &[RECEIVE_AT_2]],
+    &[&[SEND_1, RECEIVE_AT_2], &[RECEIVE, RECEIVE_AT_2]],
     &[
         &[Act::Await(15, ChannelAsk::Receive)],
         &[Act::Await(16, ChannelAsk::Receive)],
