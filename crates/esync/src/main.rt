@@ -15,6 +15,7 @@ fn main(rt: HostRuntime) -> ExitCode {
         notes: rt.stdout(),
         is_watched: errors.is_terminal(),
         errors,
+        clock: &rt,
     };
     match words_of(&rt) {
         Ok(words) => ExitCode::from(esync(&rt, rt.alloc(), words.as_slice(), streams)),

@@ -1,5 +1,6 @@
-//! A gauge of a trial of ends, for a reader at a terminal.
+//! A gauge of what takes long, for a reader at a terminal.
 use crate::Progress;
+use std::fmt::Display;
 use std::io::Write;
 use std::time::{Clock, Duration};
 
@@ -8,8 +9,8 @@ const FIRST: u64 = 1000;
 
 const NEXT: u64 = 200;
 
-/// A gauge: it tells in one line of a terminal how far a trial has come, once it takes longer than a second, and wipes
-/// the line at the end.
+/// A gauge: it tells in one line of a terminal how far a trial or an exploration has come, once it takes longer than a
+/// second, and wipes the line at the end.
 #[derive(Drop)]
 pub struct Gauge<C: Clock + Drop, E: Write + Drop> {
     clock: C,
@@ -37,7 +38,7 @@ impl<C: Clock + Drop, E: Write + Drop> Gauge<C, E> {
 }
 
 impl<C: Clock + Drop, E: Write + Drop> Progress for Gauge<C, E> {
-    fn hear(&mut self, line: u64, lines: u64, ends: u64) {
+    fn hear<D: Display>(&mut self, done: &D) {
         let (Some(next), Ok(now)) = (self.next, self.clock.monotonic()) else {
             return;
         };
@@ -46,10 +47,7 @@ impl<C: Clock + Drop, E: Write + Drop> Progress for Gauge<C, E> {
         }
         self.next = later(&self.clock, NEXT);
         self.is_said = true;
-        let _ = write!(
-            self.errors,
-            "\resync: line {line} of {lines}, {ends} ends tried"
-        );
+        let _ = write!(self.errors, "\resync: {done}");
         let _ = self.errors.flush();
     }
 

@@ -15,7 +15,7 @@ use esync_words::play::Parts;
 use esync_words::vocabulary::{REQS, Vocabulary, read_command};
 use esync_words::words::Words;
 use std::alloc::{AllocError, Global};
-use std::fmt::Debug;
+use std::fmt::{self, Debug, Display, Formatter};
 use std::io::{Read, Write};
 
 pub mod gauge;
@@ -39,12 +39,12 @@ impl Delivery for Reaches {
     }
 }
 
-/// A listener to the progress of a trial.
+/// A listener to the progress of what takes long, as a trial.
 pub trait Progress: Drop {
-    /// Hears that the ends after this line, of so many lines, were tried, and how many ends in all.
-    fn hear(&mut self, line: u64, lines: u64, ends: u64);
+    /// Hears how far it has come.
+    fn hear<D: Display>(&mut self, done: &D);
 
-    /// Hears that the trial is over.
+    /// Hears that it is over.
     fn end(&mut self);
 }
 
@@ -53,7 +53,7 @@ pub trait Progress: Drop {
 pub struct Unheard {}
 
 impl Progress for Unheard {
-    fn hear(&mut self, _line: u64, _lines: u64, _ends: u64) {}
+    fn hear<D: Display>(&mut self, _done: &D) {}
 
     fn end(&mut self) {}
 }
@@ -102,6 +102,21 @@ struct Tried {
     untold: u64,
     // Whether there are more ends than the limit.
     is_cut: bool,
+}
+
+// How far a trial has come: the ends after this line, of so many lines, were tried, and how many ends in all.
+#[derive(Clone, Copy)]
+struct Reached {
+    line: u64,
+    lines: u64,
+    ends: u64,
+}
+
+impl Display for Reached {
+    fn fmt<W: fmt::Write>(&self, f: &mut Formatter<W>) -> fmt::Result {
+        let Reached { line, lines, ends } = self;
+        write!(f, "line {line} of {lines}, {ends} ends tried")
+    }
 }
 
 // A trial: it goes through a script, and tries the sooner ends of its requests.
@@ -203,7 +218,8 @@ impl<D: Delivery, P: Progress> Trial<D, P> {
             if self.tried.is_cut {
                 break;
             }
-            self.progress.hear(line, lines, self.tried.ends);
+            let ends = self.tried.ends;
+            self.progress.hear(&Reached { line, lines, ends });
         }
         Ok(())
     }

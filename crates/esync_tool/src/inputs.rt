@@ -148,9 +148,9 @@ pub fn first_line(text: &str) -> &str {
 }
 
 /// Says that a terminal is read, where it is.
-pub fn hint<I: Drop, O: Drop, N: Drop, E: Write + Drop>(
+pub fn hint<I: Drop, O: Drop, N: Drop, E: Write + Drop, K: Drop>(
     name: &str,
-    streams: &mut Streams<I, O, N, E>,
+    streams: &mut Streams<I, O, N, E, K>,
 ) {
     if name == "-" && streams.is_terminal {
         let _ = writeln!(

@@ -26,7 +26,7 @@ mod tasks;
 
 /// What the tool reads and writes.
 #[derive(Drop)]
-pub struct Streams<I: Drop, O: Drop, N: Drop, E: Drop> {
+pub struct Streams<I: Drop, O: Drop, N: Drop, E: Drop, K: Drop> {
     pub input: I,
     /// The input is a terminal, where somebody types.
     pub is_terminal: bool,
@@ -36,6 +36,8 @@ pub struct Streams<I: Drop, O: Drop, N: Drop, E: Drop> {
     pub errors: E,
     /// The errors are a terminal, where somebody waits.
     pub is_watched: bool,
+    /// By this clock it is told how far something has come that takes long.
+    pub clock: K,
 }
 
 /// Does what the words of a command line ask for, of which the first is the program's name, and returns the status.
@@ -50,18 +52,19 @@ pub struct Streams<I: Drop, O: Drop, N: Drop, E: Drop> {
 ///
 /// Of several files the greatest status counts. A write to `output` or `notes` that fails is the last one; whether `errors` can be
 /// written changes no status.
-pub fn esync<R, I, O, N, E>(
+pub fn esync<R, I, O, N, E, K>(
     rt: &R,
     alloc: Global,
     words: &[String],
-    streams: Streams<I, O, N, E>,
+    streams: Streams<I, O, N, E, K>,
 ) -> u8
 where
-    R: Files + Wait + Clock,
+    R: Files + Wait,
     I: Read + Drop,
     O: Write + Drop,
     N: Write + Drop,
     E: Write + Drop,
+    K: Clock + Drop,
 {
     let mut streams = streams;
     match asked(rt, alloc, words, &mut streams) {
@@ -74,18 +77,19 @@ where
     }
 }
 
-fn asked<R, I, O, N, E>(
+fn asked<R, I, O, N, E, K>(
     rt: &R,
     alloc: Global,
     words: &[String],
-    streams: &mut Streams<I, O, N, E>,
+    streams: &mut Streams<I, O, N, E, K>,
 ) -> Result<u8, Stopped>
 where
-    R: Files + Wait + Clock,
+    R: Files + Wait,
     I: Read + Drop,
     O: Write + Drop,
     N: Write + Drop,
     E: Write + Drop,
+    K: Clock + Drop,
 {
     let command = arguments::command(alloc)?;
     let matches = match command.try_get_matches_from(words) {
@@ -99,9 +103,9 @@ where
 }
 
 // Says what the command line asks to be told: a help, the version, or what isn't understood.
-fn said<I: Drop, O: Write + Drop, N: Drop, E: Write + Drop>(
+fn said<I: Drop, O: Write + Drop, N: Drop, E: Write + Drop, K: Drop>(
     error: &clap::Error,
-    streams: &mut Streams<I, O, N, E>,
+    streams: &mut Streams<I, O, N, E, K>,
 ) -> Result<u8, Stopped> {
     if error.kind() == clap::error::ErrorKind::OutOfMemory {
         return Err(Stopped::Fault(Fault::OutOfMemory));

@@ -28,19 +28,20 @@ use std::sync::Wait;
 use std::time::Clock;
 
 /// Does what the command of this name asks for.
-pub fn perform<R, I, O, N, E>(
+pub fn perform<R, I, O, N, E, K>(
     rt: &R,
     alloc: Global,
     name: &str,
     matches: &ArgMatches<'_>,
-    streams: &mut Streams<I, O, N, E>,
+    streams: &mut Streams<I, O, N, E, K>,
 ) -> Result<u8, Stopped>
 where
-    R: Files + Wait + Clock,
+    R: Files + Wait,
     I: Read + Drop,
     O: Write + Drop,
     N: Write + Drop,
     E: Write + Drop,
+    K: Clock + Drop,
 {
     let file = matches.get_str("FILE").unwrap_or("-");
     match name {
@@ -82,12 +83,12 @@ where
 }
 
 // Plays a script, and writes what is told of it.
-fn tell<T, R, I, O, N, E>(
+fn tell<T, R, I, O, N, E, K>(
     rt: &R,
     alloc: Global,
     telling: &mut T,
     name: &str,
-    streams: &mut Streams<I, O, N, E>,
+    streams: &mut Streams<I, O, N, E, K>,
 ) -> Result<u8, Stopped>
 where
     T: Telling,
@@ -96,6 +97,7 @@ where
     O: Write + Drop,
     N: Drop,
     E: Write + Drop,
+    K: Drop,
 {
     hint(name, streams);
     let Streams {
@@ -141,11 +143,11 @@ fn told_of<T: Telling, S: Read + Drop, O: Write + Drop>(
 }
 
 // Plays a script, and writes each answer, and behind it why each waker was handed out.
-fn explain<R, I, O, N, E>(
+fn explain<R, I, O, N, E, K>(
     rt: &R,
     alloc: Global,
     name: &str,
-    streams: &mut Streams<I, O, N, E>,
+    streams: &mut Streams<I, O, N, E, K>,
 ) -> Result<u8, Stopped>
 where
     R: Files,
@@ -153,6 +155,7 @@ where
     O: Write + Drop,
     N: Write + Drop,
     E: Write + Drop,
+    K: Drop,
 {
     hint(name, streams);
     let Streams {
@@ -226,19 +229,20 @@ impl Work {
 }
 
 // Does it with each file that is named, and counts them where there are several. A write that fails ends it.
-fn with_files<R, I, O, N, E>(
+fn with_files<R, I, O, N, E, K>(
     rt: &R,
     alloc: Global,
     what: Work,
     matches: &ArgMatches<'_>,
-    streams: &mut Streams<I, O, N, E>,
+    streams: &mut Streams<I, O, N, E, K>,
 ) -> Result<u8, Stopped>
 where
-    R: Files + Wait + Clock,
+    R: Files + Wait,
     I: Read + Drop,
     O: Write + Drop,
     N: Drop,
     E: Write + Drop,
+    K: Clock + Drop,
 {
     let names = matches.get_strs("FILE").unwrap_or(&["-"]);
     let are_counted = names.len() > 1 && !what.is_json();
@@ -251,11 +255,12 @@ where
             output,
             errors,
             is_watched,
+            clock,
             ..
         } = streams;
         let heading = are_counted.then_some(*name);
         let mut told = Vec::new(alloc);
-        let gauge = Gauge::new(rt, &mut *errors, *is_watched);
+        let gauge = Gauge::new(&*clock, &mut *errors, *is_watched);
         let outcome = gone_through(rt, alloc, what, name, input, gauge, &mut told);
         if let Err(error) = write_told(heading, what, &told, output) {
             return Ok(status(name, Err(Stopped::from(error)), errors).max(greatest));
@@ -363,7 +368,7 @@ where
         }
         Work::Shared => played(rt, alloc, text, told),
         Work::Compare => compared(rt, alloc, text, told),
-        Work::Explore(form, limit) => explore(alloc, name, text, form, limit, told),
+        Work::Explore(form, limit) => explore(alloc, name, text, form, limit, progress, told),
     };
     // (what is told is kept in memory, so that a write that fails has none)
     let is_recorded = what.is_recorded();

@@ -8,6 +8,7 @@ use esync_guards::mutex::machine::{Guarded, Lock, MutexCommand, MutexRun};
 use esync_history::executor::{Act, NewError};
 use esync_machine::primitive::Command;
 use esync_machine::requests::Requests;
+use esync_systems::budget::Budget;
 use esync_systems::compare::{ComparesBoth, ComparesRequests};
 use esync_systems::explore::{Verdict, explore, explore_pair};
 use esync_systems::pair::{Pair, PairAsk, PairCommand};
@@ -46,13 +47,15 @@ fn lockers(alloc: Global, count: usize, times: u8) -> Result<Vec<Vec<OneAct>>, A
     Ok(tasks)
 }
 
-fn explore_one(
-    alloc: Global,
-    count: usize,
-    times: u8,
-    limit: usize,
-) -> Result<Verdict, NewError> {
-    explore(alloc, &MUTEX, mutex(), &lockers(alloc, count, times)?, &[], limit)
+fn explore_one(alloc: Global, count: usize, times: u8, limit: usize) -> Result<Verdict, NewError> {
+    explore(
+        alloc,
+        &MUTEX,
+        mutex(),
+        &lockers(alloc, count, times)?,
+        &[],
+        limit,
+    )
 }
 
 // A task that takes the left mutex first, or the right one.
@@ -151,6 +154,39 @@ fn two_tasks_of_one_mutex_end(rt: HostRuntime) -> Result<(), NewError> {
 fn two_tasks_use_their_numbers_again(rt: HostRuntime) -> Result<(), NewError> {
     assert!(&rt; explore_one(rt.alloc(), 2, 2, 40)? == Verdict::TooMany(40));
     assert!(&rt; explore_one(rt.alloc(), 2, 2, 41)? == Verdict::AllEnd(11));
+    Ok(())
+}
+
+// A limit that hears how many states were gathered.
+#[derive(Drop)]
+struct Counted {
+    most: usize,
+    states: usize,
+}
+
+impl Budget for Counted {
+    fn allows(&mut self, states: usize) -> bool {
+        self.states = states;
+        states < self.most
+    }
+}
+
+fn explore_counted(alloc: Global, counted: &mut Counted) -> Result<Verdict, NewError> {
+    explore(alloc, &MUTEX, mutex(), &lockers(alloc, 2, 1)?, &[], counted)
+}
+
+// (it is asked before each state but the first, so last with one fewer than all)
+#[test]
+fn a_budget_hears_how_many_states_there_are(rt: HostRuntime) -> Result<(), NewError> {
+    let mut all = Counted {
+        most: 100,
+        states: 0,
+    };
+    assert!(&rt; explore_counted(rt.alloc(), &mut all)? == Verdict::AllEnd(5));
+    assert!(&rt; all.states == 11);
+    let mut few = Counted { most: 4, states: 0 };
+    assert!(&rt; explore_counted(rt.alloc(), &mut few)? == Verdict::TooMany(4));
+    assert!(&rt; few.states == 4);
     Ok(())
 }
 

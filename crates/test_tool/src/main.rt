@@ -1,6 +1,6 @@
 //! Plays each script of the cases that are named, by the tool `esync` or by `syncrun`, and prints what is written of it.
 //!
-//!     test_tool [--syncrun | --draw | --pages | --explain | --reasons | --ends | --check | --explore | --words] NAME.. [--draw NAME.. ..]
+//!     test_tool [--syncrun | --draw | --pages | --explain | --reasons | --ends | --check | --explore | --watched | --words] NAME.. [--draw NAME.. ..]
 //!
 //! A case is a file of scripts, with a line `=` between two. Of each script it prints the case's name, with the script's number
 //! where there are several; what is written to the output, to the notes and to the errors; and the status. A word before the
@@ -10,10 +10,11 @@
 use esync_script::script;
 use esync_tool::{Streams, esync};
 use std::alloc::{AllocError, Global};
+use std::cell::Cell;
 use std::fs::Files;
 use std::sync::Wait;
-use std::time::Clock;
-use std::{env, fs, mem};
+use std::time::{Clock, Duration};
+use std::{env, fs, io, mem};
 
 /// What plays a script.
 #[derive(Clone, Copy)]
@@ -26,6 +27,25 @@ enum Mode {
     Reasons,
     /// The tool by the words of the first line, with what follows as its standard input.
     Words,
+    /// The tool by the words of the first line, for somebody who waits at a terminal.
+    Watched,
+}
+
+/// A clock that goes on by 300 milliseconds each time it is read.
+#[derive(Drop)]
+struct Ticks {
+    now: Cell<u64>,
+}
+
+impl Clock for Ticks {
+    fn monotonic(&self) -> io::Result<Duration> {
+        self.now.set(self.now.get().saturating_add(300));
+        Ok(Duration::from_millis(self.now.get()))
+    }
+
+    fn since_1970(&self) -> io::Result<Duration> {
+        self.monotonic()
+    }
 }
 
 impl Mode {
@@ -39,6 +59,7 @@ impl Mode {
             "--ends" => Some(Mode::Tool("esync ends")),
             "--check" => Some(Mode::Tool("esync check")),
             "--explore" => Some(Mode::Tool("esync explore")),
+            "--watched" => Some(Mode::Watched),
             "--words" => Some(Mode::Words),
             _ => None,
         }
@@ -66,11 +87,12 @@ fn written_by_syncrun(alloc: Global, input: &[u8]) -> Written {
 }
 
 // What the tool writes, by these words.
-fn written_by_tool<R: Files + Wait + Clock>(
+fn written_by_tool<R: Files + Wait>(
     rt: &R,
     alloc: Global,
     line: &str,
     input: &[u8],
+    is_watched: bool,
 ) -> anyhow::Result<Written> {
     let mut words = Vec::new(alloc);
     for word in line.split(' ') {
@@ -83,7 +105,8 @@ fn written_by_tool<R: Files + Wait + Clock>(
         output: &mut output,
         notes: &mut notes,
         errors: &mut errors,
-        is_watched: false,
+        is_watched,
+        clock: Ticks { now: Cell::new(0) },
     };
     let status = esync(rt, alloc, words.as_slice(), streams);
     Ok(Written {
@@ -95,10 +118,11 @@ fn written_by_tool<R: Files + Wait + Clock>(
 }
 
 // What the tool writes, of a script whose first line has its words.
-fn written_by_words<R: Files + Wait + Clock>(
+fn written_by_words<R: Files + Wait>(
     rt: &R,
     alloc: Global,
     script: &[u8],
+    is_watched: bool,
 ) -> anyhow::Result<Written> {
     let at = script
         .iter()
@@ -110,21 +134,18 @@ fn written_by_words<R: Files + Wait + Clock>(
         alloc,
         str::from_utf8(first)?,
         input.get(1..).unwrap_or(&[]),
+        is_watched,
     )
 }
 
 // What `esync explain` writes, but for the answers.
-fn reasons_of<R: Files + Wait + Clock>(
-    rt: &R,
-    alloc: Global,
-    script: &[u8],
-) -> anyhow::Result<Written> {
+fn reasons_of<R: Files + Wait>(rt: &R, alloc: Global, script: &[u8]) -> anyhow::Result<Written> {
     let Written {
         notes,
         errors,
         status,
         ..
-    } = written_by_tool(rt, alloc, "esync explain", script)?;
+    } = written_by_tool(rt, alloc, "esync explain", script, false)?;
     Ok(Written {
         output: Vec::new(alloc),
         notes,
@@ -133,7 +154,7 @@ fn reasons_of<R: Files + Wait + Clock>(
     })
 }
 
-fn written_of<R: Files + Wait + Clock>(
+fn written_of<R: Files + Wait>(
     rt: &R,
     alloc: Global,
     mode: Mode,
@@ -141,14 +162,15 @@ fn written_of<R: Files + Wait + Clock>(
 ) -> anyhow::Result<Written> {
     match mode {
         Mode::Syncrun => Ok(written_by_syncrun(alloc, script)),
-        Mode::Tool(words) => written_by_tool(rt, alloc, words, script),
+        Mode::Tool(words) => written_by_tool(rt, alloc, words, script, false),
         Mode::Reasons => reasons_of(rt, alloc, script),
-        Mode::Words => written_by_words(rt, alloc, script),
+        Mode::Words => written_by_words(rt, alloc, script, false),
+        Mode::Watched => written_by_words(rt, alloc, script, true),
     }
 }
 
 /// The text of what is written of a script.
-fn text_of<R: Files + Wait + Clock>(
+fn text_of<R: Files + Wait>(
     rt: &R,
     alloc: Global,
     mode: Mode,
@@ -176,7 +198,7 @@ fn scripts_of(alloc: Global, case: &[u8]) -> Result<Vec<Vec<u8>>, AllocError> {
     Ok(scripts)
 }
 
-fn text_of_case<R: Files + Wait + Clock>(
+fn text_of_case<R: Files + Wait>(
     rt: &R,
     alloc: Global,
     mode: Mode,
