@@ -1,16 +1,15 @@
 #!/bin/sh
 # Explores systems, and the same in Promela with Spin:
 #
-#     bench/explore/run.sh [--esync FILE] [--states] [KIND-NUMBER-REPEAT..]
+#     bench/explore/run.sh [--esync FILE] [KIND-NUMBER-REPEAT..]
 #
-# FILE is the program `esync`; without it `rt run` proves and builds it. With --states our states are counted, which takes
-# some twenty runs more. systems.py has the kinds. With no word all are explored.
+# FILE is the program `esync`; without it `rt run` proves and builds it. systems.py has the kinds. With no word all are
+# explored.
 set -eu
-esync='' count='' limit=4000000
+esync='' limit=4000000
 while [ $# -gt 0 ]; do
     case $1 in
         --esync) esync=$(realpath "$2"); shift ;;
-        --states) count=yes ;;
         -*) sed -n '2,/^set/s/^# \{0,1\}//p' "$0" >&2; exit 2 ;;
         *) break ;;
     esac
@@ -35,27 +34,17 @@ timed() {
     tail -1 out/took | awk '{ printf "%.2f %.0f", $1, $2 / 1024 }'
 }
 
-# How many states there are: the least limit that isn't too low.
-states() {
-    low=1 high=$limit
-    while [ "$low" -lt "$high" ]; do
-        middle=$(((low + high) / 2))
-        case $("$esync" explore --limit $middle "$1" || true) in
-            too\ many*) low=$((middle + 1)) ;;
-            *) high=$middle ;;
-        esac
-    done
-    echo "$low"
+# The verdict of out/said and how many states were gathered, in two words.
+verdict() {
+    python3 -c 'import json; said = json.load(open("out/said")); print(said["verdict"].replace(" ", "_"), said["states"])'
 }
 
 echo 'system answer states s MB, spin: states s MB'
 for system in "$@"; do
     # shellcheck disable=SC2046 # three words
     python3 systems.py out $(echo "$system" | tr - ' ')
-    ours=$(timed "$esync" explore --limit $limit "out/$system.system")
-    answer=$(head -1 out/said | cut -d ' ' -f 1-2 | tr ' ' _)
-    [ -z "$count" ] || ours="$(states "out/$system.system") $ours"
-    [ -n "$count" ] || ours="- $ours"
+    ours=$(timed "$esync" explore --json --limit $limit "out/$system.system")
+    answer=$(verdict)
     (cd out && spin -a "$system.pml" >/dev/null && cc -O2 -o pan pan.c)
     theirs=$(timed env -C out ./pan -m1000000)
     errors=$(sed -n 's/.*errors: //p' out/said)
