@@ -8,7 +8,7 @@ pub struct Name;
 
 impl Name {
     /// Would return a message's own number.
-    pub fn number(_number: u32) -> Self {
+    pub fn number(_number: impl Into<i128>) -> Self {
         Name
     }
 

@@ -92,11 +92,63 @@ fn more_requests_than_numbers() {
 }
 
 #[test]
-fn a_message_above_the_greatest_number() {
+fn messages_of_64_bits() {
     let channel: Channel<NoopRawMutex, u64, 2> = Channel::new();
-    assert_eq!((channel.try_send(u32::MAX.into()), channel.try_send(1 << 32)), (Ok(()), Ok(())));
+    assert_eq!((channel.try_send(u32::MAX.into()), channel.try_send(1 << 40)), (Ok(()), Ok(())));
+    assert_eq!((channel.try_receive(), channel.try_receive()), (Ok(u32::MAX.into()), Ok(1 << 40)));
+    assert_eq!((channel.try_send(1 << 40), channel.try_send(7)), (Ok(()), Ok(())));
+    let run = channel.run();
     let text = "\
 channel 2
+try-send 4294901760 => Ok | -
+try-send 4294901761 => Ok | -
+try-receive => Ok(4294901760) | -
+try-receive => Ok(4294901761) | -
+try-send 4294901761 => Ok | -
+try-send 7 => Ok | -
+";
+    assert_eq!((run.text.as_str(), &run.stop), (text, &None));
+    assert_eq!(run.legend, [(4294901760, "4294967295".to_string()), (4294901761, "1099511627776".to_string())]);
+    keep("each_channel_of_64_bits", &run);
+}
+
+#[test]
+fn messages_of_64_bits_with_a_sign() {
+    let watch: Watch<NoopRawMutex, i64, 1> = Watch::new();
+    let sender = watch.sender();
+    for number in [i64::MIN, -1, i64::MAX, i64::MIN] {
+        sender.send(number);
+    }
+    assert!(watch.try_get() == Some(i64::MIN));
+    let text = "\
+watch 1
+send 4294901760 => Ok | -
+send 2147483647 => Ok | -
+send 4294901761 => Ok | -
+send 4294901760 => Ok | -
+try-get => Some(4294901760) | -
+";
+    assert_eq!(watch.run().text, text);
+    keep("each_watch_of_64_bits", &watch.run());
+}
+
+#[test]
+fn more_messages_than_numbers_that_are_given() {
+    let signal: Signal<NoopRawMutex, u64> = Signal::new();
+    for number in 0..65_535 {
+        signal.signal(u64::MAX - number);
+    }
+    assert_eq!(signal.run().stop, None);
+    signal.signal(1 << 32);
+    assert_eq!(signal.run().stop, Some(Stop::Message(1 << 32)));
+}
+
+#[test]
+fn a_message_of_a_priority_channel_above_the_greatest_number() {
+    let channel: PriorityChannel<NoopRawMutex, u64, Max, 2> = PriorityChannel::new();
+    assert_eq!((channel.try_send(u32::MAX.into()), channel.try_send(1 << 32)), (Ok(()), Ok(())));
+    let text = "\
+max 2
 try-send 4294967295 => Ok | -
 # stopped at a message with the number 4294967296, which isn't in 0..=4294967295
 ";
@@ -221,6 +273,8 @@ fn what_is_saved() {
     signal.signal(1);
     let channel: Channel<NoopRawMutex, u8, 9> = Channel::new();
     channel.clear();
+    let word: Signal<NoopRawMutex, Word> = Signal::new();
+    word.signal(Word::No(3));
     let Err(Unsaved::Stopped(stopped)) = recorder::save(&folder) else { panic!("a capacity of 9 stops a recording") };
     let stopped: Vec<Run> = stopped.into_iter().filter(|run| run.name == channel.run().name).collect();
     let reason = format!("{:?}", Unsaved::Stopped(stopped));
@@ -229,4 +283,7 @@ fn what_is_saved() {
     assert!(run.name.starts_with("signal-limits-"), "{}", run.name);
     let saved = std::fs::read_to_string(folder.join(&run.name).with_extension("run")).unwrap();
     assert_eq!(saved, "signal 1\nsignal 1 => Ok | -\n");
+    assert!(!folder.join(&run.name).with_extension("legend").exists());
+    let legend = std::fs::read_to_string(folder.join(&word.run().name).with_extension("legend")).unwrap();
+    assert_eq!(legend, "0 No(3)\n");
 }

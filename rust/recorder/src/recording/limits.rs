@@ -13,6 +13,8 @@ const _: () = assert!(CAPACITIES[CAPACITIES.len() - 1] <= ROW);
 pub const HANDLES: usize = 4;
 /// The greatest number of a message.
 pub const GREATEST_MESSAGE: i128 = u32::MAX as i128;
+/// The numbers from here on up to the greatest but one are given: to messages whose own number is none below these.
+pub const FIRST_GIVEN: u32 = u32::MAX - 65_535;
 
 /// Why a recording stopped. The calls behind it are made, and aren't recorded.
 #[derive(Clone, Debug, PartialEq, Eq)]
@@ -28,7 +30,8 @@ pub enum Stop {
     },
     /// More requests, guards and releasers, or more handles of a kind, were there at a time than there are numbers.
     Numbers,
-    /// A message has a number below 0 or above the greatest one.
+    /// A message has a number below 0 or above the greatest one, and it is one of a priority channel, or all numbers
+    /// that are given have gone to others.
     Message(i128),
     /// Some messages have numbers of their own, and others are named by a text.
     MixedNames,

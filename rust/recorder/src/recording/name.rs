@@ -2,7 +2,7 @@
 use std::collections::BTreeMap;
 use std::fmt::{Debug, Display};
 
-use super::limits::{self, Stop};
+use super::limits::{self, FIRST_GIVEN, Stop};
 
 /// What a run calls a message.
 #[derive(Clone, Debug, PartialEq, Eq)]
@@ -16,8 +16,8 @@ enum Kind {
 
 impl Name {
     /// Returns a message's own number. In a priority channel the numbers have to have the order of the messages.
-    pub fn number(number: u32) -> Self {
-        Self::of(number.into())
+    pub fn number(number: impl Into<i128>) -> Self {
+        Name(Kind::Number(number.into()))
     }
 
     /// Returns the name that this text gives. Equal texts are one number, and numbers go by first appearance.
@@ -28,10 +28,6 @@ impl Name {
     /// Returns the name that the message's `Debug` gives.
     pub fn by_debug<T: Debug + ?Sized>(message: &T) -> Self {
         Self::text(format!("{message:?}"))
-    }
-
-    fn of(number: i128) -> Self {
-        Name(Kind::Number(number))
     }
 }
 
@@ -45,7 +41,7 @@ macro_rules! numbered {
     ($plus:expr => $($number:ty),+) => {
         $(impl Named for $number {
             fn name(&self) -> Name {
-                Name::of(*self as i128 + $plus)
+                Name::number(*self as i128 + $plus)
             }
         })+
     };
@@ -56,7 +52,7 @@ numbered!(1 << 31 => i8, i16, i32, i64, isize);
 
 impl Named for () {
     fn name(&self) -> Name {
-        Name::number(0)
+        Name::number(0_u32)
     }
 }
 
@@ -77,6 +73,8 @@ impl<T: Named + ?Sized> Named for &T {
 /// The numbers of a run's messages.
 pub struct Names {
     texts: BTreeMap<String, u32>,
+    // Of messages whose own number no run can say.
+    given: BTreeMap<i128, u32>,
     has_numbers: bool,
     has_order: bool,
 }
@@ -84,7 +82,7 @@ pub struct Names {
 impl Names {
     /// Returns the numbers of no messages. With an order, each message has to have a number of its own.
     pub fn new(has_order: bool) -> Self {
-        Names { texts: BTreeMap::new(), has_numbers: false, has_order }
+        Names { texts: BTreeMap::new(), given: BTreeMap::new(), has_numbers: false, has_order }
     }
 
     /// Returns the number of the message that is called so.
@@ -95,13 +93,37 @@ impl Names {
         }
     }
 
+    /// Returns each number that isn't a message's own, with what it stands for, in order.
+    pub fn legend(&self) -> Vec<(u32, String)> {
+        let texts = self.texts.iter().map(|(text, number)| (*number, text.clone()));
+        let given = self.given.iter().map(|(own, number)| (*number, own.to_string()));
+        let mut legend: Vec<_> = texts.chain(given).collect();
+        legend.sort_unstable();
+        legend
+    }
+
     fn own_number(&mut self, number: i128) -> Result<u32, Stop> {
-        limits::message(number)?;
+        if self.has_order {
+            limits::message(number)?;
+        }
         self.has_numbers = true;
         if !self.texts.is_empty() {
             return Err(Stop::MixedNames);
         }
-        u32::try_from(number).map_err(|_| Stop::Message(number))
+        match u32::try_from(number) {
+            Ok(own) if self.has_order || own < FIRST_GIVEN => Ok(own),
+            _ => self.given_number(number),
+        }
+    }
+
+    fn given_number(&mut self, number: i128) -> Result<u32, Stop> {
+        let next = FIRST_GIVEN + self.given.len() as u32;
+        match self.given.get(&number) {
+            Some(given) => Ok(*given),
+            // (the greatest number has none above it)
+            None if next == u32::MAX => Err(Stop::Message(number)),
+            None => Ok(*self.given.entry(number).or_insert(next)),
+        }
     }
 
     fn number_of_text(&mut self, text: &str) -> Result<u32, Stop> {

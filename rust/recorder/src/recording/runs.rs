@@ -18,6 +18,8 @@ pub struct Run {
     pub name: String,
     /// The run, as `esync check` reads it. Where the recording stopped, the last line says why.
     pub text: String,
+    /// Each message's number that isn't its own, with the text or the own number that it stands for, in order.
+    pub legend: Vec<(u32, String)>,
     /// Why the recording stopped, if it did.
     pub stop: Option<Stop>,
 }
@@ -96,14 +98,20 @@ pub fn take() -> Vec<Run> {
     runs
 }
 
-/// Writes what [`take`] returns into this folder, a file a primitive, and returns how many there are.
+/// Writes what [`take`] returns into this folder, a file a primitive, and returns how many there are. Beside the run of a
+/// primitive that has a legend it writes this, a line a number: `channel-main-12.legend`.
 ///
 /// An error says which recordings stopped, or that a file couldn't be written.
 pub fn save(folder: impl AsRef<Path>) -> Result<usize, Unsaved> {
     let runs = take();
     fs::create_dir_all(&folder)?;
     for run in &runs {
-        fs::write(folder.as_ref().join(&run.name).with_extension("run"), &run.text)?;
+        let file = folder.as_ref().join(&run.name);
+        fs::write(file.with_extension("run"), &run.text)?;
+        if !run.legend.is_empty() {
+            let lines: String = run.legend.iter().map(|(number, said)| format!("{number} {said}\n")).collect();
+            fs::write(file.with_extension("legend"), lines)?;
+        }
     }
     let count = runs.len();
     let stopped: Vec<Run> = runs.into_iter().filter(|run| run.stop.is_some()).collect();

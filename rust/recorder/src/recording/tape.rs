@@ -183,7 +183,7 @@ impl Tape {
         if let Some(stop) = &page.stop {
             text += &format!("# stopped at {stop}\n");
         }
-        Run { name: self.name.clone(), text, stop: page.stop.clone() }
+        Run { name: self.name.clone(), text, legend: page.names.legend(), stop: page.stop.clone() }
     }
 
     /// Stops the recording, where it hasn't stopped.
