@@ -1,5 +1,6 @@
 pub mod Pair
 pub mod PairLaws
+pub mod Loops
 pub mod Parts
 pub mod Either
 pub mod EitherLaws

@@ -36,7 +36,7 @@ pub struct Streams<I: Drop, O: Drop, N: Drop, E: Drop, K: Drop> {
     pub errors: E,
     /// The errors are a terminal, where somebody waits.
     pub is_watched: bool,
-    /// By this clock it is told how far something has come that takes long.
+    /// The clock by which progress is told of what takes long.
     pub clock: K,
 }
 
@@ -50,8 +50,8 @@ pub struct Streams<I: Drop, O: Drop, N: Drop, E: Drop, K: Drop> {
 /// | 3 | met a read or a write that failed |
 /// | 4 | takes more memory than there is |
 ///
-/// Of several files the greatest status counts. A write to `output` or `notes` that fails is the last one; whether `errors` can be
-/// written changes no status.
+/// Of several files the greatest status counts. A write to `output` or `notes` that fails is the last one; whether
+/// `errors` can be written changes no status.
 pub fn esync<R, I, O, N, E, K>(
     rt: &R,
     alloc: Global,

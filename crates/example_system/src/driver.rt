@@ -1,7 +1,7 @@
-//! A driver of three tasks over a channel and a mutex. A task that holds the mutex while it sends ends on the executor, and stalls
-//! under another schedule.
+//! A driver of three tasks over a channel and a mutex. A task that holds the mutex while it sends ends on the executor,
+//! and stalls under another schedule.
 ghost use Rattle.std.specs.Prelude.{◌≡◌, [], Ok};
-ghost use Rattle.esync_systems.specs.Positions.{plan_of};
+ghost use Rattle.esync_systems.specs.Positions.{in_order};
 ghost use Rattle.esync_systems.specs.Schedules.{opened, EveryScheduleCanEnd};
 
 use esync_base::waitqueue::TaskId;
@@ -18,6 +18,7 @@ use esync_machine::run::{Awaits, Machine};
 use esync_systems::compare::{ComparesBoth, ComparesRequests};
 use esync_systems::explore::{Verdict, explore_pair_determined};
 use esync_systems::pair::{Pair, PairAsk, PairCommand};
+use esync_systems::plan::Plan;
 use std::alloc::{AllocError, Global};
 
 type Readings = ChannelRun<u32, TaskId, 1, 8, 1>;
@@ -96,7 +97,7 @@ fn explore_driver(
     driver: Driver,
     tasks: &[Vec<DriverAct>],
 ) -> Result<Verdict, NewError>
-    ensures { result ≡ Ok Verdict.AllCanEnd → EveryScheduleCanEnd ⟦<Driver as Machine>⟧.semantics.meaning ⟦<Driver as Awaits>⟧.starting (opened ⟦<Driver as Machine>⟧.semantics driver (plan_of tasks.now [])) }
+    ensures { result ≡ Ok Verdict.AllCanEnd → EveryScheduleCanEnd ⟦<Driver as Machine>⟧.semantics.meaning ⟦<Driver as Awaits>⟧.starting (opened ⟦<Driver as Machine>⟧.semantics driver (in_order tasks.now [])) }
 {
     let compares = ComparesBoth {
         left: ComparesRequests {
@@ -106,7 +107,8 @@ fn explore_driver(
             states: MutexStates {},
         },
     };
-    explore_pair_determined(alloc, &compares, driver, tasks, &[], 1000)
+    let plan = Plan::in_order(tasks, &[]);
+    explore_pair_determined(alloc, &compares, driver, &plan, 1000)
 }
 
 /// Tells what is true of every schedule of the three tasks.

@@ -2,7 +2,7 @@
 #![tactic(auto)]
 
 ghost use Rattle.std.specs.Prelude.{◌≡◌, ℕ, [], Ok};
-ghost use Rattle.esync_systems.specs.Positions.{plan_of};
+ghost use Rattle.esync_systems.specs.Positions.{in_order};
 ghost use Rattle.esync_systems.specs.Schedules.{opened, EveryScheduleCanEnd, EveryScheduleEnds};
 
 use esync_base::waitqueue::TaskId;
@@ -21,6 +21,7 @@ use esync_systems::explore::{
     Verdict, explore_determined, explore_pair, explore_several_determined,
 };
 use esync_systems::pair::{Pair, PairAsk, PairCommand};
+use esync_systems::plan::Plan;
 use esync_systems::several::{PartCommand, Several};
 use std::alloc::{AllocError, Global};
 use std::io;
@@ -92,7 +93,8 @@ fn explore_mutexes(
         left: mutex,
         right: mutex,
     };
-    explore_pair(alloc, &compares, mutexes, tasks, priorities, 1000)
+    let plan = Plan::in_order(tasks, priorities);
+    explore_pair(alloc, &compares, mutexes, &plan, 1000)
 }
 
 // Two tasks, each of which takes both mutexes, in opposite orders.
@@ -139,14 +141,15 @@ fn philosophers(alloc: Global, one_turns_round: bool) -> Result<Vec<Vec<ForkAct>
 
 // Explores three forks. The steps of a mutex are determined, so a verdict on them holds of every schedule.
 fn explore_forks(alloc: Global, forks: Forks, tasks: &[Vec<ForkAct>]) -> Result<Verdict, NewError>
-    ensures { (turns : ℕ) → result ≡ Ok (Verdict.AllEnd turns) → EveryScheduleEnds ⟦<Forks as Machine>⟧.semantics.meaning ⟦<Forks as Awaits>⟧.starting turns (opened ⟦<Forks as Machine>⟧.semantics forks (plan_of tasks.now [])) }
+    ensures { (turns : ℕ) → result ≡ Ok (Verdict.AllEnd turns) → EveryScheduleEnds ⟦<Forks as Machine>⟧.semantics.meaning ⟦<Forks as Awaits>⟧.starting turns (opened ⟦<Forks as Machine>⟧.semantics forks (in_order tasks.now [])) }
 {
     let compares = ComparesEach {
         parts: ComparesRequests {
             states: MutexStates {},
         },
     };
-    explore_several_determined(alloc, &compares, forks, tasks, &[], 1000)
+    let plan = Plan::in_order(tasks, &[]);
+    explore_several_determined(alloc, &compares, forks, &plan, 1000)
 }
 
 fn forks(alloc: Global) -> Result<Forks, AllocError> {
@@ -178,12 +181,13 @@ fn explore_channel(
     channel: Channel,
     tasks: &[Vec<ChannelAct>],
 ) -> Result<Verdict, NewError>
-    ensures { result ≡ Ok Verdict.AllCanEnd → EveryScheduleCanEnd ⟦<Channel as Machine>⟧.semantics.meaning ⟦<Channel as Awaits>⟧.starting (opened ⟦<Channel as Machine>⟧.semantics channel (plan_of tasks.now [])) }
+    ensures { result ≡ Ok Verdict.AllCanEnd → EveryScheduleCanEnd ⟦<Channel as Machine>⟧.semantics.meaning ⟦<Channel as Awaits>⟧.starting (opened ⟦<Channel as Machine>⟧.semantics channel (in_order tasks.now [])) }
 {
     let compares = ComparesRequests {
         states: ChannelStates {},
     };
-    explore_determined(alloc, &compares, channel, tasks, &[], 1000)
+    let plan = Plan::in_order(tasks, &[]);
+    explore_determined(alloc, &compares, channel, &plan, 1000)
 }
 
 fn tell(rt: &impl Print, title: &str, found: Result<Verdict, NewError>) -> io::Result<()> {

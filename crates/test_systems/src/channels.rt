@@ -10,6 +10,7 @@ use esync_machine::requests::Requests;
 use esync_systems::compare::{ComparesBoth, ComparesRequests};
 use esync_systems::explore::{Verdict, explore, explore_pair};
 use esync_systems::pair::{Pair, PairAsk, PairCommand};
+use esync_systems::plan::Plan;
 use std::alloc::{AllocError, Global};
 
 type Channel = ChannelRun<u32, TaskId, 1, 4, 1>;
@@ -47,7 +48,13 @@ fn consumers(alloc: Global, count: usize, sent: usize) -> Result<Vec<Vec<OneAct>
 
 fn consume(alloc: Global, count: usize, sent: usize, limit: usize) -> Result<Verdict, NewError> {
     let tasks = consumers(alloc, count, sent)?;
-    explore(alloc, &CHANNEL, channel(), &tasks, &[], limit)
+    explore(
+        alloc,
+        &CHANNEL,
+        channel(),
+        &Plan::in_order(&tasks, &[]),
+        limit,
+    )
 }
 
 fn ask(r: u8, ask: ChannelAsk<u32>) -> ServiceAct {
@@ -89,7 +96,8 @@ fn serve(alloc: Global, limit: usize) -> Result<Verdict, NewError> {
         left: CHANNEL,
         right: CHANNEL,
     };
-    explore_pair(alloc, &compares, both, &service(alloc)?, &[], limit)
+    let tasks = service(alloc)?;
+    explore_pair(alloc, &compares, both, &Plan::in_order(&tasks, &[]), limit)
 }
 
 #[test]

@@ -7,6 +7,7 @@ mod mutexes;
 mod philosophers;
 mod semaphores;
 mod signals;
+mod thinkers;
 
 use std::alloc::{AllocError, Global};
 

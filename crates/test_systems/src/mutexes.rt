@@ -12,6 +12,7 @@ use esync_systems::budget::Budget;
 use esync_systems::compare::{ComparesBoth, ComparesRequests};
 use esync_systems::explore::{Verdict, explore, explore_pair};
 use esync_systems::pair::{Pair, PairAsk, PairCommand};
+use esync_systems::plan::Plan;
 use std::alloc::{AllocError, Global};
 
 type Mutex = MutexRun<(u32, u32), u32, Second, TaskId, 4, 1>;
@@ -48,14 +49,8 @@ fn lockers(alloc: Global, count: usize, times: u8) -> Result<Vec<Vec<OneAct>>, A
 }
 
 fn explore_one(alloc: Global, count: usize, times: u8, limit: usize) -> Result<Verdict, NewError> {
-    explore(
-        alloc,
-        &MUTEX,
-        mutex(),
-        &lockers(alloc, count, times)?,
-        &[],
-        limit,
-    )
+    let tasks = lockers(alloc, count, times)?;
+    explore(alloc, &MUTEX, mutex(), &Plan::in_order(&tasks, &[]), limit)
 }
 
 // A task that takes the left mutex first, or the right one.
@@ -94,14 +89,9 @@ fn explore_both(
         left: MUTEX,
         right: MUTEX,
     };
-    explore_pair(
-        alloc,
-        &compares,
-        both,
-        &takers(alloc, orders)?,
-        priorities,
-        limit,
-    )
+    let tasks = takers(alloc, orders)?;
+    let plan = Plan::in_order(&tasks, priorities);
+    explore_pair(alloc, &compares, both, &plan, limit)
 }
 
 // Two tasks, where the left mutex has no number for the second one's request.
@@ -114,14 +104,9 @@ fn explore_narrow(alloc: Global) -> Result<Verdict, NewError> {
         left: MUTEX,
         right: MUTEX,
     };
-    explore_pair(
-        alloc,
-        &compares,
-        both,
-        &takers(alloc, &[true, false])?,
-        &[],
-        1000,
-    )
+    let tasks = takers(alloc, &[true, false])?;
+    let plan = Plan::in_order(&tasks, &[]);
+    explore_pair(alloc, &compares, both, &plan, 1000)
 }
 
 // A task that locks the mutex under one number, and again while its guard stays there.
@@ -172,7 +157,14 @@ impl Budget for Counted {
 }
 
 fn explore_counted(alloc: Global, counted: &mut Counted) -> Result<Verdict, NewError> {
-    explore(alloc, &MUTEX, mutex(), &lockers(alloc, 2, 1)?, &[], counted)
+    let tasks = lockers(alloc, 2, 1)?;
+    explore(
+        alloc,
+        &MUTEX,
+        mutex(),
+        &Plan::in_order(&tasks, &[]),
+        counted,
+    )
 }
 
 // (it is asked before each state but the first, so last with one fewer than all)
@@ -244,7 +236,8 @@ fn opposite_orders_on_an_executor_and_a_thread_stall(rt: HostRuntime) -> Result<
 #[test]
 fn a_number_under_which_a_guard_stays_starts_nothing(rt: HostRuntime) -> Result<(), NewError> {
     let tasks = locks_twice(rt.alloc())?;
-    let ends = explore(rt.alloc(), &MUTEX, mutex(), &tasks, &[], 10)?;
+    let plan = Plan::in_order(&tasks, &[]);
+    let ends = explore(rt.alloc(), &MUTEX, mutex(), &plan, 10)?;
     assert!(&rt; ends == Verdict::AllEnd(2));
     Ok(())
 }
@@ -252,7 +245,8 @@ fn a_number_under_which_a_guard_stays_starts_nothing(rt: HostRuntime) -> Result<
 #[test]
 fn a_number_that_two_tasks_use_is_refused(rt: HostRuntime) -> Result<(), NewError> {
     let tasks = lock_under_one(rt.alloc())?;
-    let refused = explore(rt.alloc(), &MUTEX, mutex(), &tasks, &[], 10);
+    let plan = Plan::in_order(&tasks, &[]);
+    let refused = explore(rt.alloc(), &MUTEX, mutex(), &plan, 10);
     assert!(&rt; matches!(refused, Err(NewError::NoSuch)));
     Ok(())
 }

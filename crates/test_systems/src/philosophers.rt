@@ -10,6 +10,7 @@ use esync_machine::primitive::Command;
 use esync_machine::requests::Requests;
 use esync_systems::compare::{ComparesEach, ComparesRequests};
 use esync_systems::explore::{Verdict, explore_several};
+use esync_systems::plan::Plan;
 use esync_systems::several::{PartCommand, Several};
 use std::alloc::{AllocError, Global};
 
@@ -71,7 +72,8 @@ fn explore_table(alloc: Global, tasks: &[Vec<ForkAct>], limit: usize) -> Result<
             states: MutexStates {},
         },
     };
-    explore_several(alloc, &compares, forks(alloc)?, tasks, &[], limit)
+    let plan = Plan::in_order(tasks, &[]);
+    explore_several(alloc, &compares, forks(alloc)?, &plan, limit)
 }
 
 // One task of one act.

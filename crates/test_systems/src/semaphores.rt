@@ -10,6 +10,7 @@ use esync_permits::semaphore::machine::greedy::{GreedyCommand, GreedyRun};
 use esync_permits::semaphore::{Amount, GreedyState};
 use esync_systems::compare::ComparesRequests;
 use esync_systems::explore::{Verdict, explore_determined};
+use esync_systems::plan::Plan;
 use std::alloc::{AllocError, Global};
 
 type Semaphore = GreedyRun<TaskId, 4, 1>;
@@ -58,12 +59,14 @@ fn explore_takers(
     limit: usize,
 ) -> Result<Verdict, NewError> {
     let tasks = takers(alloc, count)?;
-    explore_determined(alloc, &SEMAPHORE, semaphore(permits), &tasks, &[], limit)
+    let plan = Plan::in_order(&tasks, &[]);
+    explore_determined(alloc, &SEMAPHORE, semaphore(permits), &plan, limit)
 }
 
 fn explore_two(alloc: Global, permits: usize, limit: usize) -> Result<Verdict, NewError> {
     let tasks = two_takers(alloc)?;
-    explore_determined(alloc, &SEMAPHORE, semaphore(permits), &tasks, &[], limit)
+    let plan = Plan::in_order(&tasks, &[]);
+    explore_determined(alloc, &SEMAPHORE, semaphore(permits), &plan, limit)
 }
 
 #[test]

@@ -10,6 +10,7 @@ use esync_machine::primitive::Command;
 use esync_machine::requests::Requests;
 use esync_systems::compare::ComparesRequests;
 use esync_systems::explore::{Verdict, explore_determined};
+use esync_systems::plan::Plan;
 use std::alloc::{AllocError, Global};
 
 type Signal = SignalRun<u32, TaskId, 4, 1>;
@@ -40,7 +41,8 @@ fn waiters(alloc: Global, count: usize, values: u32) -> Result<Vec<Vec<SignalAct
 
 fn wait(alloc: Global, count: usize, values: u32, limit: usize) -> Result<Verdict, NewError> {
     let tasks = waiters(alloc, count, values)?;
-    explore_determined(alloc, &SIGNAL, signal(), &tasks, &[], limit)
+    let plan = Plan::in_order(&tasks, &[]);
+    explore_determined(alloc, &SIGNAL, signal(), &plan, limit)
 }
 
 #[test]

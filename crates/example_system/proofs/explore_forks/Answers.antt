@@ -3,4 +3,4 @@ use Rattle.example_system.proofs.Told.{told}
 use Rattle.example_system.proofs.explore_forks.Goals as goal
 
 pub returns : goal.returns
-returns c turns e = told _ c.explore_several_determined.result (AllEnd turns) e c.explore_several_determined.ensures
+returns c turns e = told _ c.explore_several_determined.result (AllEnd turns) e c.explore_several_determined.ensures.holds

@@ -1,0 +1,149 @@
+//! An executor of a plan's tasks: one of their schedules.
+ghost use Rattle.std.specs.Prelude.{◌≡◌, ◌≤◌, ℕ, List, length, true, IfOk, IfSome, IfNone, Err};
+ghost use Rattle.std.specs.List.{list_any};
+ghost use Rattle.esync_history.specs.Suited.{AreSuited};
+ghost use Rattle.esync_history.specs.Turns.{Gave};
+ghost use Rattle.esync_systems.specs.Schedules.{AreOver, Follows, IsStall};
+ghost use Rattle.esync_systems.specs.Positions.{acts_of, plan_of, running_of, unbegun, world_of, IsTurn};
+
+use crate::plan::{Plan, Thinks};
+use crate::state::{State, all_done, any_ready, begin};
+use crate::turn::{hear_turn, may_turn};
+use esync_base::waitqueue::TaskId;
+use esync_history::act::Heard;
+use esync_history::executor::{NewError, Outcome};
+use esync_history::suited::are_suited;
+use esync_machine::run::Awaits;
+use std::alloc::Global;
+use std::marker::Model;
+
+/// A turn that was taken.
+#[derive(Drop)]
+pub struct Turned<R> {
+    /// The number of the task whose turn it was.
+    pub task: usize,
+    /// What its act heard.
+    pub heard: Heard<R>,
+}
+
+/// The tasks of a plan over a machine. A turn is that of the next task, round and round, that may take one: a schedule
+/// of those that `explore` tells of, with the same executors and the same thinking. Answers are given out turn by turn,
+/// and none is kept.
+#[derive(Drop)]
+pub struct PlanExecutor<'a, M: Awaits<Waker = TaskId>, T: Thinks<M::Reply>> {
+    plan: &'a Plan<'a, M::Ask, M::Command, T>,
+    state: State<M>,
+    // The task that took the last turn.
+    last: usize,
+}
+
+impl<'a, M: Awaits<Waker = TaskId>, T: Thinks<M::Reply>> Model for PlanExecutor<'a, M, T> {
+    ghost use Rattle.esync_systems.specs.Positions.{acts_of, plan_of, running, AreWaiting, Planning};
+
+    ghost Value = { Planning M M.Ask M.Command T };
+
+    ghost view = { λ a. record { program = acts_of a.plan.now.program.now; priorities = a.plan.now.priorities.now; thinks = a.plan.now.thinks; machine = a.state.machine; positions = a.state.positions.items; ready = a.state.ready.items } };
+
+    ghost invariant = { λ a. AreWaiting M.semantics (running (plan_of T.next T.rests a.plan.now) a.state) };
+}
+
+impl<'a, M: Awaits<Waker = TaskId> + Drop, T: Thinks<M::Reply>> PlanExecutor<'a, M, T>
+where
+    M::Ask: Copy,
+    M::Command: Copy,
+    M::Reply: Drop,
+{
+    /// Returns an executor of the plan's tasks over the machine, before their first turn.
+    ///
+    /// # Errors
+    ///
+    /// Returns `NoSuch` if an `Executor` would not take the tasks, and `NoMemory` if there is no memory. The machine is
+    /// dropped.
+    pub fn new(
+        alloc: Global,
+        machine: M,
+        plan: &'a Plan<'a, M::Ask, M::Command, T>,
+    ) -> Result<Self, NewError>
+        ensures unsuited { result ≡ Err NewError.NoSuch → AreSuited M.semantics.meaning M.REQS (acts_of plan.now.program.now) → ⊥ }
+        ensures begun { IfOk result (λ executor. running_of T.next T.rests executor ≡ unbegun (plan_of T.next T.rests plan.now) machine) }
+    {
+        if !are_suited::<M>(plan.program) {
+            return Err(NewError::NoSuch);
+        }
+        Ok(PlanExecutor {
+            plan,
+            state: begin(alloc, machine, plan.program)?,
+            last: usize::MAX,
+        })
+    }
+
+    // Returns the first task from one number up to another that may take a turn.
+    fn first_between(&self, from: usize, to: usize) -> Option<usize> {
+        for number in from..to {
+            if may_turn(self.plan, &self.state, number) {
+                return Some(number);
+            }
+        }
+        None
+    }
+
+    // Returns the next task, round and round, that may take a turn.
+    fn next(&self) -> Option<usize> {
+        let from = self.last.wrapping_add(1);
+        match self.first_between(from, self.state.ready.len()) {
+            Some(task) => Some(task),
+            None => self.first_between(0, from),
+        }
+    }
+
+    /// Takes a turn, and returns what it was. `None` claims only that nothing has changed.
+    pub fn turn(&mut self) -> Option<Turned<M::Reply>>
+        ensures turn { IfSome result (λ turned. (t : IsTurn M.semantics M.starting turned.task (running_of T.next T.rests self.old) (running_of T.next T.rests self.new)) × Gave M.semantics.meaning t.steps turned.heard.first turned.heard.second) }
+        ensures kept { IfNone result (self.new ≡ self.old) }
+    {
+        let task = self.next()?;
+        let heard = hear_turn(self.plan, &mut self.state, task)?;
+        self.last = task;
+        Some(Turned { task, heard })
+    }
+
+    // Returns the outcome of a run that stops here.
+    fn outcome(&self) -> Outcome
+        ensures done { result ≡ Outcome.Done → AreOver (world_of M.semantics (running_of T.next T.rests self.now)) }
+        ensures stalled { result ≡ Outcome.Stalled → IsStall M.semantics.meaning M.starting (world_of M.semantics (running_of T.next T.rests self.now)) }
+        ensures limit { result ≡ Outcome.Limit → list_any (λ b. b) self.now.ready ≡ true }
+    {
+        if any_ready(&self.state.ready) {
+            Outcome::Limit
+        } else if all_done::<M, T>(self.plan, &self.state.positions) {
+            Outcome::Done
+        } else {
+            Outcome::Stalled
+        }
+    }
+
+    /// Takes turns until none has one, or `limit` turns are taken, and returns which of these it was: `Done` where all
+    /// have ended or stand where they may do so for ever, `Stalled` where not, and `Limit` if a task has a turn.
+    ///
+    /// A run takes no memory beyond what the machine's steps take. A later run goes on where this one stopped.
+    pub fn run(&mut self, limit: usize) -> Outcome
+        ensures run { (schedule : List ℕ) × (length schedule ≤ limit) × Follows M.semantics.meaning M.starting schedule (world_of M.semantics (running_of T.next T.rests self.old)) (world_of M.semantics (running_of T.next T.rests self.new)) }
+        ensures done { result ≡ Outcome.Done → AreOver (world_of M.semantics (running_of T.next T.rests self.new)) }
+        ensures stalled { result ≡ Outcome.Stalled → IsStall M.semantics.meaning M.starting (world_of M.semantics (running_of T.next T.rests self.new)) }
+        ensures limit { result ≡ Outcome.Limit → list_any (λ b. b) self.new.ready ≡ true }
+    {
+        for _turn in 0..limit {
+            if self.turn().is_none() {
+                return self.outcome();
+            }
+        }
+        self.outcome()
+    }
+
+    /// Returns the machine.
+    pub fn machine(&self) -> &M
+        ensures { result.now ≡ self.now.machine }
+    {
+        &self.state.machine
+    }
+}
