@@ -1,5 +1,5 @@
 //! An executor of a plan's tasks: one of their schedules.
-ghost use Rattle.std.specs.Prelude.{◌≡◌, ◌≤◌, ℕ, List, length, true, IfOk, IfSome, IfNone, Err};
+ghost use Rattle.std.specs.Prelude.{◌≡◌, ◌≤◌, ◌⊎◌, ℕ, List, length, true, false, IfOk, IfSome, IfNone, Err};
 ghost use Rattle.std.specs.List.{list_any};
 ghost use Rattle.esync_history.specs.Suited.{AreSuited};
 ghost use Rattle.esync_history.specs.Turns.{Gave};
@@ -65,6 +65,7 @@ where
         plan: &'a Plan<'a, M::Ask, M::Command, T>,
     ) -> Result<Self, NewError>
         ensures unsuited { result ≡ Err NewError.NoSuch → AreSuited M.semantics.meaning M.REQS (acts_of plan.now.program.now) → ⊥ }
+        ensures suited { (result ≡ Err NewError.NoSuch) ⊎ AreSuited M.semantics.meaning M.REQS (acts_of plan.now.program.now) }
         ensures begun { IfOk result (λ executor. running_of T.next T.rests executor ≡ unbegun (plan_of T.next T.rests plan.now) machine) }
     {
         if !are_suited::<M>(plan.program) {
@@ -109,7 +110,7 @@ where
 
     // Returns the outcome of a run that stops here.
     fn outcome(&self) -> Outcome
-        ensures done { result ≡ Outcome.Done → AreOver (world_of M.semantics (running_of T.next T.rests self.now)) }
+        ensures done { result ≡ Outcome.Done → AreOver (world_of M.semantics (running_of T.next T.rests self.now)) × (list_any (λ b. b) self.now.ready ≡ false) }
         ensures stalled { result ≡ Outcome.Stalled → IsStall M.semantics.meaning M.starting (world_of M.semantics (running_of T.next T.rests self.now)) }
         ensures limit { result ≡ Outcome.Limit → list_any (λ b. b) self.now.ready ≡ true }
     {
@@ -122,13 +123,13 @@ where
         }
     }
 
-    /// Takes turns until none has one, or `limit` turns are taken, and returns which of these it was: `Done` where all
-    /// have ended or stand where they may do so for ever, `Stalled` where not, and `Limit` if a task has a turn.
+    /// Takes turns until no task may take one, or `limit` turns are taken. Returns `Limit` if a task has a turn then. Else
+    /// returns `Done` if all tasks have ended or are where they may stay for ever, and `Stalled` if not.
     ///
     /// A run takes no memory beyond what the machine's steps take. A later run goes on where this one stopped.
     pub fn run(&mut self, limit: usize) -> Outcome
         ensures run { (schedule : List ℕ) × (length schedule ≤ limit) × Follows M.semantics.meaning M.starting schedule (world_of M.semantics (running_of T.next T.rests self.old)) (world_of M.semantics (running_of T.next T.rests self.new)) }
-        ensures done { result ≡ Outcome.Done → AreOver (world_of M.semantics (running_of T.next T.rests self.new)) }
+        ensures done { result ≡ Outcome.Done → AreOver (world_of M.semantics (running_of T.next T.rests self.new)) × (list_any (λ b. b) self.new.ready ≡ false) }
         ensures stalled { result ≡ Outcome.Stalled → IsStall M.semantics.meaning M.starting (world_of M.semantics (running_of T.next T.rests self.new)) }
         ensures limit { result ≡ Outcome.Limit → list_any (λ b. b) self.new.ready ≡ true }
     {

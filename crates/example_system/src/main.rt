@@ -1,4 +1,5 @@
-//! Systems of two mutexes, of three, of one channel, and of a channel and a mutex: what is true of every schedule of their tasks.
+//! Systems of two mutexes, of three, of one channel, and of a channel and a mutex: what is true of every schedule of
+//! their tasks.
 #![tactic(auto)]
 
 ghost use Rattle.std.specs.Prelude.{◌≡◌, ℕ, [], Ok};
@@ -27,6 +28,7 @@ use std::alloc::{AllocError, Global};
 use std::io;
 
 mod driver;
+mod receiver;
 
 type Mutex = MutexRun<(u32, u32), u32, Second, TaskId, 3, 1>;
 
@@ -249,5 +251,15 @@ fn main(rt: HostRuntime) -> io::Result<()> {
         &rt,
         "a driver that releases it first",
         driver::explore(alloc, false),
-    )
+    )?;
+    tell(
+        &rt,
+        "a receiver that waits for a zero",
+        receiver::explore(alloc, 0),
+    )?;
+    tell(&rt, "no zero comes", receiver::explore(alloc, 1))?;
+    if let Ok(outcome) = receiver::run(alloc, 1) {
+        println!(rt; "no zero comes, on an executor: {outcome:?}")?;
+    }
+    Ok(())
 }

@@ -37,7 +37,7 @@ impl Thinks<Heard> for UntilZero {
 
     ghost next = { λ _ task behind reply. until_zero reply.answer behind };
 
-    ghost rests = { λ _ task place. false };
+    ghost rests = { λ _ task place waits. false };
 
     fn next(&self, _task: usize, behind: usize, reply: &Heard) -> usize {
         match reply.answer {
@@ -46,7 +46,7 @@ impl Thinks<Heard> for UntilZero {
         }
     }
 
-    fn rests(&self, _task: usize, _place: usize) -> bool {
+    fn rests(&self, _task: usize, _place: usize, _waits: bool) -> bool {
         false
     }
 }
@@ -61,7 +61,7 @@ impl Thinks<Heard> for UntilFull {
 
     ghost next = { λ _ task behind reply. until_full reply.answer behind };
 
-    ghost rests = { λ _ task place. false };
+    ghost rests = { λ _ task place waits. false };
 
     fn next(&self, _task: usize, behind: usize, reply: &Heard) -> usize {
         match reply.answer {
@@ -70,7 +70,7 @@ impl Thinks<Heard> for UntilFull {
         }
     }
 
-    fn rests(&self, _task: usize, _place: usize) -> bool {
+    fn rests(&self, _task: usize, _place: usize, _waits: bool) -> bool {
         false
     }
 }
@@ -122,17 +122,17 @@ fn explore<T: Thinks<Heard> + Drop>(
     explore_determined(alloc, &CHANNEL, channel, &plan, limit)
 }
 
-// Runs the tasks in order, of which the second is a receiver that waits for a zero, and returns how they end, and whose
-// turns they were.
-fn run(
+// Takes so many turns and one more, and returns how that ends, and whose turns the first ones were.
+fn run<T: Thinks<Heard> + Drop>(
     alloc: Global,
     tasks: &[Vec<OneAct>],
+    thinks: T,
     limit: usize,
 ) -> Result<(Outcome, Vec<usize>), NewError> {
     let plan = Plan {
         program: tasks,
         priorities: &[],
-        thinks: UntilZero {},
+        thinks,
     };
     let channel: Channel = Requests::new(ChannelState::new());
     let mut executor = PlanExecutor::new(alloc, channel, &plan)?;
@@ -158,10 +158,10 @@ fn a_receiver_that_waits_for_a_zero_ends(rt: HostRuntime) -> Result<(), NewError
 #[test]
 fn tasks_take_turns_round_and_round(rt: HostRuntime) -> Result<(), NewError> {
     let tasks = two_messages(rt.alloc(), 0)?;
-    let (outcome, turns) = run(rt.alloc(), &tasks, 3)?;
+    let (outcome, turns) = run(rt.alloc(), &tasks, UntilZero {}, 3)?;
     assert!(&rt; outcome == Outcome::Done);
     assert!(&rt; turns == schedule(rt.alloc(), &[0, 1, 0])?);
-    let (outcome, turns) = run(rt.alloc(), &tasks, 2)?;
+    let (outcome, turns) = run(rt.alloc(), &tasks, UntilZero {}, 2)?;
     assert!(&rt; outcome == Outcome::Limit);
     assert!(&rt; turns == schedule(rt.alloc(), &[0, 1])?);
     Ok(())
@@ -170,7 +170,7 @@ fn tasks_take_turns_round_and_round(rt: HostRuntime) -> Result<(), NewError> {
 #[test]
 fn a_receiver_that_hears_no_zero_stalls(rt: HostRuntime) -> Result<(), NewError> {
     let tasks = two_messages(rt.alloc(), 5)?;
-    let (outcome, turns) = run(rt.alloc(), &tasks, 10)?;
+    let (outcome, turns) = run(rt.alloc(), &tasks, UntilZero {}, 10)?;
     assert!(&rt; outcome == Outcome::Stalled);
     assert!(&rt; turns == schedule(rt.alloc(), &[0, 1, 0, 1, 1])?);
     Ok(())
@@ -204,7 +204,14 @@ fn a_task_that_begins_again_keeps_its_executor(rt: HostRuntime) -> Result<(), Ne
 #[test]
 fn a_server_may_wait_for_ever_where_its_loop_begins(rt: HostRuntime) -> Result<(), NewError> {
     let tasks = two_messages(rt.alloc(), 5)?;
-    let whole = [None, Some(Loop { head: 0, end: 1 })];
+    let whole = [
+        None,
+        Some(Loop {
+            head: 0,
+            end: 1,
+            waits: true,
+        }),
+    ];
     let serves = Loops { loops: &whole };
     let found = explore(rt.alloc(), &tasks, &[], serves, 11)?;
     assert!(&rt; found == Verdict::TooMany(11));
@@ -217,9 +224,56 @@ fn a_server_may_wait_for_ever_where_its_loop_begins(rt: HostRuntime) -> Result<(
 #[test]
 fn a_server_may_not_wait_elsewhere(rt: HostRuntime) -> Result<(), NewError> {
     let tasks = sends_on(rt.alloc())?;
-    let whole = [None, Some(Loop { head: 0, end: 2 })];
+    let whole = [
+        None,
+        Some(Loop {
+            head: 0,
+            end: 2,
+            waits: true,
+        }),
+    ];
     let found = explore(rt.alloc(), &tasks, &[], Loops { loops: &whole }, 100)?;
     let stall = schedule(rt.alloc(), &[0, 0, 1, 0, 1])?;
     assert!(&rt; found == Verdict::Stalls(stall));
+    Ok(())
+}
+
+#[test]
+fn a_server_that_may_not_wait_where_its_loop_begins_stalls(
+    rt: HostRuntime,
+) -> Result<(), NewError> {
+    let tasks = two_messages(rt.alloc(), 5)?;
+    let whole = [
+        None,
+        Some(Loop {
+            head: 0,
+            end: 1,
+            waits: false,
+        }),
+    ];
+    let found = explore(rt.alloc(), &tasks, &[], Loops { loops: &whole }, 100)?;
+    let stall = schedule(rt.alloc(), &[0, 0, 1, 1, 1])?;
+    assert!(&rt; found == Verdict::Stalls(stall));
+    Ok(())
+}
+
+// (it is where it may stay before it waits there, but has a turn until it does)
+#[test]
+fn an_executor_is_done_once_the_server_waits(rt: HostRuntime) -> Result<(), NewError> {
+    let tasks = two_messages(rt.alloc(), 5)?;
+    let whole = [
+        None,
+        Some(Loop {
+            head: 0,
+            end: 1,
+            waits: true,
+        }),
+    ];
+    let serves = Loops { loops: &whole };
+    let (outcome, turns) = run(rt.alloc(), &tasks, serves, 3)?;
+    assert!(&rt; outcome == Outcome::Limit);
+    assert!(&rt; turns == schedule(rt.alloc(), &[0, 1, 0])?);
+    let (outcome, _) = run(rt.alloc(), &tasks, serves, 4)?;
+    assert!(&rt; outcome == Outcome::Done);
     Ok(())
 }
