@@ -18,7 +18,7 @@ use esync_machine::run::{Awaits, Machine};
 use esync_systems::compare::{ComparesBoth, ComparesRequests};
 use esync_systems::explore::{Verdict, explore_pair_determined};
 use esync_systems::pair::{Pair, PairAsk, PairCommand};
-use esync_systems::plan::Plan;
+use esync_systems::plan::{InOrder, Plan};
 use std::alloc::{AllocError, Global};
 
 type Readings = ChannelRun<u32, TaskId, 1, 8, 1>;
@@ -107,7 +107,11 @@ fn explore_driver(
             states: MutexStates {},
         },
     };
-    let plan = Plan::in_order(tasks, &[]);
+    let plan = Plan {
+        program: tasks,
+        priorities: &[],
+        thinks: InOrder,
+    };
     explore_pair_determined(alloc, &compares, driver, &plan, 1000)
 }
 

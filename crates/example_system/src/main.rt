@@ -22,7 +22,7 @@ use esync_systems::explore::{
     Verdict, explore_determined, explore_pair, explore_several_determined,
 };
 use esync_systems::pair::{Pair, PairAsk, PairCommand};
-use esync_systems::plan::Plan;
+use esync_systems::plan::{InOrder, Plan};
 use esync_systems::several::{PartCommand, Several};
 use std::alloc::{AllocError, Global};
 use std::io;
@@ -150,7 +150,11 @@ fn explore_forks(alloc: Global, forks: Forks, tasks: &[Vec<ForkAct>]) -> Result<
             states: MutexStates {},
         },
     };
-    let plan = Plan::in_order(tasks, &[]);
+    let plan = Plan {
+        program: tasks,
+        priorities: &[],
+        thinks: InOrder,
+    };
     explore_several_determined(alloc, &compares, forks, &plan, 1000)
 }
 
@@ -188,7 +192,11 @@ fn explore_channel(
     let compares = ComparesRequests {
         states: ChannelStates {},
     };
-    let plan = Plan::in_order(tasks, &[]);
+    let plan = Plan {
+        program: tasks,
+        priorities: &[],
+        thinks: InOrder,
+    };
     explore_determined(alloc, &compares, channel, &plan, 1000)
 }
 
