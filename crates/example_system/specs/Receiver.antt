@@ -18,5 +18,5 @@ until_zero (Gives (Received (suc message))) behind = 0
 until_zero answer behind = behind
 
 -- what these tasks do
-abbrev pub receiving : {Ask Command : Type 0} → List (Vec (Act Ask Command) Global) → Plan Ask Command (Reply (Answer (ChannelHeard ℕ)) TaskId)
+abbrev pub receiving : {Ask Command : Type 0} → List (Vec (Act Ask Command) Global) → Plan Ask Command (Reply (Answer (ChannelHeard ℕ)) TaskId 1)
 receiving tasks = record { program = acts_of tasks; priorities = []; next = λ task behind reply. until_zero reply.answer behind; rests = λ task place waits. false }
