@@ -141,7 +141,7 @@ fn explore<'a>(alloc: Global) -> Result<Command<'a>, AllocError> {
         .help("Draw the turns as a diagram in the language of Mermaid");
     Command::new(alloc, "explore")
         .about(
-            "Says of every schedule of a system's tasks whether it ends, can end, or comes to stand still, and then by which turns",
+            "Says whether every schedule of a system's tasks ends or can end, or else by which turns one stalls or never ends",
         )
         .arg(limit)?
         .arg(json)?
