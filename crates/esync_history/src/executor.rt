@@ -38,14 +38,14 @@ pub enum NewError {
     NoMemory,
 }
 
-/// The outcome of a run.
+/// The outcome of a run: of an [`Executor`], or of an executor with the same outcomes and another order of turns.
 #[derive(Clone, Copy, Debug, PartialEq, Eq)]
 pub enum Outcome {
-    /// All tasks have ended.
+    /// All tasks have ended, or are where they may stay for ever, if the executor knows such places.
     Done,
-    /// Some task hasn't ended, and no task is in the queue.
+    /// Some task hasn't, and none has a turn: in an [`Executor`], none is in the queue.
     Stalled,
-    /// The greatest number of turns was taken, and a task is in the queue.
+    /// The greatest number of turns was taken, and some task has a turn.
     Limit,
 }
 

@@ -5,6 +5,7 @@ pub mod Waking
 pub mod Alike
 pub mod Turning
 pub mod Flags
+pub mod Letting
 pub mod Waiting
 pub mod Opening
 pub mod EachLike

@@ -1,10 +1,9 @@
 //! An executor of a plan's tasks: one of their schedules.
-ghost use Rattle.std.specs.Prelude.{◌≡◌, ◌≤◌, ◌⊎◌, ℕ, List, length, true, false, IfOk, IfSome, IfNone, Err};
+ghost use Rattle.std.specs.Prelude.{◌≡◌, ◌+◌, ◌^◌, ◌<◌, ◌≤◌, ◌⊎◌, ℕ, List, length, true, false, IfOk, IfSome, IfNone, Err};
 ghost use Rattle.std.specs.List.{list_any};
 ghost use Rattle.esync_history.specs.Suited.{AreSuited};
-ghost use Rattle.esync_history.specs.Turns.{Gave};
-ghost use Rattle.esync_systems.specs.Schedules.{AreOver, Follows, IsStall};
-ghost use Rattle.esync_systems.specs.Positions.{acts_of, plan_of, running_of, unbegun, world_of, IsTurn};
+ghost use Rattle.esync_systems.specs.Schedules.{AreOver, ComesBefore, Follows, GoesRound, IsStall};
+ghost use Rattle.esync_systems.specs.Positions.{acts_of, plan_of, running_of, unbegun, world_of, HearsIn, May};
 
 use crate::plan::{Plan, Thinks};
 use crate::state::{State, all_done, any_ready, begin};
@@ -33,8 +32,8 @@ pub struct Turned<R> {
 pub struct PlanExecutor<'a, M: Awaits<Waker = TaskId>, T: Thinks<M::Reply>> {
     plan: &'a Plan<'a, M::Ask, M::Command, T>,
     state: State<M>,
-    // The task that took the last turn.
-    last: usize,
+    // The task from which on the next turn is looked for.
+    from: usize,
 }
 
 impl<'a, M: Awaits<Waker = TaskId>, T: Thinks<M::Reply>> Model for PlanExecutor<'a, M, T> {
@@ -42,7 +41,7 @@ impl<'a, M: Awaits<Waker = TaskId>, T: Thinks<M::Reply>> Model for PlanExecutor<
 
     ghost Value = { Planning M M.Ask M.Command T };
 
-    ghost view = { λ a. record { program = acts_of a.plan.now.program.now; priorities = a.plan.now.priorities.now; thinks = a.plan.now.thinks; machine = a.state.machine; positions = a.state.positions.items; ready = a.state.ready.items } };
+    ghost view = { λ a. record { from = a.from; program = acts_of a.plan.now.program.now; priorities = a.plan.now.priorities.now; thinks = a.plan.now.thinks; machine = a.state.machine; positions = a.state.positions.items; ready = a.state.ready.items } };
 
     ghost invariant = { λ a. AreWaiting M.semantics (running (plan_of T.next T.rests a.plan.now) a.state) };
 }
@@ -67,6 +66,7 @@ where
         ensures unsuited { result ≡ Err NewError.NoSuch → AreSuited M.semantics.meaning M.REQS (acts_of plan.now.program.now) → ⊥ }
         ensures suited { (result ≡ Err NewError.NoSuch) ⊎ AreSuited M.semantics.meaning M.REQS (acts_of plan.now.program.now) }
         ensures begun { IfOk result (λ executor. running_of T.next T.rests executor ≡ unbegun (plan_of T.next T.rests plan.now) machine) }
+        ensures from { IfOk result (λ executor. executor.from ≡ 0) }
     {
         if !are_suited::<M>(plan.program) {
             return Err(NewError::NoSuch);
@@ -74,12 +74,16 @@ where
         Ok(PlanExecutor {
             plan,
             state: begin(alloc, machine, plan.program)?,
-            last: usize::MAX,
+            from: 0,
         })
     }
 
     // Returns the first task from one number up to another that may take a turn.
-    fn first_between(&self, from: usize, to: usize) -> Option<usize> {
+    fn first_between(&self, from: usize, to: usize) -> Option<usize>
+        ensures some { IfSome result (λ task. (from ≤ task) × (task < to) × May (running_of T.next T.rests self.now) task) }
+        ensures first { IfSome result (λ task. (j : ℕ) → from ≤ j → j < task → May (running_of T.next T.rests self.now) j → ⊥) }
+        ensures none { IfNone result ((j : ℕ) → from ≤ j → j < to → May (running_of T.next T.rests self.now) j → ⊥) }
+    {
         for number in from..to {
             if may_turn(self.plan, &self.state, number) {
                 return Some(number);
@@ -89,22 +93,29 @@ where
     }
 
     // Returns the next task, round and round, that may take a turn.
-    fn next(&self) -> Option<usize> {
-        let from = self.last.wrapping_add(1);
-        match self.first_between(from, self.state.ready.len()) {
+    fn next(&self) -> Option<usize>
+        ensures some { IfSome result (λ task. (task + 1 < 2 ^ 64) × May (running_of T.next T.rests self.now) task) }
+        ensures first { IfSome result (λ task. (j : ℕ) → ComesBefore self.now.from j task → May (running_of T.next T.rests self.now) j → ⊥) }
+        ensures none { IfNone result ((j : ℕ) → May (running_of T.next T.rests self.now) j → ⊥) }
+    {
+        match self.first_between(self.from, self.state.ready.len()) {
             Some(task) => Some(task),
-            None => self.first_between(0, from),
+            None => self.first_between(0, self.from),
         }
     }
 
-    /// Takes a turn, and returns what it was. `None` claims only that nothing has changed.
+    /// Takes the turn of the next task, round and round, that may take one, and returns what it was. Returns `None`, and
+    /// changes nothing, exactly if no task has a turn: while one has, some task may take one.
     pub fn turn(&mut self) -> Option<Turned<M::Reply>>
-        ensures turn { IfSome result (λ turned. (t : IsTurn M.semantics M.starting turned.task (running_of T.next T.rests self.old) (running_of T.next T.rests self.new)) × Gave M.semantics.meaning t.steps turned.heard.first turned.heard.second) }
+        ensures turn { IfSome result (λ turned. HearsIn M.semantics M.starting turned.task (running_of T.next T.rests self.old) (running_of T.next T.rests self.new) turned.heard) }
+        ensures first { IfSome result (λ turned. (j : ℕ) → ComesBefore self.old.from j turned.task → May (running_of T.next T.rests self.old) j → ⊥) }
+        ensures from { IfSome result (λ turned. self.new.from ≡ turned.task + 1) }
+        ensures none { IfNone result (list_any (λ b. b) self.old.ready ≡ false) }
         ensures kept { IfNone result (self.new ≡ self.old) }
     {
         let task = self.next()?;
         let heard = hear_turn(self.plan, &mut self.state, task)?;
-        self.last = task;
+        self.from = task + 1;
         Some(Turned { task, heard })
     }
 
@@ -123,12 +134,12 @@ where
         }
     }
 
-    /// Takes turns until no task may take one, or `limit` turns are taken. Returns `Limit` if a task has a turn then. Else
+    /// Takes turns, as `turn` does, until no task has one, or `limit` turns are taken. Returns `Limit` if a task has a turn then. Else
     /// returns `Done` if all tasks have ended or are where they may stay for ever, and `Stalled` if not.
     ///
     /// A run takes no memory beyond what the machine's steps take. A later run goes on where this one stopped.
     pub fn run(&mut self, limit: usize) -> Outcome
-        ensures run { (schedule : List ℕ) × (length schedule ≤ limit) × Follows M.semantics.meaning M.starting schedule (world_of M.semantics (running_of T.next T.rests self.old)) (world_of M.semantics (running_of T.next T.rests self.new)) }
+        ensures run { (schedule : List ℕ) × (length schedule ≤ limit) × (result ≡ Outcome.Limit → length schedule ≡ limit) × Follows M.semantics.meaning M.starting schedule (world_of M.semantics (running_of T.next T.rests self.old)) (world_of M.semantics (running_of T.next T.rests self.new)) × GoesRound M.semantics.meaning M.starting self.old.from self.new.from schedule (world_of M.semantics (running_of T.next T.rests self.old)) (world_of M.semantics (running_of T.next T.rests self.new)) }
         ensures done { result ≡ Outcome.Done → AreOver (world_of M.semantics (running_of T.next T.rests self.new)) × (list_any (λ b. b) self.new.ready ≡ false) }
         ensures stalled { result ≡ Outcome.Stalled → IsStall M.semantics.meaning M.starting (world_of M.semantics (running_of T.next T.rests self.new)) }
         ensures limit { result ≡ Outcome.Limit → list_any (λ b. b) self.new.ready ≡ true }
