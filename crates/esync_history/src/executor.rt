@@ -43,7 +43,7 @@ pub enum NewError {
 pub enum Outcome {
     /// All tasks have ended, or are where they may stay for ever, if the executor knows such places.
     Done,
-    /// Some task hasn't, and none has a turn: in an [`Executor`], none is in the queue.
+    /// Some task hasn't ended and isn't at such a place, and none has a turn: in an [`Executor`], none is in the queue.
     Stalled,
     /// The greatest number of turns was taken, and some task has a turn.
     Limit,

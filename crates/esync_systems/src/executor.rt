@@ -134,8 +134,8 @@ where
         }
     }
 
-    /// Takes turns, as `turn` does, until no task has one, or `limit` turns are taken. Returns `Limit` if a task has a turn then. Else
-    /// returns `Done` if all tasks have ended or are where they may stay for ever, and `Stalled` if not.
+    /// Takes turns, as `turn` does, until no task has one, or `limit` turns are taken. Returns `Limit` if a task has a
+    /// turn then. Else returns `Done` if all tasks have ended or are where they may stay for ever, and `Stalled` if not.
     ///
     /// A run takes no memory beyond what the machine's steps take. A later run goes on where this one stopped.
     pub fn run(&mut self, limit: usize) -> Outcome
