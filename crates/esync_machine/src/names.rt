@@ -52,6 +52,13 @@ impl<A: Copy, const N: usize> Names<A, N> {
         self.table.get(r)
     }
 
+    /// Returns what each number names, by number.
+    pub fn as_slice(&self) -> &[Option<A>]
+        ensures { result.now ≡ self.now }
+    {
+        &self.table.places
+    }
+
     /// Gives the number to `named` as its name, or frees it with `None`.
     pub fn put(&mut self, r: usize, named: Option<A>)
         requires { r < N }

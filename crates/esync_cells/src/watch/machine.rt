@@ -236,6 +236,20 @@ impl<
         Watched::with_state(WatchOver::new_at(version))
     }
 
+    /// Returns the watch's state by reference: the latest value, its version, and the registered wakers.
+    pub fn state(&self) -> &WatchOver<T, L>
+        ensures { result.now ≡ self.now.state }
+    {
+        &self.state
+    }
+
+    /// Returns the receiver at each number.
+    pub fn receivers(&self) -> &[Option<Seen>]
+        ensures { result.now ≡ self.now.receivers }
+    {
+        self.receivers.as_slice()
+    }
+
     // A watch without receivers in this state, in which no receiver is counted.
     fn with_state(state: WatchOver<T, L>) -> Self
         requires { state.receivers ≡ 0 }
