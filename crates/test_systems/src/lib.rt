@@ -1,4 +1,4 @@
-//! Small systems with known answers. Their states were counted by a program in another language.
+//! Small systems with known answers, which a search in another language gives, too.
 #![tactic(auto)]
 
 mod channels;
