@@ -63,6 +63,7 @@ impl<T: Copy, M: Copy> Kept for LazyState<T, M> {
 impl<T: Drop, M: Maker<T> + Drop> LazyState<T, M> {
     ghost use Rattle.std.specs.Prelude.{◌≡◌, None, Some, ⊤};
     ghost use Rattle.std.specs.Borrow.{sem, follows_so};
+    ghost use Rattle.std.specs.Option.{option_copied};
     ghost use mathlib.Core.Option.{none};
     ghost use Rattle.esync_cells.specs.LazyLock.{Shows};
     ghost use Rattle.esync_cells.specs.contracts.lazy_lock.LazyState.{the_row};
@@ -72,6 +73,20 @@ impl<T: Drop, M: Maker<T> + Drop> LazyState<T, M> {
         ensures { result ≡ record { value = None; maker = maker } }
     {
         LazyState { data: None, maker }
+    }
+
+    /// Returns the value by reference, if it was made.
+    pub fn try_get(&self) -> Option<&T>
+        ensures { option_copied result ≡ self.now.value }
+    {
+        self.data.as_ref()
+    }
+
+    /// Returns the maker.
+    pub fn maker(&self) -> &M
+        ensures { result.now ≡ self.now.maker }
+    {
+        &self.maker
     }
 
     /// Returns the value by reference. The first call makes it.

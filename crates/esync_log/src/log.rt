@@ -1,6 +1,7 @@
 //! Messages with consecutive numbers, and how far each subscriber has read.
 ghost use Rattle.std.specs.Prelude.{◌≡◌, ℕ, true, false, not, nat_lt, ◌+◌, ◌-◌, ◌<◌, ◌≤◌, ◌↔◌, [], Some, None, length, is_some, IsTrue, replicate, slice_get, slice_set, slice_index_or, IfOk, OnOk, OnErr, IfSome, IfNone};
 ghost use Rattle.std.specs.List.{list_all};
+ghost use Rattle.std.specs.Option.{option_copied};
 ghost use Rattle.esync_log.specs.Counts.{readers_of};
 ghost use Rattle.esync_log.specs.Log.{IsLeastFree, oldest, has_subscribers, last_number, published, with_room, is_last, settled, moved, is_live, position, left, cleared, Joins, Publishes, PublishesAtOnce, ClonesAt, MayFailAt, Takes, IsRefused, Reads, ReadsOn, caught, found};
 
@@ -175,6 +176,32 @@ impl<T: Drop, const CAP: usize, const SUBS: usize> Log<T, CAP, SUBS> {
         } else {
             None
         }
+    }
+
+    /// Returns message `index`, counted from the oldest that is held. Returns `None` if no more than `index` messages are
+    /// held.
+    pub fn message(&self, index: usize) -> Option<&T>
+        ensures { option_copied result ≡ slice_get self.now.held index }
+    {
+        if index < self.held.len() {
+            Some(self.held.message(index))
+        } else {
+            None
+        }
+    }
+
+    /// Returns the number that each subscriber reads next, at its place.
+    pub fn positions(&self) -> &[Option<u64>]
+        ensures { result.now ≡ self.now.positions }
+    {
+        &self.positions.row
+    }
+
+    /// Returns the number that the next message gets.
+    pub fn next_number(&self) -> u64
+        ensures { result ≡ self.now.next }
+    {
+        self.next
     }
 
     // The number of the oldest held message, or the next number if none is held.

@@ -131,6 +131,13 @@ impl<G: LogStore, S: WakerList, P: WakerList<Waker = S::Waker>> PubSubOver<G, S,
         }
     }
 
+    /// Returns the log of the messages.
+    pub fn log(&self) -> &G
+        ensures { G.log result.now ≡ self.now.log }
+    {
+        &self.log
+    }
+
     /// Adds a subscriber at the least free place and returns its name. It reads the messages that are published from
     /// now on.
     ///

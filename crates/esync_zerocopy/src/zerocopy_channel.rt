@@ -93,6 +93,21 @@ impl<S: Row, W: Copy + Eq> RowState<S, W> {
         }
     }
 
+    /// Returns the slots, in the order of their numbers.
+    pub fn slots(&self) -> &S
+        ensures { S.items result.now ≡ self.now.slots.values }
+    {
+        &self.slots
+    }
+
+    /// Returns whether it is the same side's turn at each slot, in the same order, and the same slots are out. `false`
+    /// claims nothing.
+    pub fn has_same_turns(&self, other: &Self) -> bool
+        ensures { IsTrue result → self.now.slots.sides ≡ other.now.slots.sides }
+    {
+        self.turns.are_same(&other.turns)
+    }
+
     // Lends the value in the slot of this number, if there is such a slot, whichever side's turn it is.
     fn lend_at(&mut self, number: usize) -> Option<&mut S::Item>
         ensures* lends { sem 𝓛 (LendsIf (the_row S.row W.row S.Item.row S.Row) S.Item.row self.entry result (λ w. record { slots = record { sides = self.old.slots.sides; values = slice_set self.old.slots.values number w }; waiting = self.old.waiting }) self.old) }

@@ -2,6 +2,7 @@
 ghost use Rattle.std.specs.Prelude.{◌≡◌, Option, IfOk, OnErr, None, Some};
 ghost use Rattle.esync_machine.specs.Runs.{GoodRun};
 ghost use Rattle.esync_machine.specs.Object.{requests_meaning};
+ghost use Rattle.std.specs.Option.{option_copied};
 ghost use Rattle.esync_cells.specs.LazyLock.{Lazy};
 ghost use Rattle.esync_cells.specs.LazyRules.{lazy_rules, lazy_wakings};
 
@@ -82,6 +83,13 @@ impl<T: Drop, M: Maker<T> + Drop, W> LazyHolder<T, M, W> {
             state: Some(LazyState::new(maker)),
             wakers: PhantomData,
         }
+    }
+
+    /// Returns the lock, unless its value was taken out.
+    pub fn state(&self) -> Option<&LazyState<T, M>>
+        ensures { option_copied result ≡ self.now }
+    {
+        self.state.as_ref()
     }
 }
 

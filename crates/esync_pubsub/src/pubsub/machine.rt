@@ -713,6 +713,27 @@ impl<G: LogStore, S: WakerList, P: WakerList<Waker = S::Waker>, const NAMES: usi
         }
     }
 
+    /// Returns the channel, whose subscribers have places.
+    pub fn state(&self) -> &PubSubOver<G, S, P>
+        ensures { result.now ≡ self.now.state }
+    {
+        &self.state
+    }
+
+    /// Returns the place of the subscriber that each number names, by number.
+    pub fn subscribers(&self) -> &[Option<usize>]
+        ensures { result.now ≡ self.now.tables.subscribers }
+    {
+        self.tables.subscribers.as_slice()
+    }
+
+    /// Returns which numbers name a publisher, by number.
+    pub fn publishers(&self) -> &[Option<()>]
+        ensures { result.now ≡ self.now.tables.publishers }
+    {
+        self.tables.publishers.as_slice()
+    }
+
     // Proves that the numbers name all subscribers, and that no more messages are held than were published. Does
     // nothing.
     fn named(&self)

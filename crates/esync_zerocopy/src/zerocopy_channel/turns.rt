@@ -124,6 +124,20 @@ impl<W: Copy + Eq> Turns<W> {
         }
     }
 
+    /// Returns whether it is the same side's turn at each slot, in the same order, and the same slots are out. `false`
+    /// claims nothing.
+    pub fn are_same(&self, other: &Self) -> bool
+        ensures { IsTrue result → self.now.sides ≡ other.now.sides }
+    {
+        self.capacity == other.capacity
+            && self.spare.first == other.spare.first
+            && self.spare.len == other.spare.len
+            && self.held.first == other.held.first
+            && self.held.len == other.held.len
+            && self.sending == other.sending
+            && self.receiving == other.receiving
+    }
+
     /// Returns the number of the side's next slot, if it has one.
     #[tactic(auto, using(crate::proofs::Rounds::count_of_round))]
     pub fn next(&self, side: Side) -> Option<usize>
