@@ -3,7 +3,6 @@ use crate::schedule;
 use esync_base::waitqueue::TaskId;
 use esync_cells::watch::machine::{Await, Reading, WatchCall, WatchCommand, WatchRun, Watched};
 use esync_cells::watch::{Change, Judge};
-use esync_compared::on_heap::OnHeap;
 use esync_compared::sizes::{SizedWatch, Sizes};
 use esync_compared::watch::{ComparesTests, WatchStates};
 use esync_history::executor::{Act, NewError};
@@ -145,9 +144,9 @@ fn a_change_that_passes_is_missed(rt: HostRuntime) -> Result<(), NewError> {
 #[test]
 fn a_watch_has_its_capacity(rt: HostRuntime) -> Result<(), NewError> {
     let tasks = second_reader(rt.alloc())?;
-    let one = Sizes::One(OnHeap::new(rt.alloc(), Watched::new())?);
+    let one = Sizes::One(Watched::new());
     assert!(&rt; explore_sized(rt.alloc(), one, &tasks)? == Verdict::AllEnd(3));
-    let two = Sizes::Two(OnHeap::new(rt.alloc(), Watched::new())?);
+    let two = Sizes::Two(Watched::new());
     let schedule = schedule(rt.alloc(), &[0, 0, 0])?;
     assert!(&rt; explore_sized(rt.alloc(), two, &tasks)? == Verdict::Stalls(schedule));
     Ok(())
