@@ -8,6 +8,7 @@ mod philosophers;
 mod semaphores;
 mod signals;
 mod thinkers;
+mod topics;
 mod watches;
 
 use std::alloc::{AllocError, Global};
