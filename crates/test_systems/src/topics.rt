@@ -49,6 +49,18 @@ fn reader(alloc: Global, r: usize, subscriber: usize) -> Result<Vec<TopicAct>, A
     ]?)
 }
 
+fn two_readers(alloc: Global) -> Result<Vec<Vec<TopicAct>>, AllocError> {
+    Ok(vec![in alloc;
+        publisher(alloc)?,
+        reader(alloc, 1, 0)?,
+        reader(alloc, 2, 1)?,
+    ]?)
+}
+
+fn one_reader(alloc: Global) -> Result<Vec<Vec<TopicAct>>, AllocError> {
+    Ok(vec![in alloc; publisher(alloc)?, reader(alloc, 1, 0)?]?)
+}
+
 fn explore_topic(alloc: Global, tasks: &[Vec<TopicAct>]) -> Result<Verdict, NewError> {
     let topic = topic(alloc)?;
     explore_determined(alloc, &TOPIC, topic, &Plan::in_order(tasks, &[]), 1000)
@@ -57,11 +69,7 @@ fn explore_topic(alloc: Global, tasks: &[Vec<TopicAct>]) -> Result<Verdict, NewE
 // Each reader takes four turns at most, as it may wait for both messages, and the publisher waits once for room.
 #[test]
 fn both_subscribers_read_both_messages(rt: HostRuntime) -> Result<(), NewError> {
-    let tasks = vec![in rt.alloc();
-        publisher(rt.alloc())?,
-        reader(rt.alloc(), 1, 0)?,
-        reader(rt.alloc(), 2, 1)?,
-    ]?;
+    let tasks = two_readers(rt.alloc())?;
     assert!(&rt; explore_topic(rt.alloc(), &tasks)? == Verdict::AllEnd(11));
     Ok(())
 }
@@ -69,7 +77,7 @@ fn both_subscribers_read_both_messages(rt: HostRuntime) -> Result<(), NewError> 
 // The second subscriber doesn't read, so the first message stays, and there is no room for the next.
 #[test]
 fn a_subscriber_that_does_not_read_holds_up_the_publisher(rt: HostRuntime) -> Result<(), NewError> {
-    let tasks = vec![in rt.alloc(); publisher(rt.alloc())?, reader(rt.alloc(), 1, 0)?]?;
+    let tasks = one_reader(rt.alloc())?;
     let schedule = schedule(rt.alloc(), &[0, 0, 1, 1])?;
     assert!(&rt; explore_topic(rt.alloc(), &tasks)? == Verdict::Stalls(schedule));
     Ok(())
