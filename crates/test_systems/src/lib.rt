@@ -7,6 +7,7 @@ mod mutexes;
 mod philosophers;
 mod semaphores;
 mod signals;
+mod slots;
 mod thinkers;
 mod topics;
 mod watches;
