@@ -9,7 +9,6 @@ mod semaphores;
 mod signals;
 mod slots;
 mod thinkers;
-mod topics;
 mod watches;
 
 use std::alloc::{AllocError, Global};
