@@ -310,6 +310,13 @@ impl<S: Store, W: Copy + Eq> Mailbox<S, W> {
         self.senders_waker.wake(wakes);
     }
 
+    /// Returns the store of the messages.
+    pub fn store(&self) -> &S
+        ensures { result.now ≡ self.now.store }
+    {
+        &self.queue
+    }
+
     /// Returns how many messages are in the channel.
     pub fn len(&self) -> usize
         ensures value { result ≡ length (S.held self.now.store) }

@@ -318,9 +318,11 @@ first_heap above n row len x r room none =
 pub first_items : {A : Type 0} (n : ℕ) (row : List (Option A)) (len : ℕ) (x : A) → IsRow n row len → len < n → IsPermutation (x ∷ items_of row) (items_of (set row len (Some x)))
 first_items n row len x r room = rw (items_of-set n row len x r room) (IsPermutation-sym (items_of row ++ x ∷ []) (x ∷ items_of row) (IsPermutation-to_front (items_of row) x))
 
-first_in : {A : Type 0} (xs : List A) (m : ℕ) (x : A) → get_or (map Some xs ++ replicate m None) 0 None ≡ Some x → slice_get xs 0 ≡ Some x
-first_in [] m x h = absurd (let e : Some x ≡ None = sym h ∙ none_in m 0 in cc)
-first_in (z ∷ zs) m x h = h
+item_in : {A : Type 0} (xs : List A) (m i : ℕ) (x : A) → get_or (map Some xs ++ replicate m None) i None ≡ Some x → slice_get xs i ≡ Some x
+item_in [] m i x h = absurd (let e : Some x ≡ None = sym h ∙ none_in m i in cc)
+item_in (z ∷ zs) m zero x h = h
+item_in (z ∷ zs) m (suc i) x h = item_in zs m i x h
 
-pub first_of_row : {A : Type 0} (n : ℕ) (row : List (Option A)) (len : ℕ) (x : A) → IsRow n row len → get_or row 0 None ≡ Some x → slice_get (items_of row) 0 ≡ Some x
-first_of_row n row len x r e = first_in (items_of row) (n - length (items_of row)) x (sym (ap (λ (l : List (Option _)). get_or l 0 None) r.shape) ∙ e)
+-- the item of a place is the item of that number
+pub item_of_row : {A : Type 0} (n : ℕ) (row : List (Option A)) (len i : ℕ) (x : A) → IsRow n row len → get_or row i None ≡ Some x → slice_get (items_of row) i ≡ Some x
+item_of_row n row len i x r e = item_in (items_of row) (n - length (items_of row)) i x (sym (ap (λ (l : List (Option _)). get_or l i None) r.shape) ∙ e)

@@ -434,6 +434,14 @@ impl<T: Drop, K: Kind<T>, const N: usize> PrioQueue<T, K, N> {
         }
     }
 
+    /// Returns item `i`, counted in the order of the places: behind an item stand those that leave after it, and others.
+    pub fn get(&self, i: usize) -> &T
+        requires { i < length self.now }
+        ensures { Some result.now ≡ slice_get self.now i }
+    {
+        self.row.get(i)
+    }
+
     /// Drops all items. Their bytes stay in the places until other items are written over them.
     pub fn clear(&mut self)
         ensures { self.new ≡ [] }

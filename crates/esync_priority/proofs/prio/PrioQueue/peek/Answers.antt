@@ -1,6 +1,6 @@
 use Rattle.std.proofs.Common.{◌<◌, None, arith}
 use Rattle.esync_base.specs.Rows.{items_of}
-use Rattle.esync_priority.proofs.Items.{held_below, first_of_row, top_of_heap}
+use Rattle.esync_priority.proofs.Items.{held_below, item_of_row, top_of_heap}
 use Rattle.esync_priority.proofs.PrioParts.{places_fit}
 use Rattle.esync_priority.proofs.prio.PrioQueue.peek.Goals as goal
 
@@ -16,4 +16,4 @@ returns-else-self-eq0-clause-top g c =
     let laws = g.met.K.Kind in
     let row = c.self.inside.row in
     let x = c.get.result.now in
-    rw (← c.self.view_is) (top_of_heap g.K.Kind.above laws.irreflexive laws.ties (items_of row) x c.self.invariant.heap (first_of_row g.row.N row c.self.inside.len x c.self.invariant.items c.get.ensures.item))
+    rw (← c.self.view_is) (top_of_heap g.K.Kind.above laws.irreflexive laws.ties (items_of row) x c.self.invariant.heap (item_of_row g.row.N row c.self.inside.len 0 x c.self.invariant.items c.get.ensures.item))
