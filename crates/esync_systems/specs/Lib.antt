@@ -8,6 +8,7 @@ pub mod Asking
 pub mod Schedules
 pub mod Positions
 pub mod Certificates
+pub mod Stored
 pub mod Verdicts
 pub mod Functional
 pub mod Several
