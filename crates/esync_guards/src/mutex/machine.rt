@@ -114,6 +114,20 @@ impl<T: Copy, U: Copy, P: Projection<T, U>, W: Copy + Eq> Guarded<T, U, P, W> {
         }
     }
 
+    /// Returns the state of the lock.
+    pub fn lock(&self) -> &MutexState<W>
+        ensures { result.now ≡ self.now.lock }
+    {
+        &self.lock
+    }
+
+    /// Returns the value, also while the mutex is locked.
+    pub fn value(&self) -> &T
+        ensures { result.now ≡ self.now.value }
+    {
+        &self.value
+    }
+
     // Tries to lock the mutex for a free number.
     fn try_at(&mut self, place: &mut Option<MutexHeld>) -> Answer<MutexHeard<T, U>>
         ensures allowed { Tries (record { held = self.old.lock.held; value = self.old.value }) place.old result (record { held = self.new.lock.held; value = self.new.value }) place.new }
