@@ -2,11 +2,14 @@
 
 use crate::schedule;
 use esync_base::waitqueue::TaskId;
-use esync_channel::channel::ChannelState;
 use esync_channel::channel::machine::{ChannelAsk, ChannelCommand, ChannelRun};
+use esync_channel::channel::{ChannelState, Mailbox};
 use esync_compared::channel::ChannelStates;
+use esync_compared::priority::PriorityStates;
 use esync_history::executor::{Act, NewError};
 use esync_machine::requests::Requests;
+use esync_priority::priority_channel::Max;
+use esync_priority::priority_channel::machine::PriorityRun;
 use esync_systems::compare::{ComparesBoth, ComparesRequests};
 use esync_systems::explore::{Verdict, explore, explore_pair};
 use esync_systems::pair::{Pair, PairAsk, PairCommand};
@@ -14,6 +17,8 @@ use esync_systems::plan::Plan;
 use std::alloc::{AllocError, Global};
 
 type Channel = ChannelRun<u32, TaskId, 1, 4, 1>;
+
+type Urgent = PriorityRun<u32, TaskId, Max, 1, 4, 1>;
 
 type OneCommand = ChannelCommand<u32, TaskId>;
 
@@ -26,6 +31,10 @@ type ServiceAct = Act<
 
 const CHANNEL: ComparesRequests<ChannelStates> = ComparesRequests {
     states: ChannelStates {},
+};
+
+const URGENT: ComparesRequests<PriorityStates> = ComparesRequests {
+    states: PriorityStates {},
 };
 
 fn channel() -> Channel {
@@ -55,6 +64,17 @@ fn consume(alloc: Global, count: usize, sent: usize, limit: usize) -> Result<Ver
         &Plan::in_order(&tasks, &[]),
         limit,
     )
+}
+
+fn consume_urgent(
+    alloc: Global,
+    count: usize,
+    sent: usize,
+    limit: usize,
+) -> Result<Verdict, NewError> {
+    let tasks = consumers(alloc, count, sent)?;
+    let channel: Urgent = Requests::new(Mailbox::new());
+    explore(alloc, &URGENT, channel, &Plan::in_order(&tasks, &[]), limit)
 }
 
 fn ask(r: u8, ask: ChannelAsk<u32>) -> ServiceAct {
@@ -133,5 +153,15 @@ fn two_consumers_wake_each_other_for_ever(rt: HostRuntime) -> Result<(), NewErro
     assert!(&rt; consume(rt.alloc(), 2, 0, 4)? == Verdict::TooMany(4));
     let none = Verdict::NeverEnds(Vec::new(rt.alloc()));
     assert!(&rt; consume(rt.alloc(), 2, 0, 5)? == none);
+    Ok(())
+}
+
+// With one place for equal messages a priority channel is a channel.
+#[test]
+fn a_priority_channel_is_explored_as_a_channel(rt: HostRuntime) -> Result<(), NewError> {
+    assert!(&rt; consume_urgent(rt.alloc(), 1, 1, 4)? == Verdict::TooMany(4));
+    assert!(&rt; consume_urgent(rt.alloc(), 1, 1, 5)? == Verdict::AllEnd(3));
+    let schedule = schedule(rt.alloc(), &[2, 0, 1])?;
+    assert!(&rt; consume_urgent(rt.alloc(), 2, 1, 1000)? == Verdict::Stalls(schedule));
     Ok(())
 }
