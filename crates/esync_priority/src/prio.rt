@@ -434,7 +434,7 @@ impl<T: Drop, K: Kind<T>, const N: usize> PrioQueue<T, K, N> {
         }
     }
 
-    /// Returns item `i`, counted in the order of the places: behind an item stand those that leave after it, and others.
+    /// Returns the item at place `i` of the heap. The item at place 0 is the one that `peek` returns.
     pub fn get(&self, i: usize) -> &T
         requires { i < length self.now }
         ensures { Some result.now ≡ slice_get self.now i }
