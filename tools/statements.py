@@ -5,7 +5,7 @@ file, or in the statement of something that is named there, and so on. So the st
 specs/, each item of src/ without the bodies of its functions, and each import. A part leads to the items and imports that its text
 names, of its file or behind a path; to the files of specs/ that it cites; and to each impl of a type that is reached, if its trait
 is reached too, or is none of the repository's. If it can't be told which one is named, all of that name are reached. Comments and
-layout, proofs and the kit are no statements.
+layout, proofs and how they are sought, and the kit are no statements.
 """
 import collections
 import functools
@@ -141,8 +141,9 @@ KIND = re.compile(r"\b(?:(?:const\s+)?(?:unsafe\s+)?(?:extern\s+)?(fn)|(use|ghos
 UP_TO_SEMICOLON = ("use", "ghost", "const", "static", "type")
 
 
-# An item of a source file: `impl`, `struct` and so on, its name if it has one, its text, and what stands before its braces.
-Item = collections.namedtuple("Item", "kind name text header")
+# An item of a source file: `impl`, `struct` and so on, its name if it has one, its text, what stands before its braces, and of an
+# import the path that it names.
+Item = collections.namedtuple("Item", "kind name text header at", defaults=("", "", ()))
 
 
 def items_in(text):
@@ -221,7 +222,7 @@ class Source:
         self.parts = [Part(path, it.text, it) for it in shown if it]
         trees = re.findall(r"(?<!ghost )\buse\s+([^;]+);", without_literals(self.whole))
         imports = sorted({it for tree in trees for it in paths_in(tree)})
-        self.imports = [Part(path, f"{'::'.join(at)} as {name}", Item("use", name, at, "")) for at, name in imports]
+        self.imports = [Part(path, f"{'::'.join(at)} as {name}", Item("use", name, at=at)) for at, name in imports]
         self.cited = [cited for it in items if it.kind == "ghost" for cited in cited_in(it.text)]
         self.defines = by_name([*self.parts, *self.imports])
 
@@ -319,7 +320,7 @@ class Statements:
         place = self.module_of(source, path)
         if not place:
             # (it begins with what an import brings, such as a module)
-            before = [it.item.text for it in source.imports if it.item.name == path[0] and it.item.text != path[:1]]
+            before = [it.item.at for it in source.imports if it.item.name == path[0] and it.item.at != path[:1]]
             places = [(*at, *path[1:]) for at in before if len(path) > 1 and self.module_of(source, at)]
             return set().union(*(self.named_at(source, it) for it in places))
         crate, modules, rest = place
@@ -340,7 +341,7 @@ class Statements:
 
     def behind_import(self, part):
         """Returns what stands behind the path of an import, and the enum whose values it brings."""
-        source, path = self.sources[part.path], part.item.text
+        source, path = self.sources[part.path], part.item.at
         return (self.named_at(source, path) | (self.named_at(source, path[:-1]) if len(path) > 2 else set())) - {part}
 
     def of_module(self, module, names):
@@ -350,7 +351,9 @@ class Statements:
             return set()
         names = [name for name, _ in names]
         if path[1:2] in (["declared"], ["contracts"]):
-            parts = {it for it in self.named([*path[2:], *names]) if it.path.startswith(f"crates/{crate}/")}
+            of_path, *of_names = ({it for it in self.named(words) if it.path.startswith(f"crates/{crate}/")} for words in (path[2:], *([it] for it in names)))
+            # (behind an item's path stand its parts, such as the values of an enum)
+            parts = of_path.union(*of_names) if of_path or all(of_names) else set()
         else:
             paths = [path, *([*path, it] for it in names)]
             files = (self.specs.get(f"crates/{crate}/{'/'.join(it[:count])}.antt") for it in paths for count in range(2, len(it) + 1))
@@ -436,8 +439,8 @@ class Statements:
         return self.sums[paths, reached]
 
 
-# What runs code where no body stands: the value of a constant, the length of an array, a macro.
-RUNS = re.compile(r"macro_rules|\bconst\s+\w+\s*:[^;{}]*=|\bstatic\b|;\s*\w+(?:::\w+)*\s*\(|\w!\s*[(\[{]")
+# What runs code where no body is left out: the value of a constant, the length of an array, a macro.
+RUNS = re.compile(r"macro_rules|\bconst\s+fn\b|\bconst\s+\w+\s*:[^;{}]*=|\bstatic\b|;\s*\w+(?:::\w+)*\s*\(|\w!\s*[(\[{]")
 
 
 def is_met(parts, reached):
