@@ -4,12 +4,12 @@ ghost use Rattle.std.specs.Prelude.{◌≡◌, ℕ, ◌+◌, ◌<◌, ◌^◌, L
 use crate::carrier::{Carrier, fill_and_drain, ping_pong, wait_and_wake};
 use crate::tasks::{Turn, hand_out};
 use esync_base::deque::Deque;
-use esync_base::store::Store;
+use esync_base::store::FixedStore;
 use esync_base::waitqueue::{Context, Poll, TaskId, Wakes};
 use esync_channel::channel::{ChannelState, Mailbox};
 
 /// A store whose sum follows what goes in and comes out.
-pub trait Summed: Store<Message = u32> {
+pub trait Summed: FixedStore<Message = u32> {
     ghost sum_put: { (old new : List ℕ) (message : ℕ) → Self.keeping.Puts old message new → sum new ≡ sum old + message };
 
     ghost sum_taken: { (old new : List ℕ) (message : ℕ) → Self.keeping.Takes old message new → sum old ≡ message + sum new };
@@ -29,7 +29,7 @@ impl<S: Summed> Carrier for Mailbox<S, TaskId> {
     ghost room = { S.keeping.capacity };
 
     fn capacity() -> usize {
-        S::capacity()
+        S::places()
     }
 
     fn len(&self) -> usize {

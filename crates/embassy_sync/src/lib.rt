@@ -4,7 +4,7 @@
 //! `executor` runs tasks over any such machine.
 #![tactic(auto)]
 
-pub use esync_base::{blocking_mutex, deque, ring_buffer, shared, store, waitqueue};
+pub use esync_base::{blocking_mutex, deque, limited, ring_buffer, shared, store, waitqueue};
 pub use esync_cells::{lazy_lock, once_lock, signal, watch};
 pub use esync_channel::channel;
 pub use esync_guards::mutex;

@@ -6,7 +6,7 @@ ghost use Rattle.esync_base.specs.Ring.{next, slot};
 ghost use Rattle.esync_base.specs.Places.{closed, HoldsBehind};
 
 use crate::kept::Kept;
-use crate::store::Store;
+use crate::store::{FixedStore, Store};
 use esync_rows::row::Row;
 use std::alloc::AllocError;
 use std::fmt;
@@ -293,15 +293,11 @@ impl<T: Drop, const N: usize> Store for Deque<T, N> {
 
     ghost held = { λ s. s.items };
 
-    fn new() -> Self {
-        Deque::new()
-    }
-
     fn len(&self) -> usize {
         Deque::len(self)
     }
 
-    fn capacity() -> usize {
+    fn capacity(&self) -> usize {
         N
     }
 
@@ -315,6 +311,16 @@ impl<T: Drop, const N: usize> Store for Deque<T, N> {
 
     fn clear(&mut self) {
         Deque::clear(self)
+    }
+}
+
+impl<T: Drop, const N: usize> FixedStore for Deque<T, N> {
+    fn new() -> Self {
+        Deque::new()
+    }
+
+    fn places() -> usize {
+        N
     }
 }
 

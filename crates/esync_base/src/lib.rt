@@ -4,6 +4,7 @@
 pub mod blocking_mutex;
 pub mod deque;
 pub mod kept;
+pub mod limited;
 pub mod place;
 pub mod ring_buffer;
 pub mod shared;

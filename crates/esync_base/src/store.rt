@@ -14,17 +14,13 @@ pub trait Store: Drop {
     /// The messages in the store.
     ghost held: { Self → List Self.Message };
 
-    /// Returns an empty store.
-    fn new() -> Self
-        ensures { held result ≡ [] };
-
     /// Returns how many messages are in the store.
     fn len(&self) -> usize
         ensures value { result ≡ length (held self.now) }
         ensures within { result ≤ keeping.capacity };
 
     /// Returns how many messages the store has room for.
-    fn capacity() -> usize
+    fn capacity(&self) -> usize
         ensures { result ≡ keeping.capacity };
 
     /// Puts a message in. If the store is full, returns the message as the error, and the messages stay as they are.
@@ -44,6 +40,17 @@ pub trait Store: Drop {
     /// Drops all messages.
     fn clear(&mut self)
         ensures { held self.new ≡ [] };
+}
+
+/// A store of messages whose capacity stands in its type.
+pub trait FixedStore: Store {
+    /// Returns an empty store.
+    fn new() -> Self
+        ensures { Self.held result ≡ [] };
+
+    /// Returns how many messages each store of this type has room for.
+    fn places() -> usize
+        ensures { result ≡ Self.keeping.capacity };
 }
 
 /// A store of bytes in a ring of places, of fixed capacity.

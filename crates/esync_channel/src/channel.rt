@@ -12,7 +12,7 @@ ghost use Rattle.esync_channel.specs.Polls.{ReceivesPoll, SendsPoll, is_ready};
 
 use esync_base::deque::Deque;
 use esync_base::kept::Kept;
-use esync_base::store::Store;
+use esync_base::store::{FixedStore, Store};
 use esync_base::waitqueue::{Context, Poll, Registered, WakerRegistration, Wakes};
 pub use handles::{DynamicReceiver, DynamicSender, Rcv, Receiver, Sender, Snd};
 pub use shared::{
@@ -105,15 +105,26 @@ impl<S, W: Copy + Eq> Registered for Mailbox<S, W> {
     }
 }
 
-impl<S: Store, W: Copy + Eq> Mailbox<S, W> {
+impl<S: FixedStore, W: Copy + Eq> Mailbox<S, W> {
     /// Returns an empty channel without a registered waker.
     pub fn new() -> Self
         ensures held { S.held result.store ≡ [] }
         ensures receivers { result.slots.receivers ≡ [] }
         ensures senders { result.slots.senders ≡ [] }
     {
+        Mailbox::over(S::new())
+    }
+}
+
+impl<S: Store, W: Copy + Eq> Mailbox<S, W> {
+    /// Returns a channel that holds the store's messages, without a registered waker.
+    pub fn over(store: S) -> Self
+        ensures store { result.store ≡ store }
+        ensures receivers { result.slots.receivers ≡ [] }
+        ensures senders { result.slots.senders ≡ [] }
+    {
         Mailbox {
-            queue: S::new(),
+            queue: store,
             receiver_waker: WakerRegistration::new(),
             senders_waker: WakerRegistration::new(),
         }
@@ -129,7 +140,7 @@ impl<S: Store, W: Copy + Eq> Mailbox<S, W> {
         ensures slots { self.new.slots ≡ slots_after_receive W.eq S.keeping.capacity (length (S.held self.old.store)) waker (is_ok result) self.old.slots }
         ensures wakes { wakes.new ≡ wakes.old ++ wakes_of_receive W.eq S.keeping.capacity (length (S.held self.old.store)) waker (is_ok result) self.old.slots }
     {
-        let was_full = self.queue.len() >= S::capacity();
+        let was_full = self.queue.len() >= self.queue.capacity();
         match self.queue.take() {
             Some(message) => {
                 if was_full {
@@ -292,7 +303,7 @@ impl<S: Store, W: Copy + Eq> Mailbox<S, W> {
         ensures wakes { wakes.new ≡ wakes.old ++ displaced W.eq 1 self.old.slots.senders cx.now }
     {
         self.senders_waker.register(cx.waker(), wakes);
-        if self.queue.len() < S::capacity() {
+        if self.queue.len() < self.queue.capacity() {
             Poll::Ready(())
         } else {
             Poll::Pending
@@ -336,21 +347,21 @@ impl<S: Store, W: Copy + Eq> Mailbox<S, W> {
     pub fn is_full(&self) -> bool
         ensures { IsTrue result ↔ (length (S.held self.now.store) ≡ S.keeping.capacity) }
     {
-        self.queue.len() == S::capacity()
+        self.queue.len() == self.queue.capacity()
     }
 
     /// Returns how many messages the channel has room for in all.
     pub fn capacity(&self) -> usize
         ensures { result ≡ S.keeping.capacity }
     {
-        S::capacity()
+        self.queue.capacity()
     }
 
     /// Returns how many more messages the channel has room for.
     pub fn free_capacity(&self) -> usize
         ensures { result + length (S.held self.now.store) ≡ S.keeping.capacity }
     {
-        S::capacity() - self.queue.len()
+        self.queue.capacity() - self.queue.len()
     }
 }
 

@@ -4,7 +4,7 @@ use Rattle.esync_words.specs.declared.fault.Fault.{Fault}
 use Rattle.esync_words.specs.Fault.{message_of as fault_message}
 use Rattle.esync_words.specs.Story.{replies_story}
 use Rattle.esync_words.specs.Played.{IsJudged}
-use Rattle.esync_script.specs.Opening.{PlaysScript}
+use Rattle.esync_script.specs.Opening.{runs, PlaysScript}
 use Rattle.esync_check.specs.Recorded.{Records, DiffersAt, line_text}
 use Rattle.esync_check.specs.declared.difference.Difference.{Difference}
 use Rattle.esync_check.specs.declared.fault.Unchecked.{Unchecked}
@@ -15,7 +15,7 @@ use Rattle.esync_check.specs.declared.Verdict.TheVariants.{Run, Another}
 -- A script is played with this outcome, and its replies have this text: a line each, of the answer and all its wakers.
 abbrev pub Replies : List ℕ → List ℕ → Result (Unit {0}) Fault → Type 0
 Replies script replies outcome =
-    PlaysScript replies_story (Some script) (Some []) (Some replies) outcome
+    PlaysScript runs replies_story (Some script) (Some []) (Some replies) outcome
 
 -- A text is the record of a run of so many commands, of the primitive that its line 1 names: its script is played to
 -- its end, and the replies are those that were recorded.

@@ -4,7 +4,7 @@
 
 ghost use Rattle.std.specs.Prelude.{◌≡◌, ◌==◌, [], Some, IfOk, OnOk, IfErr};
 ghost use Rattle.std.specs.Io.KnownBytes.{Appends};
-ghost use Rattle.esync_script.specs.Opening.{PlaysScript};
+ghost use Rattle.esync_script.specs.Opening.{runs, PlaysScript};
 ghost use Rattle.esync_words.specs.Lines.{first_line};
 ghost use Rattle.esync_words.specs.Story.{replies_story};
 ghost use Rattle.esync_check.specs.Checked.{Finds, Judges, run_text, verdict_text, difference_text, heading_text, recorded_text, given_text};
@@ -61,7 +61,7 @@ pub fn check_script<'a, R: Room>(
 
 // Plays a script, and writes the primitive's replies into a room. A write fails only where the room is full.
 fn play_into<R: Room>(script: &[u8], given: &mut R) -> Result<(), Fault>
-    ensures plays { PlaysScript replies_story (Some script.now) (Some []) (R.contents given.new) result }
+    ensures plays { PlaysScript runs replies_story (Some script.now) (Some []) (R.contents given.new) result }
     ensures err { IfErr result (λ fault. fault ≡ Fault.InputOutput → ⊥) }
 {
     given.clear();
@@ -74,7 +74,7 @@ fn play_into<R: Room>(script: &[u8], given: &mut R) -> Result<(), Fault>
 // Plays a script, and writes the primitive's replies where nothing is written yet.
 fn play_emptied<W: Write>(script: &[u8], given: &mut W) -> Result<(), Fault>
     requires { W.contents given.old ≡ Some [] }
-    ensures { PlaysScript replies_story (Some script.now) (Some []) (W.contents given.new) result }
+    ensures { PlaysScript runs replies_story (Some script.now) (Some []) (W.contents given.new) result }
 {
     play_bytes(&mut Replies {}, script, given)
 }

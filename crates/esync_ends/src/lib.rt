@@ -6,6 +6,7 @@ use crate::standing::Standing;
 use esync_base::waitqueue::Registered;
 use esync_machine::primitive::Command;
 use esync_machine::run::Machine;
+use esync_script::capacity::AnyCapacity;
 use esync_script::opening::play_with;
 use esync_script::player::Player;
 use esync_words::copied::Copied;
@@ -85,7 +86,7 @@ pub fn try_ends<D: Delivery, P: Progress, W: Write>(
         limit,
         tried: Tried::default(),
     };
-    let outcome = play_with(&mut trial, &mut lines, output);
+    let outcome = play_with::<AnyCapacity, _, _, _>(&mut trial, &mut lines, output);
     trial.progress.end();
     outcome?;
     Ok(trial.tried.untold == 0)

@@ -1,6 +1,6 @@
 //! The channel and the priority channel: called by their own calls and by their handles.
 use crate::form::{Door, Doors, Form, Sizes, over, sizes};
-use esync_base::store::Store;
+use esync_base::store::{FixedStore, Store};
 use esync_base::waitqueue::{Context, Hand, Poll};
 use esync_channel::channel::machine::{ChannelAsk, ChannelCall, ChannelHeard};
 use esync_channel::channel::{
@@ -34,7 +34,7 @@ pub enum Held<'c, S: Store, H: Hand<u64>> {
     ReceiveReady,
 }
 
-impl<'c, S: Store<Message = u32>, H: Hand<u64>> Form for Channel<'c, S, H> {
+impl<'c, S: FixedStore<Message = u32>, H: Hand<u64>> Form for Channel<'c, S, H> {
     type Ask = ChannelAsk<u32>;
 
     type Call = ChannelCall<u32>;
@@ -91,7 +91,7 @@ impl<'c, S: Store<Message = u32>, H: Hand<u64>> Form for Channel<'c, S, H> {
     }
 }
 
-impl<'c, S: Store<Message = u32>, H: Hand<u64>> Channel<'c, S, H> {
+impl<'c, S: FixedStore<Message = u32>, H: Hand<u64>> Channel<'c, S, H> {
     /// Returns this channel, called in these ways.
     pub fn new(channel: &'c SharedMailbox<S, u64, H>, doors: Doors) -> Self {
         Channel {

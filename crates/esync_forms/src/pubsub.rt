@@ -5,7 +5,7 @@ use esync_base::waitqueue::{Context, Hand, Poll, WakerList};
 use esync_machine::primitive::{Answer, Turn};
 use esync_pubsub::pubsub::machine::{PubSubAsk, PubSubCall, PubSubHeard};
 use esync_pubsub::pubsub::{
-    DynImmediatePublisher, Error, Exhausted, ImmediatePub, LogStore, Pub, PubSubBehavior,
+    DynImmediatePublisher, Error, Exhausted, FixedLog, ImmediatePub, Pub, PubSubBehavior,
     PublishRequest, SharedPubSub, Sub,
 };
 use std::alloc::{AllocError, Global};
@@ -20,7 +20,7 @@ pub trait Topic: PubSubBehavior<Message = u32, Waker = u64> {
 }
 
 impl<
-    G: LogStore<Message = u32>,
+    G: FixedLog<Message = u32>,
     S: WakerList<Waker = u64>,
     P: WakerList<Waker = u64>,
     H: Hand<u64>,
@@ -402,7 +402,7 @@ fn sinks<B: Topic>(
 
 impl<
     'c,
-    G: LogStore<Message = u32>,
+    G: FixedLog<Message = u32>,
     S: WakerList<Waker = u64>,
     P: WakerList<Waker = u64>,
     H: Hand<u64>,

@@ -1,12 +1,15 @@
 -- What holds of every log, as messages and subscribers come and go.
 use Rattle.std.proofs.Common.{◌≡◌, ℕ, zero, suc, ◌+◌, ◌-◌, ◌<◌, ◌≤◌, true, false, List, [], ◌∷◌, ◌++◌, inl, inr, length, drop, replicate, refl, sym, ◌∙◌, ap, subst, arith, cond, not}
 use Rattle.std.specs.Prelude.{Option, Some, None, is_some, nat_lt, slice_get, slice_set, slice_index, slice_index_or, if◌then◌else◌, ◌==◌, Result, Ok, Err, IfOk, OnOk, OnErr}
+use Rattle.std.specs.declared.alloc.AllocError.{AllocError}
 use Rattle.std.specs.List.{count_by, list_all, list_any}
 use Rattle.std.proofs.lemmas.Bool.Decides.{nat_tests}
 use Rattle.std.proofs.lemmas.List.Sums.{sum_by-set, sum_by-cons}
 use Rattle.std.proofs.lemmas.List.{length_push, length-drop, length-set, length-replicate, get_or-set_same, get_or-set_other}
 use Rattle.esync_base.specs.ListedLaws.{true_or_false, same_or_not}
-use Rattle.esync_log.specs.Log.{Log, is_read, trimmed, number_of, oldest, settled, moved, left, is_last, Takes, IsRefused, ClonesAt, MayFailAt}
+use Rattle.esync_log.specs.Log.{Log, is_read, trimmed, number_of, oldest, settled, moved, left, is_last, position, Takes, IsRefused, ClonesAt, MayFailAt, Reads, ReadsOn, lags, found}
+use Rattle.esync_log.specs.declared.log.WaitResult.{WaitResult}
+use Rattle.esync_log.specs.declared.log.WaitResult.TheVariants.{Lagged, Message}
 use Rattle.esync_log.specs.LogLaws.{place_below, free_below, free_there, some_number}
 use Rattle.esync_log.specs.Counts.{readers_of, unread, AreCounted, IsLog}
 use Rattle.esync_log.proofs.Counted.{reads, reads-below, reads-above, readers_set, readers_all, readers_has, readers_more, read_where_none, unread_where_some, trimmed_none, unread-le, unread_wanted, counted_push, trimmed_unread, counted_drop, counted_same}
@@ -366,3 +369,33 @@ module _ {T : Type 0} (cap subs : ℕ) where
 
         pub shared_more : is_read p (slice_set ps i None) ≡ false → 1 < slice_index cs (p - (next - length ms))
         shared_more t = (let e : (slice_index cs (p - (next - length ms)) == 1) ≡ false = last_test ∙ t in let z : 0 < slice_index cs (p - (next - length ms)) = read_some in grind (arith, nat_tests))
+
+-- what is trimmed is no longer than before
+pub length_trimmed : {T : Type 0} (n : ℕ) (ps : List (Option ℕ)) (ms : List T) → length (trimmed n ps ms) ≤ length ms
+length_trimmed n ps [] = omega arith
+length_trimmed n ps (m ∷ ms) = elim (true_or_false (is_read n ps)) [
+  | inl t ↦ rw t (omega (arith, length_trimmed (suc n) ps ms))
+  | inr t ↦ rw t (omega arith)
+]
+
+-- a read leaves no more messages than there were
+pub length_read : {T : Type 0} (IsClone : T → T → Type 0) (place : ℕ) (l l2 : Log T) (answer : Option (WaitResult T)) → Reads IsClone place l answer l2 → length l2.held ≤ length l.held
+length_read IsClone place l l2 None r = rw r.1 (omega arith)
+length_read IsClone place l l2 (Some (Lagged k)) r = rw r.2 (omega arith)
+length_read IsClone place l l2 (Some (Message given)) r = rw r.after (length_trimmed (oldest l) (moved place (position place l + 1) l).positions l.held)
+
+pub length_read_on : {T : Type 0} (IsClone : T → T → Type 0) (place : ℕ) (l l2 : Log T) (answer : Option T) → ReadsOn IsClone place l answer l2 → length l2.held ≤ length l.held
+length_read_on IsClone place l l2 answer r = elim (true_or_false (lags place l)) [
+  | inl t ↦ length_read IsClone place (moved place (oldest l) l) l2 (found answer) (rw t at r)
+  | inr t ↦ length_read IsClone place l l2 (found answer) (rw t at r)
+]
+
+-- nor does a read that may be refused
+module _ {T : Type 0} (IsClone : T → T → Type 0) (place : ℕ) (l l2 : Log T) where
+  pub length_tried : (r : Result (Option (WaitResult T)) AllocError) → IfOk r (λ answer. Reads IsClone place l answer l2) → OnErr r (l2 ≡ l) → length l2.held ≤ length l.held
+  length_tried (Ok answer) ok err = length_read IsClone place l l2 answer ok
+  length_tried (Err e) ok err = rw err (omega arith)
+
+  pub length_tried_on : (r : Result (Option T) AllocError) → IfOk r (λ answer. ReadsOn IsClone place l answer l2) → OnErr r (l2 ≡ l) → length l2.held ≤ length l.held
+  length_tried_on (Ok answer) ok err = length_read_on IsClone place l l2 answer ok
+  length_tried_on (Err e) ok err = rw err (omega arith)

@@ -1,6 +1,6 @@
 -- Places in a row of positions, a subscriber at another position, and a log in which it caught up.
 use Rattle.std.proofs.Common.{◌≡◌, ℕ, zero, suc, ◌-◌, ◌<◌, ◌≤◌, Bool, true, false, List, [], ◌∷◌, length, refl, sym, ◌∙◌, ap, arith}
-use Rattle.std.specs.Prelude.{Option, Some, None, is_some, nat_lt, slice_get, slice_set, slice_index_or}
+use Rattle.std.specs.Prelude.{Option, Some, None, is_some, slice_get, slice_set, slice_index_or}
 use Rattle.std.proofs.lemmas.Bool.Decides.{nat_tests}
 use Rattle.std.proofs.lemmas.List.{set-set, set-get_or, get_or-set_same}
 use Rattle.esync_log.specs.Log.{Log, number_of, is_read, oldest, position, is_live, is_last, moved, lags, gap, caught_if, caught, Reads, IsRefused}

@@ -6,14 +6,16 @@ ghost use Rattle.esync_log.specs.Counts.{readers_of};
 ghost use Rattle.esync_log.specs.Log.{IsLeastFree, oldest, has_subscribers, last_number, published, with_room, is_last, settled, moved, is_live, position, left, cleared, Joins, Publishes, PublishesAtOnce, ClonesAt, MayFailAt, Takes, IsRefused, Reads, ReadsOn, caught, found};
 
 use held::Held;
+pub use limited::LimitedLog;
 use std::alloc::AllocError;
 use std::fmt::{self, Debug};
 use std::marker::Model;
-pub use store::LogStore;
+pub use store::{FixedLog, LogStore};
 use thiserror::Error;
 
 mod held;
 mod kept;
+mod limited;
 mod store;
 
 /// Why a message was not published. The message is in the error.
@@ -297,6 +299,16 @@ impl<T: Drop, const CAP: usize, const SUBS: usize> Log<T, CAP, SUBS> {
         self.held.free();
     }
 
+    // Returns the capacity, which isn't 0, and which the messages don't exceed.
+    fn most(&self) -> usize
+        ensures value { result ≡ CAP }
+        ensures some { 1 ≤ CAP }
+        ensures held { length self.now.held ≤ CAP }
+    {
+        let _ = self.held.len();
+        CAP
+    }
+
     // Appends a message for all subscribers.
     fn hold(&mut self, message: T)
         requires room { length self.old.held < CAP }
@@ -313,10 +325,19 @@ impl<T: Drop, const CAP: usize, const SUBS: usize> Log<T, CAP, SUBS> {
     pub fn publish(&mut self, message: T) -> Result<(), TryPublishError<T>>
         ensures { Publishes CAP message self.old result self.new }
     {
+        self.publish_within(self.most(), message)
+    }
+
+    // Publishes a message in a log that holds no more messages than `most`.
+    fn publish_within(&mut self, most: usize, message: T) -> Result<(), TryPublishError<T>>
+        requires held { length self.old.held ≤ most }
+        requires room { most ≤ CAP }
+        ensures { Publishes most message self.old result self.new }
+    {
         if !self.has_subscribers() {
             return Ok(());
         }
-        if self.is_full() {
+        if self.len() == most {
             return Err(TryPublishError::Full(message));
         }
         if self.next == u64::MAX {
@@ -326,12 +347,14 @@ impl<T: Drop, const CAP: usize, const SUBS: usize> Log<T, CAP, SUBS> {
         Ok(())
     }
 
-    // Drops the oldest message if there is no room for another one.
-    fn make_room(&mut self)
-        ensures state { self.new ≡ with_room CAP self.old }
-        ensures room { length self.new.held < CAP }
+    // Drops the oldest message if as many as `most` are held.
+    fn make_room(&mut self, most: usize)
+        requires some { 1 ≤ most }
+        requires held { length self.old.held ≤ most }
+        ensures state { self.new ≡ with_room most self.old }
+        ensures room { length self.new.held < most }
     {
-        if self.is_full() {
+        if self.len() == most {
             self.held.pop();
         }
     }
@@ -341,13 +364,23 @@ impl<T: Drop, const CAP: usize, const SUBS: usize> Log<T, CAP, SUBS> {
     pub fn publish_immediate(&mut self, message: T) -> Result<(), Exhausted<T>>
         ensures { PublishesAtOnce CAP message self.old result self.new }
     {
+        self.publish_immediate_within(self.most(), message)
+    }
+
+    // Publishes a message at once in a log that holds no more messages than `most`.
+    fn publish_immediate_within(&mut self, most: usize, message: T) -> Result<(), Exhausted<T>>
+        requires some { 1 ≤ most }
+        requires held { length self.old.held ≤ most }
+        requires room { most ≤ CAP }
+        ensures { PublishesAtOnce most message self.old result self.new }
+    {
         if !self.has_subscribers() {
             return Ok(());
         }
         if self.next == u64::MAX {
             return Err(Exhausted(message));
         }
-        self.make_room();
+        self.make_room(most);
         self.hold(message);
         Ok(())
     }

@@ -23,7 +23,7 @@ ghost use Rattle.std.specs.Prelude.{◌≡◌, [], Some, IfOk, IfErr, take};
 ghost use Rattle.esync_check.specs.Checked.{IsRun, IsAnother};
 ghost use Rattle.esync_page.specs.Ended.{line_of};
 ghost use Rattle.esync_page.specs.Found.{IsFound, written};
-ghost use Rattle.esync_script.specs.Opening.{PlaysScript, status_of_outcome};
+ghost use Rattle.esync_script.specs.Opening.{runs, PlaysScript, status_of_outcome};
 ghost use Rattle.esync_words.specs.Explained.{explained_story};
 ghost use Rattle.esync_words.specs.Story.{replies_story};
 
@@ -86,7 +86,7 @@ pub extern "C" fn check(
 ///
 /// Returns which line is no command, or that the row has no room.
 pub fn play_into(text: &[u8], answers: &mut Row) -> Result<(), Fault>
-    ensures plays { PlaysScript replies_story (Some text.now) (Some []) (Some (take answers.new.len answers.new.bytes)) result }
+    ensures plays { PlaysScript runs replies_story (Some text.now) (Some []) (Some (take answers.new.len answers.new.bytes)) result }
     ensures err { IfErr result (λ fault. fault ≡ Fault.InputOutput → ⊥) }
 {
     answers.clear();
@@ -103,7 +103,7 @@ pub fn play_into(text: &[u8], answers: &mut Row) -> Result<(), Fault>
 ///
 /// Returns which line is no command, or that a row has no room.
 pub fn explain_into<'n>(text: &[u8], answers: &mut Row, notes: &'n mut Row) -> Result<(), Fault>
-    ensures plays { PlaysScript explained_story (Some text.now) (Some []) (Some (take answers.new.len answers.new.bytes)) result }
+    ensures plays { PlaysScript runs explained_story (Some text.now) (Some []) (Some (take answers.new.len answers.new.bytes)) result }
     ensures err { IfErr result (λ fault. fault ≡ Fault.InputOutput → ⊥) }
 {
     answers.clear();
@@ -137,7 +137,7 @@ pub fn check_into(
 // Plays a script, and writes what is told of it into an empty row.
 fn play_row<T: Telling>(telling: &mut T, text: &[u8], row: &mut Row) -> Result<(), Fault>
     requires { take row.old.len row.old.bytes ≡ [] }
-    ensures { PlaysScript T.story (Some text.now) (Some []) (Some (take row.new.len row.new.bytes)) result }
+    ensures { PlaysScript runs T.story (Some text.now) (Some []) (Some (take row.new.len row.new.bytes)) result }
 {
     play_bytes(telling, text, row)
 }

@@ -23,6 +23,16 @@ module _ {W : Type 0} where
   numbers-left_by t [] = refl
   numbers-left_by t (e ∷ es) = elim (true_or_false (e.number == t)) [ inl i ↦ rw i refl | inr i ↦ rw i (ap (λ xs. e.number ∷ xs) (numbers-left_by t es)) ]
 
+  -- another waker leaves as many entries
+  pub length-with_waker : (t : ℕ) (w : W) (es : List (Entry W)) → length (with_waker t w es) ≡ length es
+  length-with_waker t w [] = refl
+  length-with_waker t w (e ∷ es) = elim (true_or_false (e.number == t)) [ inl i ↦ rw i refl | inr i ↦ rw i (ap suc (length-with_waker t w es)) ]
+
+  -- no more entries stand in a queue that one has left
+  pub length-left_by : (t : ℕ) (es : List (Entry W)) → length (left_by t es) ≤ length es
+  length-left_by t [] = omega (arith)
+  length-left_by t (e ∷ es) = elim (true_or_false (e.number == t)) [ inl i ↦ rw i (omega (arith)) | inr i ↦ rw i (omega (arith, length-left_by t es)) ]
+
   pub left_by-front : (t : ℕ) (es : List (Entry W)) → is_front t (numbers es) ≡ true → left_by t es ≡ drop 1 es
   left_by-front t [] h = refl
   left_by-front t (e ∷ es) h = rw h refl

@@ -1,13 +1,14 @@
 //! The queue of a fair semaphore: the requests that wait, in order.
-ghost use Rattle.std.specs.Prelude.{◌≡◌, ◌<◌, [], Some, None, false, length, drop, map, slice_get, IfSome, IfNone};
+ghost use Rattle.std.specs.Prelude.{◌≡◌, ◌<◌, ◌≤◌, [], Some, None, false, length, drop, map, slice_get, IfSome, IfNone};
 ghost use Rattle.esync_base.specs.Listed.{is_in};
 ghost use Rattle.esync_permits.specs.Queue.{is_front, is_next, numbers, entered, with_waker, left_by, IsLeastFree, StandsAt};
 
 use esync_base::deque::Deque;
 use esync_base::kept::Kept;
+use esync_base::limited::Limit;
 use std::alloc::AllocError;
 use std::fmt;
-use std::marker::Model;
+use std::marker::{Model, PhantomData};
 
 /// An entry of the queue: its number, and the waker of the request that waits there.
 #[derive_where(Clone, Copy; W: Copy)]
@@ -55,9 +56,10 @@ pub trait WaitQueue: Drop {
     /// The entries, oldest first.
     ghost entries: { Self → List (Entry Self.Waker) };
 
-    /// Returns a queue without entries.
-    fn new() -> Self
-        ensures { entries result ≡ [] };
+    /// Returns how many entries are in the queue.
+    fn len(&self) -> usize
+        ensures value { result ≡ length (entries self.now) }
+        ensures within { result ≤ places };
 
     /// Returns whether the queue is empty.
     fn is_empty(&self) -> bool
@@ -97,6 +99,13 @@ pub trait WaitQueue: Drop {
         ensures { entries self.new ≡ left_by number (entries self.old) };
 }
 
+/// A queue whose number of places stands in its type.
+pub trait FixedQueue: WaitQueue {
+    /// Returns a queue without entries.
+    fn new() -> Self
+        ensures { Self.entries result ≡ [] };
+}
+
 /// At most `N` entries, oldest first.
 #[derive_where(Debug; W: fmt::Debug + Drop)]
 #[derive(Drop)]
@@ -132,10 +141,8 @@ impl<W: Copy + Eq, const N: usize> WaitQueue for Queue<W, N> {
 
     ghost entries = { λ queue. queue };
 
-    fn new() -> Self {
-        Queue {
-            entries: Deque::new(),
-        }
+    fn len(&self) -> usize {
+        self.entries.len()
     }
 
     fn is_empty(&self) -> bool {
@@ -186,5 +193,106 @@ impl<W: Copy + Eq, const N: usize> WaitQueue for Queue<W, N> {
         if let Some(i) = place_of(&self.entries, number) {
             self.entries.remove(i);
         }
+    }
+}
+
+impl<W: Copy + Eq, const N: usize> FixedQueue for Queue<W, N> {
+    fn new() -> Self {
+        Queue {
+            entries: Deque::new(),
+        }
+    }
+}
+
+/// A queue that takes no more entries than were chosen, whatever more there is room for.
+#[derive(Drop)]
+pub struct LimitedQueue<Q: WaitQueue, B: Limit> {
+    places: usize,
+    queue: Q,
+    limit: PhantomData<B>,
+}
+
+impl<Q: WaitQueue, B: Limit> Model for LimitedQueue<Q, B> {
+    ghost use Rattle.std.specs.Prelude.{◌≡◌, ◌≤◌, length};
+
+    ghost Value = { Q };
+
+    ghost coded = { Q.code };
+
+    ghost view = { λ a. a.queue };
+
+    ghost invariant = { λ a. (a.places ≡ B.limit) × (length (Q.entries a.queue) ≤ B.limit) × (B.limit ≤ Q.places) };
+}
+
+impl<Q: FixedQueue, B: Limit> LimitedQueue<Q, B> {
+    /// Returns a queue without entries that has so many places.
+    pub fn new(places: usize) -> Self
+        requires chosen { places ≡ B.limit }
+        requires room { places ≤ Q.places }
+        ensures { Q.entries result ≡ [] }
+    {
+        LimitedQueue {
+            places,
+            queue: Q::new(),
+            limit: PhantomData,
+        }
+    }
+}
+
+impl<Q: WaitQueue + Kept, B: Limit> Kept for LimitedQueue<Q, B> {
+    fn kept(&self) -> Result<Self, AllocError> {
+        Ok(LimitedQueue {
+            places: self.places,
+            queue: self.queue.kept()?,
+            limit: PhantomData,
+        })
+    }
+}
+
+impl<Q: WaitQueue, B: Limit> WaitQueue for LimitedQueue<Q, B> {
+    type Waker = Q::Waker;
+
+    ghost places = { B.limit };
+
+    ghost entries = { λ queue. Q.entries queue };
+
+    fn len(&self) -> usize {
+        self.queue.len()
+    }
+
+    fn is_empty(&self) -> bool {
+        self.queue.is_empty()
+    }
+
+    fn is_waiting(&self, number: usize) -> bool {
+        self.queue.is_waiting(number)
+    }
+
+    fn is_front(&self, number: usize) -> bool {
+        self.queue.is_front(number)
+    }
+
+    fn waker(&self, i: usize) -> Option<Q::Waker> {
+        self.queue.waker(i)
+    }
+
+    fn enter(&mut self, waker: Q::Waker) -> Option<usize> {
+        if self.queue.len() < self.places {
+            self.queue.enter(waker)
+        } else {
+            None
+        }
+    }
+
+    fn set_waker(&mut self, number: usize, waker: Q::Waker) {
+        self.queue.set_waker(number, waker)
+    }
+
+    fn pop_front(&mut self) {
+        self.queue.pop_front()
+    }
+
+    fn remove(&mut self, number: usize) {
+        self.queue.remove(number)
     }
 }

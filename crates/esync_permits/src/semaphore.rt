@@ -11,7 +11,7 @@ ghost use Rattle.esync_base.specs.Listed.{is_in};
 ghost use Rattle.esync_permits.specs.Queue.{is_front, is_next, numbers, front_wakers, left_by};
 ghost use Rattle.esync_permits.specs.Fair.{heard, ticket_after, request_heard, granted_by, OnRefusal, NamesWaiting, HasNoPlace, Queues, wakes_of_grant, entries_after_request, wakes_of_request};
 
-use crate::queue::{Queue, WaitQueue};
+use crate::queue::{FixedQueue, Queue, WaitQueue};
 use esync_base::kept::Kept;
 use esync_base::waitqueue::{Context, Poll, Registered, WakerRegistration, Wakes};
 pub use shared::{
@@ -395,7 +395,7 @@ impl<Q: WaitQueue + Kept> Kept for FairOver<Q> {
     }
 }
 
-impl<Q: WaitQueue> Default for FairOver<Q> {
+impl<Q: FixedQueue> Default for FairOver<Q> {
     fn default() -> Self
         ensures permits { result.permits ≡ 0 }
         ensures entries { result.entries ≡ [] }
@@ -421,16 +421,23 @@ impl<Q: WaitQueue> Registered for FairOver<Q> {
     }
 }
 
-impl<Q: WaitQueue> FairOver<Q> {
+impl<Q: FixedQueue> FairOver<Q> {
     /// Returns a semaphore with the number of permits, for which no request waits.
     pub fn new(permits: usize) -> Self
         ensures permits { result.permits ≡ permits }
         ensures entries { result.entries ≡ [] }
     {
-        FairOver {
-            permits,
-            queue: Q::new(),
-        }
+        FairOver::over(permits, Q::new())
+    }
+}
+
+impl<Q: WaitQueue> FairOver<Q> {
+    /// Returns a semaphore with the number of permits, for which the requests in the queue wait.
+    pub fn over(permits: usize, queue: Q) -> Self
+        ensures permits { result.permits ≡ permits }
+        ensures entries { result.entries ≡ Q.entries queue }
+    {
+        FairOver { permits, queue }
     }
 
     /// Returns how many permits are there to be taken.

@@ -9,7 +9,7 @@ mod counting;
 
 pub use counting::Comparisons;
 use esync_base::kept::Kept;
-use esync_base::store::Store;
+use esync_base::store::{FixedStore, Store};
 use esync_rows::place::Place;
 use esync_rows::row::Row;
 use std::alloc::AllocError;
@@ -492,15 +492,11 @@ impl<T: Drop, K: Kind<T>, const N: usize> Store for PrioQueue<T, K, N> {
 
     ghost held = { λ s. s };
 
-    fn new() -> Self {
-        PrioQueue::new()
-    }
-
     fn len(&self) -> usize {
         PrioQueue::len(self)
     }
 
-    fn capacity() -> usize {
+    fn capacity(&self) -> usize {
         N
     }
 
@@ -514,5 +510,15 @@ impl<T: Drop, K: Kind<T>, const N: usize> Store for PrioQueue<T, K, N> {
 
     fn clear(&mut self) {
         PrioQueue::clear(self)
+    }
+}
+
+impl<T: Drop, K: Kind<T>, const N: usize> FixedStore for PrioQueue<T, K, N> {
+    fn new() -> Self {
+        PrioQueue::new()
+    }
+
+    fn places() -> usize {
+        N
     }
 }

@@ -7,7 +7,7 @@ ghost use Rattle.esync_pubsub.specs.PubSub.{fresh, Subscribes, Adds, frees, list
 pub mod machine;
 
 use esync_base::waitqueue::{Context, Poll, Registered, WakerList, WakerRegistrations, Wakes};
-pub use esync_log::log::{Exhausted, Log, LogStore, TryPublishError, WaitResult};
+pub use esync_log::log::{Exhausted, FixedLog, Log, LogStore, TryPublishError, WaitResult};
 pub use handles::{
     DynImmediatePublisher, DynPublisher, DynSubscriber, ImmediatePub, ImmediatePublisher,
     NextMessagePure, Pub, PubSink, Publisher, PublisherWaitFuture, Sub, Subscriber,
@@ -106,7 +106,7 @@ impl<G: LogStore, S: WakerList, P: WakerList<Waker = S::Waker>> Registered for P
     }
 }
 
-impl<G: LogStore, S: WakerList, P: WakerList<Waker = S::Waker>> PubSubOver<G, S, P> {
+impl<G: FixedLog, S: WakerList, P: WakerList<Waker = S::Waker>> PubSubOver<G, S, P> {
     /// Returns an empty channel without subscribers, publishers or wakers. The first message gets the number 0.
     pub fn new() -> Self
         requires messages { 1 ≤ G.capacity }
@@ -122,12 +122,22 @@ impl<G: LogStore, S: WakerList, P: WakerList<Waker = S::Waker>> PubSubOver<G, S,
         requires wakers { G.places ≤ S.room }
         ensures { result ≡ fresh G.places next }
     {
+        PubSubOver::over(G::new_at(next))
+    }
+}
+
+impl<G: LogStore, S: WakerList, P: WakerList<Waker = S::Waker>> PubSubOver<G, S, P> {
+    /// Returns a channel with the messages and subscribers of the log, without publishers or wakers.
+    pub fn over(log: G) -> Self
+        requires { G.places ≤ S.room }
+        ensures { result ≡ record { log = G.log log; publishers = 0; lists = record { subscribers = []; publishers = [] } } }
+    {
         PubSubOver {
             publishers: 0,
             subscriber_wakers: WakerRegistrations::new(),
             publisher_wakers: WakerRegistrations::new(),
             message: PhantomData,
-            log: G::new_at(next),
+            log,
         }
     }
 
@@ -395,14 +405,14 @@ impl<G: LogStore, S: WakerList, P: WakerList<Waker = S::Waker>> PubSubOver<G, S,
     pub fn capacity(&self) -> usize
         ensures { result ≡ G.capacity }
     {
-        G::capacity()
+        self.log.capacity()
     }
 
     /// Returns the number of messages that the channel has room for.
     pub fn free_capacity(&self) -> usize
         ensures { result + length self.now.log.held ≡ G.capacity }
     {
-        G::capacity() - self.len()
+        self.log.capacity() - self.len()
     }
 
     /// Reads the next message, or returns how many messages left before the subscriber read them. Returns `None` once

@@ -10,4 +10,5 @@ pub mod Mutex
 pub mod Watch
 pub mod Zerocopy
 pub mod Player
+pub mod Capacity
 pub mod Opening

@@ -1,10 +1,12 @@
 //! The words of a channel and of a priority channel.
+use crate::capacity::MOST;
 use crate::scripted::Scripted;
-use esync_channel::channel::machine::{ChannelAsk, ChannelCall, ChannelHeard, ChannelRun};
+use esync_base::deque::Deque;
+use esync_base::limited::{Limit, Limited};
+use esync_channel::channel::machine::{ChannelAsk, ChannelCall, ChannelHeard};
 use esync_channel::channel::{Mailbox, TryReceiveError, TrySendError};
 use esync_machine::requests::Requests;
-use esync_priority::prio::Kind;
-use esync_priority::priority_channel::machine::PriorityRun;
+use esync_priority::prio::{Kind, PrioQueue};
 use esync_words::vocabulary::{Place, REQS, Vocabulary};
 use esync_words::words::Words;
 use std::io::{self, Write};
@@ -75,42 +77,44 @@ impl Vocabulary for ChannelWords {
     }
 }
 
-/// A channel of at most `N` messages.
-pub type Listed<const N: usize> = ChannelRun<u32, u64, N, REQS, 1>;
+/// A channel of at most `B.limit` messages.
+pub type Listed<B> = Requests<Mailbox<Limited<Deque<u32, MOST>, B>, u64>, REQS, 1>;
 
-impl<const N: usize> Scripted<ChannelWords> for Listed<N> {
-    type First = ();
+impl<B: Limit> Scripted<ChannelWords> for Listed<B> {
+    /// The capacity.
+    type First = usize;
 
-    ghost use Rattle.std.specs.Prelude.{ℕ, ◌≤◌};
+    ghost use Rattle.std.specs.Prelude.{ℕ, ◌≡◌, ◌≤◌};
     ghost use Rattle.esync_base.specs.Keeping.{BoundedList};
     ghost use Rattle.esync_script.specs.Channel.{channel_setting};
     ghost use Rattle.esync_script.specs.Setting.{BeginsAs};
 
-    ghost CanBegin = { λ first. N ≤ 8 };
+    ghost CanBegin = { λ capacity. (capacity ≡ B.limit) × (capacity ≤ 4096) };
 
-    ghost IsNew = { λ first m. BeginsAs (channel_setting (BoundedList ℕ N)) (Self.semantics.object m) (Self.semantics.registrations m) };
+    ghost IsNew = { λ capacity m. BeginsAs (channel_setting (BoundedList ℕ B.limit)) (Self.semantics.object m) (Self.semantics.registrations m) };
 
-    fn begin(_first: ()) -> Self {
-        Requests::new(Mailbox::new())
+    fn begin(capacity: usize) -> Self {
+        Requests::new(Mailbox::over(Limited::new(capacity)))
     }
 }
 
-/// A priority channel of at most `N` messages.
-pub type Prioritized<Q, const N: usize> = PriorityRun<u32, u64, Q, N, REQS, 1>;
+/// A priority channel of at most `B.limit` messages.
+pub type Prioritized<Q, B> = Requests<Mailbox<Limited<PrioQueue<u32, Q, MOST>, B>, u64>, REQS, 1>;
 
-impl<Q: Kind<u32>, const N: usize> Scripted<ChannelWords> for Prioritized<Q, N> {
-    type First = ();
+impl<Q: Kind<u32>, B: Limit> Scripted<ChannelWords> for Prioritized<Q, B> {
+    /// The capacity.
+    type First = usize;
 
-    ghost use Rattle.std.specs.Prelude.{ℕ, ◌≤◌};
+    ghost use Rattle.std.specs.Prelude.{ℕ, ◌≡◌, ◌≤◌};
     ghost use Rattle.esync_priority.specs.Prio.{Bag};
     ghost use Rattle.esync_script.specs.Channel.{channel_setting};
     ghost use Rattle.esync_script.specs.Setting.{BeginsAs};
 
-    ghost CanBegin = { λ first. N ≤ 8 };
+    ghost CanBegin = { λ capacity. (capacity ≡ B.limit) × (capacity ≤ 4096) };
 
-    ghost IsNew = { λ first m. BeginsAs (channel_setting (Bag ℕ Q.above N)) (Self.semantics.object m) (Self.semantics.registrations m) };
+    ghost IsNew = { λ capacity m. BeginsAs (channel_setting (Bag ℕ Q.above B.limit)) (Self.semantics.object m) (Self.semantics.registrations m) };
 
-    fn begin(_first: ()) -> Self {
-        Requests::new(Mailbox::new())
+    fn begin(capacity: usize) -> Self {
+        Requests::new(Mailbox::over(Limited::new(capacity)))
     }
 }

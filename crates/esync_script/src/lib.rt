@@ -2,11 +2,12 @@
 #![tactic(auto)]
 
 ghost use Rattle.std.specs.Prelude.{◌≡◌, ◌⊎◌, Some, Err, IsOk, OnOk, IfErr};
-ghost use Rattle.esync_script.specs.Opening.{PlaysScript, EndsScript, EndsWith, status_of_outcome};
+ghost use Rattle.esync_script.specs.Opening.{language, scripts, runs, PlaysScript, EndsScript, EndsWith, status_of_outcome};
 ghost use Rattle.esync_words.specs.Diagram.{diagram_story};
 ghost use Rattle.esync_words.specs.Explained.{explained_story};
 ghost use Rattle.esync_words.specs.Story.{replies_story};
 
+use crate::capacity::{AnyCapacity, Capacity, Size};
 use esync_words::diagram::Diagram;
 use esync_words::explain::Explained;
 use esync_words::fault::Fault;
@@ -15,6 +16,7 @@ use esync_words::play::{Replies, Telling};
 use std::alloc::Global;
 use std::io::{self, BufWriter, Read, Write};
 
+pub mod capacity;
 pub mod channel;
 pub mod lazy;
 pub mod mutex;
@@ -50,9 +52,9 @@ pub fn script<R: Read + Drop, W: Write + Drop, E: Write + Drop>(
     output: W,
     errors: E,
 ) -> u8
-    ensures { EndsWith replies_story (R.remaining input) result }
+    ensures { EndsWith scripts replies_story (R.remaining input) result }
 {
-    run(alloc, &mut Replies {}, input, output, errors)
+    run::<Capacity, Replies, R, W, E>(alloc, &mut Replies {}, input, output, errors)
 }
 
 /// Reads a script, writes it as a sequence diagram in the language of Mermaid, and returns the status, as `script`
@@ -67,9 +69,9 @@ pub fn trace<R: Read + Drop, W: Write + Drop, E: Write + Drop>(
     output: W,
     errors: E,
 ) -> u8
-    ensures { EndsWith diagram_story (R.remaining input) result }
+    ensures { EndsWith runs diagram_story (R.remaining input) result }
 {
-    run(alloc, &mut Diagram {}, input, output, errors)
+    run::<AnyCapacity, Diagram, R, W, E>(alloc, &mut Diagram {}, input, output, errors)
 }
 
 /// Reads a script, writes the answer of each command, behind its line and its number, and returns the status, as
@@ -86,7 +88,7 @@ pub fn explain<R: Read + Drop, W: Write + Drop, N: Write + Drop, E: Write + Drop
     notes: N,
     errors: E,
 ) -> u8
-    ensures { EndsWith explained_story (R.remaining input) result }
+    ensures { EndsWith runs explained_story (R.remaining input) result }
 {
     let mut explained = Explained::new(notes);
     let outcome = play_script(alloc, &mut explained, input, &mut output);
@@ -107,10 +109,21 @@ pub fn play_script<T: Telling, R: Read + Drop, W: Write>(
     input: R,
     output: &mut W,
 ) -> Result<(), Fault>
-    ensures { PlaysScript T.story (R.remaining input) (W.contents output.old) (W.contents output.new) result }
+    ensures { PlaysScript runs T.story (R.remaining input) (W.contents output.old) (W.contents output.new) result }
+{
+    play_read::<AnyCapacity, T, R, W>(alloc, telling, input, output)
+}
+
+fn play_read<C: Size, T: Telling, R: Read + Drop, W: Write>(
+    alloc: Global,
+    telling: &mut T,
+    input: R,
+    output: &mut W,
+) -> Result<(), Fault>
+    ensures { PlaysScript (language C C.sized C.size) T.story (R.remaining input) (W.contents output.old) (W.contents output.new) result }
 {
     match Lines::buffered(alloc, input) {
-        Ok(mut lines) => opening::play_lines(telling, &mut lines, output),
+        Ok(mut lines) => opening::play_lines::<C, T, _, W>(telling, &mut lines, output),
         Err(fault) => Err(fault),
     }
 }
@@ -126,10 +139,10 @@ pub fn play_bytes<T: Telling, W: Write>(
     text: &[u8],
     output: &mut W,
 ) -> Result<(), Fault>
-    ensures { PlaysScript T.story (Some text.now) (W.contents output.old) (W.contents output.new) result }
+    ensures { PlaysScript runs T.story (Some text.now) (W.contents output.old) (W.contents output.new) result }
 {
     let mut lines = Lines::new(text);
-    opening::play_lines(telling, &mut lines, output)
+    opening::play_lines::<AnyCapacity, T, _, W>(telling, &mut lines, output)
 }
 
 /// Plays a whole script that stands in memory, and appends what `telling` tells of it, as `play_script` does.
@@ -139,7 +152,7 @@ pub fn play_bytes<T: Telling, W: Write>(
 /// Returns which line is no command, or that memory was refused, be it for `output`. No read or write of the script
 /// fails.
 pub fn play_text<T: Telling>(telling: &mut T, text: &str, output: &mut Vec<u8>) -> Result<(), Fault>
-    ensures plays { PlaysScript T.story (Some text.now) (Some output.old.items) (Some output.new.items) result }
+    ensures plays { PlaysScript runs T.story (Some text.now) (Some output.old.items) (Some output.new.items) result }
     ensures err { IfErr result (λ fault. fault ≡ Fault.InputOutput → ⊥) }
 {
     match play_bytes(telling, text.as_bytes(), output) {
@@ -148,16 +161,19 @@ pub fn play_text<T: Telling>(telling: &mut T, text: &str, output: &mut Vec<u8>) 
     }
 }
 
-fn run<T: Telling, R: Read + Drop, W: Write + Drop, E: Write + Drop>(
+fn run<C: Size, T: Telling, R: Read + Drop, W: Write + Drop, E: Write + Drop>(
     alloc: Global,
     telling: &mut T,
     input: R,
     output: W,
     errors: E,
 ) -> u8
-    ensures { EndsWith T.story (R.remaining input) result }
+    ensures { EndsWith (language C C.sized C.size) T.story (R.remaining input) result }
 {
-    status(play_buffered(alloc, telling, input, output), errors)
+    status(
+        play_pieces::<C, T, R, W>(alloc, telling, input, output),
+        errors,
+    )
 }
 
 // Returns the status that tells how a script ended. Writes the reason to `errors` if it didn't end with its last line.
@@ -189,10 +205,21 @@ pub fn play_buffered<T: Telling, R: Read + Drop, W: Write + Drop>(
     input: R,
     output: W,
 ) -> Result<(), Fault>
-    ensures { EndsScript T.story (R.remaining input) result }
+    ensures { EndsScript runs T.story (R.remaining input) result }
+{
+    play_pieces::<AnyCapacity, T, R, W>(alloc, telling, input, output)
+}
+
+fn play_pieces<C: Size, T: Telling, R: Read + Drop, W: Write + Drop>(
+    alloc: Global,
+    telling: &mut T,
+    input: R,
+    output: W,
+) -> Result<(), Fault>
+    ensures { EndsScript (language C C.sized C.size) T.story (R.remaining input) result }
 {
     let mut output = BufWriter::new(alloc, output).map_err(|_| Fault::OutOfMemory)?;
-    let outcome = play_script(alloc, telling, input, &mut output);
+    let outcome = play_read::<C, T, R, BufWriter<W>>(alloc, telling, input, &mut output);
     finish(output, outcome)
 }
 

@@ -1,9 +1,10 @@
 //! Line 1 of a script, which names the primitive, and the machine that is played behind it.
-ghost use Rattle.std.specs.Prelude.{◌≡◌, ◌<◌, ◌≤◌, ℕ};
+ghost use Rattle.std.specs.Prelude.{◌≡◌, ◌<◌, ◌≤◌, ℕ, [], None, replicate};
 ghost use Rattle.esync_base.specs.Keeping.{BoundedList};
 ghost use Rattle.esync_priority.specs.Prio.{Bag};
 ghost use Rattle.esync_script.specs.Channel.{channel_setting};
-ghost use Rattle.esync_script.specs.Opening.{places, capacity, opening, Closes, Plays, PlaysBehind, PlaysScript};
+ghost use Rattle.esync_script.specs.Capacity.{places, capacity};
+ghost use Rattle.esync_script.specs.Opening.{opening, language, Closes, Plays, PlaysBehind, PlaysScript};
 ghost use Rattle.esync_script.specs.Pipe.{pipe_setting};
 ghost use Rattle.esync_script.specs.PubSub.{a_new_topic, no_lists, pubsub_setting};
 ghost use Rattle.esync_script.specs.Semaphore.{fair_setting};
@@ -13,6 +14,7 @@ ghost use Rattle.esync_script.specs.Zerocopy.{zero_setting};
 ghost use Rattle.esync_words.specs.Story.{replies_story};
 ghost use Rattle.esync_words.specs.Words.{one, and_then};
 
+use crate::capacity::{Capacity, MOST, Size};
 use crate::channel::{ChannelWords, Listed, Prioritized};
 use crate::lazy::LazyWords;
 use crate::mutex::MutexWords;
@@ -26,13 +28,14 @@ use crate::signal::SignalWords;
 use crate::watch::{Counted, WatchWords};
 use crate::zerocopy::{Slotted, ZeroWords};
 use esync_base::kept::Kept;
+use esync_base::limited::Limit;
 use esync_cells::lazy_lock::Given;
 use esync_cells::lazy_lock::machine::LazyRun;
 use esync_cells::once_lock::machine::OnceRun;
 use esync_cells::signal::machine::SignalRun;
 use esync_guards::mutex::Second;
 use esync_guards::mutex::machine::MutexRun;
-use esync_log::log::{Log, LogStore};
+use esync_log::log::{LimitedLog, LogStore};
 use esync_machine::run::Machine;
 use esync_permits::semaphore::machine::greedy::GreedyRun;
 use esync_priority::prio::{Kind, Max, Min};
@@ -42,92 +45,73 @@ use esync_words::play::{Opens, Replies, Telling, open};
 use esync_words::vocabulary::REQS;
 use esync_words::words::Words;
 use std::io::Write;
+use std::marker::Brand;
 
-/// A capacity of a primitive that a script can ask for.
-#[derive(Clone, Copy, Debug, PartialEq, Eq)]
-pub enum Capacity {
-    One,
-    Two,
-    Three,
-    Four,
-    Eight,
-}
-
-// Returns the capacity of this number of places, if a script can ask for it.
-fn capacity_of(places: u64) -> Option<Capacity>
-    ensures { result ≡ capacity places }
+fn read_capacity<C: Size>(words: Words<'_>) -> Option<C>
+    ensures { result ≡ and_then (one 64 words.entry) C.sized }
 {
-    match places {
-        1 => Some(Capacity::One),
-        2 => Some(Capacity::Two),
-        3 => Some(Capacity::Three),
-        4 => Some(Capacity::Four),
-        8 => Some(Capacity::Eight),
-        _ => None,
-    }
+    C::of(words.number()?)
 }
 
-fn read_capacity(words: Words<'_>) -> Option<Capacity>
-    ensures { result ≡ and_then (one 64 words.entry) capacity }
-{
-    capacity_of(words.number()?)
-}
-
-/// The primitive that a script is about.
-#[derive(Clone, Copy, Debug, PartialEq, Eq)]
-pub enum Opening {
-    Channel(Capacity),
-    Max(Capacity),
-    Min(Capacity),
+/// The primitive that line 1 names, with its capacity. A pipe and a watch have one of five in each language: theirs
+/// stands in the type of their machine.
+#[derive(Clone, Copy, Debug, PartialEq, Eq, Drop)]
+pub enum OpeningOf<C> {
+    Channel(C),
+    Max(C),
+    Min(C),
     Signal,
     Greedy(usize),
-    Fair(Capacity, usize),
+    Fair(C, usize),
     Pipe(Capacity),
-    PubSub(Capacity, u64),
+    PubSub(C, u64),
     Once,
     Lazy(u32),
     Mutex(u32, u32),
     Watch(Capacity, Option<u32>),
-    Zerocopy(Capacity),
+    Zerocopy(C),
 }
 
-impl Opens for Opening {
+/// The primitive that a script of `syncrun` is about.
+pub type Opening = OpeningOf<Capacity>;
+
+impl<C: Size> Opens for OpeningOf<C> {
     ghost use Rattle.esync_script.specs.Opening.{opening};
 
-    ghost opens = { opening };
+    ghost opens = { opening C.sized };
 
     fn opening(name: &str, words: Words<'_>) -> Option<Self> {
         match name {
-            "channel" => Some(Opening::Channel(read_capacity(words)?)),
-            "max" => Some(Opening::Max(read_capacity(words)?)),
-            "min" => Some(Opening::Min(read_capacity(words)?)),
-            "signal" => (words.number()? == 1).then_some(Opening::Signal),
+            "channel" => Some(OpeningOf::Channel(read_capacity(words)?)),
+            "max" => Some(OpeningOf::Max(read_capacity(words)?)),
+            "min" => Some(OpeningOf::Min(read_capacity(words)?)),
+            "signal" => (words.number()? == 1).then_some(OpeningOf::Signal),
             "greedy" => {
                 let (places, permits) = words.two_numbers()?;
-                (places == 1).then_some(Opening::Greedy(permits as usize))
+                (places == 1).then_some(OpeningOf::Greedy(permits as usize))
             }
             "fair" => {
                 let (places, permits) = words.two_numbers()?;
-                Some(Opening::Fair(capacity_of(places)?, permits as usize))
+                Some(OpeningOf::Fair(C::of(places)?, permits as usize))
             }
-            "pipe" => Some(Opening::Pipe(read_capacity(words)?)),
+            "pipe" => Some(OpeningOf::Pipe(read_capacity(words)?)),
             "pubsub" => {
                 let (places, first) = words.one_or_two_numbers()?;
-                Some(Opening::PubSub(capacity_of(places)?, first.unwrap_or(0)))
+                Some(OpeningOf::PubSub(C::of(places)?, first.unwrap_or(0)))
             }
-            "once" => (words.number()? == 1).then_some(Opening::Once),
+            "once" => (words.number()? == 1).then_some(OpeningOf::Once),
             "lazy" => {
                 let (places, value) = words.number_and_value()?;
-                (places == 1).then_some(Opening::Lazy(value))
+                (places == 1).then_some(OpeningOf::Lazy(value))
             }
-            "zerocopy" => Some(Opening::Zerocopy(read_capacity(words)?)),
+            "zerocopy" => Some(OpeningOf::Zerocopy(read_capacity(words)?)),
             "mutex" => {
                 let (places, value, part) = words.number_and_two_values()?;
-                (places == 1).then_some(Opening::Mutex(value, part))
+                (places == 1).then_some(OpeningOf::Mutex(value, part))
             }
             "watch" => {
                 let (places, value) = words.number_and_value_if_any()?;
-                Some(Opening::Watch(capacity_of(places)?, value))
+                Some(OpeningOf::Watch(Capacity::of(places)?, value))
             }
             _ => None,
         }
@@ -154,82 +138,81 @@ macro_rules! at_places {
     };
 }
 
-// A script over the pub-sub channel of so many messages.
-macro_rules! topic_at {
-    ($n:literal, $player:ident, $first:ident, $lines:ident, $output:ident) => {
-        serve_topic::<Log<u32, $n, 4>, P, R, W>($player, topic($first), $first, $lines, $output)
-    };
-}
-
-// A script over a channel of at most `N` messages.
-fn serve_list<const N: usize, P: Player<R, W>, R: ByteSource, W: Write>(
+// A script over a channel of at most `B.limit` messages.
+fn serve_list<B: Limit, P: Player<R, W>, R: ByteSource, W: Write>(
     player: &mut P,
+    capacity: usize,
     lines: &mut Lines<R>,
     output: &mut W,
 ) -> Result<(), Fault>
-    requires { N ≤ 8 }
-    ensures { PlaysFrom (P.plays player.old player.new) (channel_setting (BoundedList ℕ N)) lines.old.number lines.old.left (W.contents output.old) (W.contents output.new) result }
+    requires chosen { capacity ≡ B.limit }
+    requires few { capacity ≤ 4096 }
+    ensures { PlaysFrom (P.plays player.old player.new) (channel_setting (BoundedList ℕ B.limit)) lines.old.number lines.old.left (W.contents output.old) (W.contents output.new) result }
 {
-    serve::<ChannelWords, Listed<N>, P, R, W>(player, (), lines, output)
+    serve::<ChannelWords, Listed<B>, P, R, W>(player, capacity, lines, output)
 }
 
-fn serve_channel<P: Player<R, W>, R: ByteSource, W: Write>(
+fn serve_channel<C: Size, P: Player<R, W>, R: ByteSource, W: Write>(
     player: &mut P,
-    capacity: Capacity,
+    capacity: C,
     lines: &mut Lines<R>,
     output: &mut W,
 ) -> Result<(), Fault>
-    ensures { PlaysFrom (P.plays player.old player.new) (channel_setting (BoundedList ℕ (places capacity))) lines.old.number lines.old.left (W.contents output.old) (W.contents output.new) result }
+    ensures { PlaysFrom (P.plays player.old player.new) (channel_setting (BoundedList ℕ (C.size capacity))) lines.old.number lines.old.left (W.contents output.old) (W.contents output.new) result }
 {
-    at_capacity!(capacity => at_places!(serve_list::<P, R, W>(player, lines, output)))
+    serve_list::<Brand, P, R, W>(player, capacity.places(), lines, output)
 }
 
-// A script over a priority channel of at most `N` messages.
-fn serve_bag<const N: usize, Q: Kind<u32>, P: Player<R, W>, R: ByteSource, W: Write>(
+// A script over a priority channel of at most `B.limit` messages.
+fn serve_bag<B: Limit, Q: Kind<u32>, P: Player<R, W>, R: ByteSource, W: Write>(
     player: &mut P,
+    capacity: usize,
     lines: &mut Lines<R>,
     output: &mut W,
 ) -> Result<(), Fault>
-    requires { N ≤ 8 }
-    ensures { PlaysFrom (P.plays player.old player.new) (channel_setting (Bag ℕ Q.above N)) lines.old.number lines.old.left (W.contents output.old) (W.contents output.new) result }
+    requires chosen { capacity ≡ B.limit }
+    requires few { capacity ≤ 4096 }
+    ensures { PlaysFrom (P.plays player.old player.new) (channel_setting (Bag ℕ Q.above B.limit)) lines.old.number lines.old.left (W.contents output.old) (W.contents output.new) result }
 {
-    serve::<ChannelWords, Prioritized<Q, N>, P, R, W>(player, (), lines, output)
+    serve::<ChannelWords, Prioritized<Q, B>, P, R, W>(player, capacity, lines, output)
 }
 
-fn serve_priority<Q: Kind<u32>, P: Player<R, W>, R: ByteSource, W: Write>(
+fn serve_priority<C: Size, Q: Kind<u32>, P: Player<R, W>, R: ByteSource, W: Write>(
     player: &mut P,
-    capacity: Capacity,
+    capacity: C,
     lines: &mut Lines<R>,
     output: &mut W,
 ) -> Result<(), Fault>
-    ensures { PlaysFrom (P.plays player.old player.new) (channel_setting (Bag ℕ Q.above (places capacity))) lines.old.number lines.old.left (W.contents output.old) (W.contents output.new) result }
+    ensures { PlaysFrom (P.plays player.old player.new) (channel_setting (Bag ℕ Q.above (C.size capacity))) lines.old.number lines.old.left (W.contents output.old) (W.contents output.new) result }
 {
-    at_capacity!(capacity => at_places!(serve_bag::<Q, P, R, W>(player, lines, output)))
+    serve_bag::<Brand, Q, P, R, W>(player, capacity.places(), lines, output)
 }
 
-// A script over a fair semaphore with a queue of `N` places.
-fn serve_queue<const N: usize, P: Player<R, W>, R: ByteSource, W: Write>(
+// A script over a fair semaphore with a queue of `B.limit` places.
+fn serve_queue<B: Limit, P: Player<R, W>, R: ByteSource, W: Write>(
     player: &mut P,
+    places: usize,
     permits: usize,
     lines: &mut Lines<R>,
     output: &mut W,
 ) -> Result<(), Fault>
-    requires { N ≤ 8 }
-    ensures { PlaysFrom (P.plays player.old player.new) (fair_setting N permits) lines.old.number lines.old.left (W.contents output.old) (W.contents output.new) result }
+    requires chosen { places ≡ B.limit }
+    requires few { places ≤ 4096 }
+    ensures { PlaysFrom (P.plays player.old player.new) (fair_setting B.limit permits) lines.old.number lines.old.left (W.contents output.old) (W.contents output.new) result }
 {
-    serve::<FairWords, Queued<N>, P, R, W>(player, permits, lines, output)
+    serve::<FairWords, Queued<B>, P, R, W>(player, (places, permits), lines, output)
 }
 
-fn serve_fair<P: Player<R, W>, R: ByteSource, W: Write>(
+fn serve_fair<C: Size, P: Player<R, W>, R: ByteSource, W: Write>(
     player: &mut P,
-    capacity: Capacity,
+    capacity: C,
     permits: usize,
     lines: &mut Lines<R>,
     output: &mut W,
 ) -> Result<(), Fault>
-    ensures { PlaysFrom (P.plays player.old player.new) (fair_setting (places capacity) permits) lines.old.number lines.old.left (W.contents output.old) (W.contents output.new) result }
+    ensures { PlaysFrom (P.plays player.old player.new) (fair_setting (C.size capacity) permits) lines.old.number lines.old.left (W.contents output.old) (W.contents output.new) result }
 {
-    at_capacity!(capacity => at_places!(serve_queue::<P, R, W>(player, permits, lines, output)))
+    serve_queue::<Brand, P, R, W>(player, capacity.places(), permits, lines, output)
 }
 
 // A script over a pipe of at most `N` bytes.
@@ -282,7 +265,7 @@ fn serve_watch<P: Player<R, W>, R: ByteSource, W: Write>(
 }
 
 // A script over this pub-sub channel, whose first message has this number. The log is a type parameter, and the machine
-// is handed in: with a log of `N` messages the checker meets its limit of steps at the call.
+// is handed in: with a log of a number of messages the checker meets its limit of steps at the call.
 fn serve_topic<L: LogStore<Message = u32> + Kept, P: Player<R, W>, R: ByteSource, W: Write>(
     player: &mut P,
     machine: Topic<L>,
@@ -299,73 +282,81 @@ fn serve_topic<L: LogStore<Message = u32> + Kept, P: Player<R, W>, R: ByteSource
     player.play::<PubSubWords, Topic<L>>(machine, lines, output)
 }
 
-fn serve_pubsub<P: Player<R, W>, R: ByteSource, W: Write>(
+// A script over a pub-sub channel of at most `B.limit` messages, the first of which has this number.
+fn serve_log<B: Limit, P: Player<R, W>, R: ByteSource, W: Write>(
     player: &mut P,
-    capacity: Capacity,
+    capacity: usize,
     first: u64,
     lines: &mut Lines<R>,
     output: &mut W,
 ) -> Result<(), Fault>
-    ensures { PlaysFrom (P.plays player.old player.new) (pubsub_setting (places capacity) first) lines.old.number lines.old.left (W.contents output.old) (W.contents output.new) result }
+    requires chosen { capacity ≡ B.limit }
+    requires some { 1 ≤ capacity }
+    requires few { capacity ≤ 4096 }
+    ensures { PlaysFrom (P.plays player.old player.new) (pubsub_setting B.limit first) lines.old.number lines.old.left (W.contents output.old) (W.contents output.new) result }
 {
-    at_capacity!(capacity => topic_at!(player, first, lines, output))
+    let log: LimitedLog<u32, B, MOST, 4> = LimitedLog::new_at(capacity, first);
+    serve_topic::<LimitedLog<u32, B, MOST, 4>, P, R, W>(player, topic(log), first, lines, output)
 }
 
-// A script over a zero-copy channel of `N` slots.
-fn serve_slots<const N: usize, P: Player<R, W>, R: ByteSource, W: Write>(
+fn serve_pubsub<C: Size, P: Player<R, W>, R: ByteSource, W: Write>(
     player: &mut P,
+    capacity: C,
+    first: u64,
     lines: &mut Lines<R>,
     output: &mut W,
 ) -> Result<(), Fault>
-    requires some { 0 < N }
-    requires few { N ≤ 8 }
-    ensures { PlaysFrom (P.plays player.old player.new) (zero_setting N) lines.old.number lines.old.left (W.contents output.old) (W.contents output.new) result }
+    ensures { PlaysFrom (P.plays player.old player.new) (pubsub_setting (C.size capacity) first) lines.old.number lines.old.left (W.contents output.old) (W.contents output.new) result }
 {
-    serve::<ZeroWords, Slotted<N>, P, R, W>(player, (), lines, output)
+    serve_log::<Brand, P, R, W>(player, capacity.places(), first, lines, output)
 }
 
-fn serve_zerocopy<P: Player<R, W>, R: ByteSource, W: Write>(
+fn serve_zerocopy<C: Size, P: Player<R, W>, R: ByteSource, W: Write>(
     player: &mut P,
-    capacity: Capacity,
+    capacity: C,
     lines: &mut Lines<R>,
     output: &mut W,
 ) -> Result<(), Fault>
-    ensures { PlaysFrom (P.plays player.old player.new) (zero_setting (places capacity)) lines.old.number lines.old.left (W.contents output.old) (W.contents output.new) result }
+    ensures { PlaysFrom (P.plays player.old player.new) (zero_setting (C.size capacity)) lines.old.number lines.old.left (W.contents output.old) (W.contents output.new) result }
 {
-    at_capacity!(capacity => at_places!(serve_slots::<P, R, W>(player, lines, output)))
+    serve::<ZeroWords, Slotted, P, R, W>(player, capacity.places(), lines, output)
 }
 
 // Makes the primitive that line 1 names, and plays the lines behind it.
-fn serve_opening<P: Player<R, W>, R: ByteSource, W: Write>(
+fn serve_opening<C: Size, P: Player<R, W>, R: ByteSource, W: Write>(
     player: &mut P,
-    opening: Opening,
+    opening: OpeningOf<C>,
     lines: &mut Lines<R>,
     output: &mut W,
 ) -> Result<(), Fault>
-    ensures { Plays (P.plays player.old player.new) opening lines.old.number lines.old.left (W.contents output.old) (W.contents output.new) result }
+    ensures { Plays (language C C.sized C.size) (P.plays player.old player.new) opening lines.old.number lines.old.left (W.contents output.old) (W.contents output.new) result }
 {
     match opening {
-        Opening::Channel(capacity) => serve_channel(player, capacity, lines, output),
-        Opening::Max(capacity) => serve_priority::<Max, P, R, W>(player, capacity, lines, output),
-        Opening::Min(capacity) => serve_priority::<Min, P, R, W>(player, capacity, lines, output),
-        Opening::Signal => {
+        OpeningOf::Channel(capacity) => serve_channel(player, capacity, lines, output),
+        OpeningOf::Max(capacity) => serve_priority::<C, Max, P, R, W>(
+            player, capacity, lines, output,
+        ),
+        OpeningOf::Min(capacity) => serve_priority::<C, Min, P, R, W>(
+            player, capacity, lines, output,
+        ),
+        OpeningOf::Signal => {
             serve::<SignalWords, SignalRun<u32, u64, REQS, 1>, P, R, W>(player, (), lines, output)
         }
-        Opening::Greedy(permits) => {
+        OpeningOf::Greedy(permits) => {
             serve::<GreedyWords, GreedyRun<u64, REQS, 1>, P, R, W>(player, permits, lines, output)
         }
-        Opening::Fair(capacity, permits) => serve_fair(player, capacity, permits, lines, output),
-        Opening::Pipe(capacity) => serve_pipe(player, capacity, lines, output),
-        Opening::PubSub(capacity, first) => serve_pubsub(player, capacity, first, lines, output),
-        Opening::Once => {
+        OpeningOf::Fair(capacity, permits) => serve_fair(player, capacity, permits, lines, output),
+        OpeningOf::Pipe(capacity) => serve_pipe(player, capacity, lines, output),
+        OpeningOf::PubSub(capacity, first) => serve_pubsub(player, capacity, first, lines, output),
+        OpeningOf::Once => {
             serve::<OnceWords, OnceRun<u32, u64, REQS, 1>, P, R, W>(player, (), lines, output)
         }
-        Opening::Lazy(value) => {
+        OpeningOf::Lazy(value) => {
             serve::<LazyWords, LazyRun<u32, Given<u32>, u64, REQS, 1>, P, R, W>(
                 player, value, lines, output,
             )
         }
-        Opening::Mutex(value, part) => {
+        OpeningOf::Mutex(value, part) => {
             serve::<MutexWords, MutexRun<(u32, u32), u32, Second, u64, REQS, 1>, P, R, W>(
                 player,
                 (value, part),
@@ -373,8 +364,8 @@ fn serve_opening<P: Player<R, W>, R: ByteSource, W: Write>(
                 output,
             )
         }
-        Opening::Watch(capacity, value) => serve_watch(player, capacity, value, lines, output),
-        Opening::Zerocopy(capacity) => serve_zerocopy(player, capacity, lines, output),
+        OpeningOf::Watch(capacity, value) => serve_watch(player, capacity, value, lines, output),
+        OpeningOf::Zerocopy(capacity) => serve_zerocopy(player, capacity, lines, output),
     }
 }
 
@@ -399,15 +390,15 @@ fn close<T: Telling, W: Write>(
 /// # Errors
 ///
 /// Returns which line is no command, or that a read, a write or memory failed.
-pub fn play_lines<T: Telling, R: ByteSource, W: Write>(
+pub fn play_lines<C: Size, T: Telling, R: ByteSource, W: Write>(
     telling: &mut T,
     lines: &mut Lines<R>,
     output: &mut W,
 ) -> Result<(), Fault>
     requires { lines.old.number ≡ 0 }
-    ensures { PlaysScript T.story lines.old.left (W.contents output.old) (W.contents output.new) result }
+    ensures { PlaysScript (language C C.sized C.size) T.story lines.old.left (W.contents output.old) (W.contents output.new) result }
 {
-    match open::<Opening, T, R, W>(telling, lines, output) {
+    match open::<OpeningOf<C>, T, R, W>(telling, lines, output) {
         Ok(opening) => {
             let played = serve_opening(telling, opening, lines, output);
             close(telling, played, output)
@@ -422,15 +413,15 @@ pub fn play_lines<T: Telling, R: ByteSource, W: Write>(
 /// # Errors
 ///
 /// Returns `NotACommand` if line 1 names no primitive, and otherwise the player's fault or that of a read.
-pub fn play_with<P: Player<R, W>, R: ByteSource, W: Write>(
+pub fn play_with<C: Size, P: Player<R, W>, R: ByteSource, W: Write>(
     player: &mut P,
     lines: &mut Lines<R>,
     output: &mut W,
 ) -> Result<(), Fault>
     requires { lines.old.number ≡ 0 }
-    ensures { PlaysBehind replies_story (λ was now. P.plays player.old player.new) lines.old.left (W.contents output.old) (W.contents output.new) result }
+    ensures { PlaysBehind (language C C.sized C.size) replies_story (λ was now. P.plays player.old player.new) lines.old.left (W.contents output.old) (W.contents output.new) result }
 {
-    match open::<Opening, Replies, R, W>(&mut Replies {}, lines, output) {
+    match open::<OpeningOf<C>, Replies, R, W>(&mut Replies {}, lines, output) {
         Ok(opening) => {
             let played = serve_opening(player, opening, lines, output);
             close(&mut Replies {}, played, output)

@@ -1,5 +1,5 @@
 //! The words of publishers and subscribers.
-ghost use Rattle.std.specs.Prelude.{◌≡◌, ◌≤◌, OnOk, ◌++◌, codes};
+ghost use Rattle.std.specs.Prelude.{◌≡◌, ◌≤◌, OnOk, ◌++◌, codes, [], None, replicate};
 ghost use Rattle.std.specs.Io.KnownBytes.{Appends};
 ghost use Rattle.esync_script.specs.PubSub.{a_new_topic, no_lists, read_text};
 ghost use Rattle.esync_script.specs.Setting.{new_object};
@@ -134,14 +134,15 @@ fn print_ready<W: Write>(answer: &WaitResult<u32>, output: &mut W) -> io::Result
 /// A pub-sub channel over this log, with four places for subscribers and four for publishers.
 pub type Topic<L> = Requests<Events<L, Wakes<u64, 4>, Wakes<u64, 4>, REQS>, REQS, 4>;
 
-/// Returns a pub-sub channel over this log without subscribers and publishers, whose first message has this number.
+/// Returns a pub-sub channel over this log, which has no messages and no subscribers.
 ///
 /// A topic isn't `Scripted`: over an open log it can't be shown that the machine which `serve` makes fits in memory.
-pub fn topic<L: LogStore<Message = u32>>(first: u64) -> Topic<L>
+pub fn topic<L: LogStore<Message = u32>>(log: L) -> Topic<L>
     requires messages { 1 ≤ L.capacity }
     requires subscribers { L.places ≡ 4 }
-    ensures object { ⟦<Topic<L> as Machine>⟧.semantics.object result ≡ new_object (a_new_topic first) }
+    requires empty { L.log log ≡ record { held = []; next = (L.log log).next; positions = replicate L.places None } }
+    ensures object { ⟦<Topic<L> as Machine>⟧.semantics.object result ≡ new_object (a_new_topic (L.log log).next) }
     ensures registrations { ⟦<Topic<L> as Machine>⟧.semantics.registrations result ≡ no_lists }
 {
-    Requests::new(Events::new_at(first))
+    Requests::new(Events::over(log))
 }

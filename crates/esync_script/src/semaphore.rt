@@ -4,12 +4,14 @@ ghost use Rattle.std.specs.Io.KnownBytes.{Appends};
 ghost use Rattle.esync_words.specs.Text.{option_text};
 ghost use Rattle.esync_script.specs.Semaphore.{permit_asks, permit_calls};
 
+use crate::capacity::MOST;
 use crate::scripted::Scripted;
+use esync_base::limited::Limit;
 use esync_machine::requests::Requests;
-use esync_permits::semaphore::machine::fair::FairRun;
+use esync_permits::queue::{LimitedQueue, Queue};
 use esync_permits::semaphore::machine::greedy::GreedyRun;
 use esync_permits::semaphore::machine::{PermitCall, PermitHeard};
-use esync_permits::semaphore::{Amount, FairState, GreedyState, WaitQueueFull};
+use esync_permits::semaphore::{Amount, FairOver, GreedyState, WaitQueueFull};
 use esync_words::printing::print_option;
 use esync_words::vocabulary::{Place, REQS, Vocabulary};
 use esync_words::words::Words;
@@ -168,22 +170,22 @@ impl Scripted<GreedyWords> for GreedyRun<u64, REQS, 1> {
     }
 }
 
-/// A fair semaphore with a queue of `N` places.
-pub type Queued<const N: usize> = FairRun<u64, N, REQS, 1>;
+/// A fair semaphore with a queue of `B.limit` places.
+pub type Queued<B> = Requests<FairOver<LimitedQueue<Queue<u64, MOST>, B>>, REQS, 1>;
 
-impl<const N: usize> Scripted<FairWords> for Queued<N> {
-    /// The number of permits at first.
-    type First = usize;
+impl<B: Limit> Scripted<FairWords> for Queued<B> {
+    /// The number of places in the queue, and the number of permits at first.
+    type First = (usize, usize);
 
-    ghost use Rattle.std.specs.Prelude.{◌≤◌};
+    ghost use Rattle.std.specs.Prelude.{◌≡◌, ◌≤◌};
     ghost use Rattle.esync_script.specs.Semaphore.{fair_setting};
     ghost use Rattle.esync_script.specs.Setting.{BeginsAs};
 
-    ghost CanBegin = { λ permits. N ≤ 8 };
+    ghost CanBegin = { λ first. (first.0 ≡ B.limit) × (first.0 ≤ 4096) };
 
-    ghost IsNew = { λ permits m. BeginsAs (fair_setting N permits) (Self.semantics.object m) (Self.semantics.registrations m) };
+    ghost IsNew = { λ first m. BeginsAs (fair_setting B.limit first.1) (Self.semantics.object m) (Self.semantics.registrations m) };
 
-    fn begin(permits: usize) -> Self {
-        Requests::new(FairState::new(permits))
+    fn begin((places, permits): (usize, usize)) -> Self {
+        Requests::new(FairOver::over(permits, LimitedQueue::new(places)))
     }
 }

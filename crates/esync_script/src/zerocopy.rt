@@ -1,8 +1,9 @@
 //! The words of a zero-copy channel.
-ghost use Rattle.std.specs.Prelude.{◌≡◌, OnOk};
+ghost use Rattle.std.specs.Prelude.{◌≡◌, ◌≤◌, OnOk, replicate};
 ghost use Rattle.std.specs.Io.KnownBytes.{Appends};
 ghost use Rattle.esync_script.specs.Zerocopy.{lent_text};
 
+use crate::capacity::MOST;
 use crate::scripted::Scripted;
 use arrayvec::ArrayVec;
 use esync_machine::requests::Requests;
@@ -95,21 +96,32 @@ impl Vocabulary for ZeroWords {
     }
 }
 
-/// A zero-copy channel of `N` slots, which stand in the state itself.
-pub type Slotted<const N: usize> = Requests<RowState<ArrayVec<u32, N>, u64>, REQS, 1>;
+// Returns so many values 0, in a row of `N` places.
+fn zeros<const N: usize>(count: usize) -> ArrayVec<u32, N>
+    requires { count ≤ N }
+    ensures { result.items ≡ replicate count 0 }
+{
+    let mut values = ArrayVec::from([0; N]);
+    values.truncate(count);
+    values
+}
 
-impl<const N: usize> Scripted<ZeroWords> for Slotted<N> {
-    type First = ();
+/// A zero-copy channel whose slots stand in the state itself.
+pub type Slotted = Requests<RowState<ArrayVec<u32, MOST>, u64>, REQS, 1>;
+
+impl Scripted<ZeroWords> for Slotted {
+    /// The number of slots.
+    type First = usize;
 
     ghost use Rattle.std.specs.Prelude.{◌<◌, ◌≤◌};
     ghost use Rattle.esync_script.specs.Setting.{BeginsAs};
     ghost use Rattle.esync_script.specs.Zerocopy.{zero_setting};
 
-    ghost CanBegin = { λ first. (0 < N) × (N ≤ 8) };
+    ghost CanBegin = { λ slots. (0 < slots) × (slots ≤ 4096) };
 
-    ghost IsNew = { λ first m. BeginsAs (zero_setting N) (Self.semantics.object m) (Self.semantics.registrations m) };
+    ghost IsNew = { λ slots m. BeginsAs (zero_setting slots) (Self.semantics.object m) (Self.semantics.registrations m) };
 
-    fn begin(_first: ()) -> Self {
-        Requests::new(RowState::new(ArrayVec::from([0; N])))
+    fn begin(slots: usize) -> Self {
+        Requests::new(RowState::new(zeros(slots)))
     }
 }

@@ -5,7 +5,7 @@ use crate::play::{Script, Stage, serve};
 use bumpalo::Bump;
 use esync_base::deque::Deque;
 use esync_base::ring_buffer::ByteRing;
-use esync_base::store::{ByteStore, Store};
+use esync_base::store::{ByteStore, FixedStore};
 use esync_base::waitqueue::{Hand, TaskId, WakerList};
 use esync_cells::signal::Signal;
 use esync_cells::watch::{SharedWatch, Watch};
@@ -26,11 +26,12 @@ use esync_permits::semaphore::machine::{PermitCall, PermitHeard};
 use esync_permits::semaphore::{Amount, FairState, GreedyState, PermitState, SharedSemaphore};
 use esync_pipe::pipe::{DynamicReader, DynamicWriter, SharedPipe};
 use esync_priority::prio::{Kind, Max, Min, PrioQueue};
-use esync_pubsub::pubsub::{LogStore, PubSubChannel, SharedPubSub};
+use esync_pubsub::pubsub::{FixedLog, PubSubChannel, SharedPubSub};
+use esync_script::capacity::Capacity;
 use esync_script::channel::ChannelWords;
 use esync_script::mutex::MutexWords;
 use esync_script::once::OnceWords;
-use esync_script::opening::{Capacity, Opening};
+use esync_script::opening::Opening;
 use esync_script::pipe::PipeWords;
 use esync_script::pubsub::PubSubWords;
 use esync_script::semaphore::{FairWords, GreedyWords};
@@ -94,7 +95,7 @@ macro_rules! at_capacity {
 }
 
 // Plays the script over a channel that keeps its messages in this way.
-fn mailbox<S: Store<Message = u32>, R: Wait, W: Write>(
+fn mailbox<S: FixedStore<Message = u32>, R: Wait, W: Write>(
     stage: Stage<'_, '_, R>,
     script: &mut Script<'_>,
     output: &mut W,
@@ -240,7 +241,7 @@ fn pipe<R: Wait, W: Write>(
 
 // Plays the script over this pub-sub channel, which has no subscribers and publishers.
 fn log<
-    G: LogStore<Message = u32>,
+    G: FixedLog<Message = u32>,
     S: WakerList<Waker = u64>,
     P: WakerList<Waker = u64>,
     H: Hand<u64>,

@@ -1,5 +1,5 @@
 //! Why a line is no command: where in the line, and what would be one.
-use crate::language::{OPENINGS, REQUESTS, asks_of, calls_of, shape_of};
+use crate::language::{FIXED_OPENINGS, OPENINGS, REQUESTS, asks_of, calls_of, shape_of};
 use esync_words::lines::LONGEST;
 use std::alloc::{AllocError, Global};
 use strsim::osa_distance;
@@ -36,14 +36,14 @@ pub fn reason_of(
     }
 }
 
-/// Why these words of a system are no primitive, or nothing that this one is asked or called.
+/// Why these words are no primitive of a system or with a shared form, or nothing that this one is asked or called.
 pub fn reason_in_system(
     alloc: Global,
     primitive: Option<&str>,
     words: &str,
 ) -> Result<Option<Reason>, AllocError> {
     let Some(primitive) = primitive else {
-        return commanded(alloc, words, 1, "primitive", OPENINGS);
+        return commanded(alloc, words, 1, "primitive", FIXED_OPENINGS);
     };
     let kind = format!(in alloc; "request or call of {primitive}")?;
     let commands = format!(in alloc; "{} end:k {}", asks_of(primitive), calls_of(primitive))?;
@@ -263,7 +263,10 @@ fn odd_word(letter: u8, word: &str) -> Option<&'static str> {
             Some("too large: a value is at most 4294967295")
         }
         (b'n', Ok(count)) if count > 16 => Some("too large: at most 16 bytes"),
-        (b'c', Ok(places)) if !matches!(places, 1 | 2 | 3 | 4 | 8) => {
+        (b'c', Ok(places)) if !(1..=4096).contains(&places) => {
+            Some("another capacity: it is 1 to 4096")
+        }
+        (b'd', Ok(places)) if !matches!(places, 1 | 2 | 3 | 4 | 8) => {
             Some("another capacity: it is 1, 2, 3, 4 or 8")
         }
         (b'1', Ok(places)) if places != 1 => Some("another capacity: it is 1"),

@@ -8,13 +8,18 @@
 //! | `v` | a value, at most 2^32 - 1 |
 //! | `n` | a number of bytes, at most 16 |
 //! | `b` | bytes, as `1,2,255`, or `-` |
-//! | `c` | a capacity: 1, 2, 3, 4 or 8 |
+//! | `c` | a capacity: 1 to 4096 |
+//! | `d` | a capacity: 1, 2, 3, 4 or 8 |
 //! | `1` | the capacity 1 |
 //! | `K`, `V` | as `k` or `v`, and may be missing |
 
 /// The primitives that line 1 may name.
 pub const OPENINGS: &str =
-    "channel:c max:c min:c pubsub:cK signal:1 greedy:1k fair:ck pipe:c once:1 lazy:1v zerocopy:c mutex:1vv watch:cV";
+    "channel:c max:c min:c pubsub:cK signal:1 greedy:1k fair:ck pipe:d once:1 lazy:1v zerocopy:c mutex:1vv watch:dV";
+
+/// The primitives that a system, or line 1 of a script over a shared form, may name.
+pub const FIXED_OPENINGS: &str =
+    "channel:d max:d min:d pubsub:dK signal:1 greedy:1k fair:dk pipe:d once:1 lazy:1v zerocopy:d mutex:1vv watch:dV";
 
 /// The commands that each primitive has, but for `start`, whose first word is the number of the request.
 pub const REQUESTS: &str = "poll:kk end:k";

@@ -1,5 +1,5 @@
 //! Scripts over the shared forms of their primitives.
-use crate::bad_line::Reason;
+use crate::bad_line::{Reason, reason_in_system, reason_of};
 use crate::inputs::first_line;
 use crate::stopped::Stopped;
 use esync_forms::form::{Door, Doors};
@@ -49,7 +49,17 @@ fn is_shared(alloc: Global, text: &str) -> Result<(), Stopped> {
             let text = format!(in alloc; "{number}: a shared pubsub begins at message 0")?;
             (before.saturating_add(1), text)
         }
-        _ => return Ok(()),
+        Some(_) => return Ok(()),
+        None => {
+            // (what no script can say is told when it is played)
+            if reason_of(alloc, None, line.as_bytes())?.is_some() {
+                return Ok(());
+            }
+            return match reason_in_system(alloc, None, line)? {
+                Some(reason) => Err(Stopped::BadLine(1, reason)),
+                None => Ok(()),
+            };
+        }
     };
     Err(Stopped::BadLine(1, Reason { column, text }))
 }

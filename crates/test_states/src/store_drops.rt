@@ -1,6 +1,6 @@
 //! Queues and priority queues drop each of their items once.
 use esync_base::deque::Deque;
-use esync_base::store::Store;
+use esync_base::store::{FixedStore, Store};
 use esync_notes::{holds, same};
 use esync_priority::prio::{Comparisons, Kind, Max, PrioQueue};
 use std::alloc::{AllocError, Global};
@@ -58,7 +58,10 @@ fn fill<'a, S: Store<Message = Token<'a>>>(
 }
 
 // A store of three tokens drops each that it has, and none that left.
-fn drops_each_once<'a, S: Store<Message = Token<'a>>>(rt: &impl Abort, dropped: &'a Cell<u32>) {
+fn drops_each_once<'a, S: FixedStore<Message = Token<'a>>>(
+    rt: &impl Abort,
+    dropped: &'a Cell<u32>,
+) {
     let mut store = S::new();
     fill(rt, &mut store, dropped, &[5, 1, 9]);
     same!(rt; dropped.get(), 0);
@@ -81,7 +84,7 @@ fn drops_each_once<'a, S: Store<Message = Token<'a>>>(rt: &impl Abort, dropped: 
 }
 
 // A store without items drops nothing, whether it had some or not.
-fn drops_nothing<'a, S: Store<Message = Token<'a>>>(rt: &impl Abort, dropped: &'a Cell<u32>) {
+fn drops_nothing<'a, S: FixedStore<Message = Token<'a>>>(rt: &impl Abort, dropped: &'a Cell<u32>) {
     drop(S::new());
     let mut store = S::new();
     fill(rt, &mut store, dropped, &[4]);
@@ -153,7 +156,7 @@ fn takes_text<S: Store<Message = String>>(rt: &impl Abort, store: &mut S, text: 
 }
 
 // Texts leave in this order, of which the last one stays until the store is dropped.
-fn holds_texts<S: Store<Message = String>>(
+fn holds_texts<S: FixedStore<Message = String>>(
     rt: &impl Abort,
     alloc: Global,
     order: [&str; 3],

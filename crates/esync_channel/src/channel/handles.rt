@@ -5,7 +5,7 @@ use super::{
     Channel, DynamicChannel, ReceiveFuture, ReceiveReadyFuture, SendFuture, SharedMailbox,
     TryReceiveError, TrySendError,
 };
-use esync_base::store::Store;
+use esync_base::store::{FixedStore, Store};
 use esync_base::waitqueue::{Context, Hand, Poll};
 
 /// A handle of a channel that can only send. Each method makes the call of its name on the channel.
@@ -48,14 +48,16 @@ impl<'ch, C: DynamicChannel> Snd<'ch, C> {
     }
 }
 
-impl<'ch, S: Store, W: Copy + Eq, H: Hand<W>> Snd<'ch, SharedMailbox<S, W, H>> {
+impl<'ch, S: FixedStore, W: Copy + Eq, H: Hand<W>> Snd<'ch, SharedMailbox<S, W, H>> {
     /// Returns how many messages the channel has room for in all. Takes no lock.
     pub fn capacity(&self) -> usize
         ensures { result ≡ S.keeping.capacity }
     {
         self.channel.capacity()
     }
+}
 
+impl<'ch, S: Store, W: Copy + Eq, H: Hand<W>> Snd<'ch, SharedMailbox<S, W, H>> {
     /// Returns how many more messages the channel has room for now.
     pub fn free_capacity(&self) -> usize
         ensures { result ≤ S.keeping.capacity }
@@ -136,14 +138,16 @@ impl<'ch, T: Drop, W: Copy + Eq, H: Hand<W>, const N: usize> Receiver<'ch, T, W,
     }
 }
 
-impl<'ch, S: Store, W: Copy + Eq, H: Hand<W>> Rcv<'ch, SharedMailbox<S, W, H>> {
+impl<'ch, S: FixedStore, W: Copy + Eq, H: Hand<W>> Rcv<'ch, SharedMailbox<S, W, H>> {
     /// Returns how many messages the channel has room for in all. Takes no lock.
     pub fn capacity(&self) -> usize
         ensures { result ≡ S.keeping.capacity }
     {
         self.channel.capacity()
     }
+}
 
+impl<'ch, S: Store, W: Copy + Eq, H: Hand<W>> Rcv<'ch, SharedMailbox<S, W, H>> {
     /// Returns how many more messages the channel has room for now.
     pub fn free_capacity(&self) -> usize
         ensures { result ≤ S.keeping.capacity }

@@ -8,7 +8,7 @@ use super::{
 use esync_base::deque::Deque;
 use esync_base::shared::Shared;
 use esync_base::step;
-use esync_base::store::Store;
+use esync_base::store::{FixedStore, Store};
 use esync_base::waitqueue::{Context, Hand, Poll};
 use std::marker::Model;
 use std::sync::Wait;
@@ -79,7 +79,7 @@ pub struct SharedMailbox<S, W, H> {
     inner: Shared<Mailbox<S, W>, W, H>,
 }
 
-impl<S: Store, W: Copy + Eq, H: Hand<W>> SharedMailbox<S, W, H> {
+impl<S: FixedStore, W: Copy + Eq, H: Hand<W>> SharedMailbox<S, W, H> {
     /// Returns an empty channel without a registered waker.
     pub fn new(hand: H) -> Self {
         SharedMailbox {
@@ -87,6 +87,15 @@ impl<S: Store, W: Copy + Eq, H: Hand<W>> SharedMailbox<S, W, H> {
         }
     }
 
+    /// Returns how many messages the channel has room for in all. Takes no lock.
+    pub fn capacity(&self) -> usize
+        ensures { result ≡ S.keeping.capacity }
+    {
+        S::places()
+    }
+}
+
+impl<S: Store, W: Copy + Eq, H: Hand<W>> SharedMailbox<S, W, H> {
     /// Returns a handle that can only send.
     pub fn sender(&self) -> Snd<'_, Self> {
         Snd::new(self)
@@ -180,13 +189,6 @@ impl<S: Store, W: Copy + Eq, H: Hand<W>> SharedMailbox<S, W, H> {
             self.inner,
             |state, wakes| state.poll_ready_to_send(cx, &mut wakes)
         )
-    }
-
-    /// Returns how many messages the channel has room for in all. Takes no lock.
-    pub fn capacity(&self) -> usize
-        ensures { result ≡ S.keeping.capacity }
-    {
-        S::capacity()
     }
 
     /// Returns how many more messages the channel has room for now.

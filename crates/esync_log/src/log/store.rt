@@ -23,13 +23,8 @@ pub trait LogStore {
     /// The held messages, the number of the next one, and how far each subscriber has read.
     ghost log: { Self → Log Self.Message };
 
-    /// Returns a log without messages and subscribers. Its first message gets the number `next`.
-    fn new_at(next: u64) -> Self
-        requires { 1 ≤ capacity }
-        ensures { log result ≡ record { held = []; next = next; positions = replicate places None } };
-
     /// Returns how many messages there is room for.
-    fn capacity() -> usize
+    fn capacity(&self) -> usize
         ensures { result ≡ capacity };
 
     /// Returns how many messages are held.
@@ -109,6 +104,28 @@ pub trait LogStore {
         ensures place { place < places };
 }
 
+/// A log whose capacity stands in its type.
+pub trait FixedLog: LogStore {
+    /// Returns a log without messages and subscribers. Its first message gets the number `next`.
+    fn new_at(next: u64) -> Self
+        requires { 1 ≤ Self.capacity }
+        ensures { Self.log result ≡ record { held = []; next = next; positions = replicate Self.places None } };
+
+    /// Returns how many messages each log of this type has room for.
+    fn messages() -> usize
+        ensures { result ≡ Self.capacity };
+}
+
+impl<T: Clone, const CAP: usize, const SUBS: usize> FixedLog for Log<T, CAP, SUBS> {
+    fn new_at(next: u64) -> Self {
+        Log::new_at(next)
+    }
+
+    fn messages() -> usize {
+        CAP
+    }
+}
+
 impl<T: Clone, const CAP: usize, const SUBS: usize> LogStore for Log<T, CAP, SUBS> {
     type Message = T;
 
@@ -118,11 +135,7 @@ impl<T: Clone, const CAP: usize, const SUBS: usize> LogStore for Log<T, CAP, SUB
 
     ghost log = { λ log. log };
 
-    fn new_at(next: u64) -> Self {
-        Log::new_at(next)
-    }
-
-    fn capacity() -> usize {
+    fn capacity(&self) -> usize {
         CAP
     }
 

@@ -2,7 +2,7 @@
 ghost use Rattle.std.specs.Prelude.{◌≡◌, Some, ◌<◌, ◌≤◌, length, IsSome, IfSome, IfOk, is_none};
 ghost use Rattle.esync_permits.specs.Shared.{Suits, granted, IfReady, Leaves};
 
-use crate::queue::WaitQueue;
+use crate::queue::{FixedQueue, WaitQueue};
 use crate::semaphore::{
     Amount, FairOver, FairRequest, FairState, GreedyRequest, GreedyState, WaitQueueFull,
 };
@@ -411,7 +411,7 @@ impl<W: Copy + Eq> PermitState for GreedyState<W> {
     fn end(&mut self, _request: &GreedyRequest, _wakes: &mut Wakes<W, 1>) {}
 }
 
-impl<Q: WaitQueue> PermitState for FairOver<Q> {
+impl<Q: FixedQueue> PermitState for FairOver<Q> {
     type Waker = Q::Waker;
 
     type Request = FairRequest;

@@ -15,7 +15,7 @@ ghost use Rattle.esync_pubsub.specs.PubSubRules.{topic_of, is_free, is_subscribe
 
 use super::{Error, Exhausted, PubSubOver, PublishRequest, SubId, TryPublishError, WaitResult};
 use esync_base::waitqueue::{Context, Poll, Registered, WakerList, Wakes};
-use esync_log::log::LogStore;
+use esync_log::log::{FixedLog, LogStore};
 use esync_machine::names::Names;
 use esync_machine::primitive::{Answer, Command, Primitive, Reach, Turn};
 use esync_machine::requests::Requests;
@@ -692,7 +692,7 @@ impl<G: LogStore, S: WakerList, P: WakerList<Waker = S::Waker>, const NAMES: usi
     }
 }
 
-impl<G: LogStore, S: WakerList, P: WakerList<Waker = S::Waker>, const NAMES: usize> Events<
+impl<G: FixedLog, S: WakerList, P: WakerList<Waker = S::Waker>, const NAMES: usize> Events<
     G,
     S,
     P,
@@ -706,9 +706,27 @@ impl<G: LogStore, S: WakerList, P: WakerList<Waker = S::Waker>, const NAMES: usi
         ensures state { result.state ≡ fresh G.places next }
         ensures tables { result.tables ≡ record { subscribers = replicate NAMES None; publishers = replicate NAMES None } }
     {
+        Events::over(G::new_at(next))
+    }
+}
+
+impl<G: LogStore, S: WakerList, P: WakerList<Waker = S::Waker>, const NAMES: usize> Events<
+    G,
+    S,
+    P,
+    NAMES,
+> {
+    /// Returns an empty channel over a log without messages and subscribers, where all numbers are free.
+    pub fn over(log: G) -> Self
+        requires messages { 1 ≤ G.capacity }
+        requires wakers { G.places ≤ S.room }
+        requires empty { G.log log ≡ record { held = []; next = (G.log log).next; positions = replicate G.places None } }
+        ensures state { result.state ≡ fresh G.places (G.log log).next }
+        ensures tables { result.tables ≡ record { subscribers = replicate NAMES None; publishers = replicate NAMES None } }
+    {
         let tables = Tables::new();
         Events {
-            state: PubSubOver::new_at(next),
+            state: PubSubOver::over(log),
             tables,
         }
     }

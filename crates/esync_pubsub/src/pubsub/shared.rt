@@ -11,7 +11,7 @@ use super::{
 use esync_base::shared::Shared;
 use esync_base::step;
 use esync_base::waitqueue::{Context, Hand, Poll, WakerList, Wakes};
-use esync_log::log::{Log, LogStore};
+use esync_log::log::{FixedLog, Log};
 use std::alloc::AllocError;
 use std::sync::Wait;
 
@@ -129,7 +129,7 @@ pub type PubSubChannel<
 /// that the step handed out to the hand, in order.
 #[derive(Drop)]
 pub struct SharedPubSub<
-    G: LogStore,
+    G: FixedLog,
     S: WakerList,
     P: WakerList<Waker = S::Waker>,
     H,
@@ -141,7 +141,7 @@ pub struct SharedPubSub<
 }
 
 impl<
-    G: LogStore,
+    G: FixedLog,
     S: WakerList,
     P: WakerList<Waker = S::Waker>,
     H: Hand<S::Waker>,
@@ -207,14 +207,14 @@ impl<
     pub fn capacity(&self) -> usize
         ensures { result ≡ G.capacity }
     {
-        G::capacity()
+        G::messages()
     }
 
     /// Returns the number of messages that the channel has room for now.
     pub fn free_capacity(&self) -> usize
         ensures { result ≤ G.capacity }
     {
-        G::capacity() - self.len()
+        G::messages() - self.len()
     }
 
     /// Drops all messages and wakes the tasks that wait for room. A subscriber that had not read them lags.
@@ -236,12 +236,12 @@ impl<
 
     /// Returns whether the channel is full now.
     pub fn is_full(&self) -> bool {
-        self.len() == G::capacity()
+        self.len() == G::messages()
     }
 }
 
 impl<
-    G: LogStore,
+    G: FixedLog,
     S: WakerList,
     P: WakerList<Waker = S::Waker>,
     H: Hand<S::Waker>,

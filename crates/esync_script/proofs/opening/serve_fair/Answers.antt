@@ -1,16 +1,4 @@
 use Rattle.esync_script.proofs.opening.serve_fair.Goals as goal
 
-pub returns-in-One : goal.returns-in-One
-returns-in-One g c = rw c.in-One.is c.serve_queue.ensures
-
-pub returns-in-Two : goal.returns-in-Two
-returns-in-Two g c = rw c.in-Two.is c.serve_queue-in-Two.ensures
-
-pub returns-in-Three : goal.returns-in-Three
-returns-in-Three g c = rw c.in-Three.is c.serve_queue-in-Three.ensures
-
-pub returns-in-Four : goal.returns-in-Four
-returns-in-Four g c = rw c.in-Four.is c.serve_queue-in-Four.ensures
-
-pub returns-in-Eight : goal.returns-in-Eight
-returns-in-Eight g c = rw c.in-Eight.is c.serve_queue-in-Eight.ensures
+pub returns : goal.returns
+returns g c = rw c.places.ensures.value at c.serve_queue.ensures

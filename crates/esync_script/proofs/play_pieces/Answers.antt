@@ -3,8 +3,8 @@ use Rattle.std.specs.Prelude.{Option, Result, Ok, Err, IsOk, OnOk, IfErr}
 use Rattle.esync_words.specs.declared.fault.Fault.{Fault}
 use Rattle.esync_words.specs.declared.fault.Fault.TheVariants.{InputOutput}
 use Rattle.esync_words.specs.Played.{IsJudged}
-use Rattle.esync_script.specs.Opening.{PlaysScript}
-use Rattle.esync_script.proofs.play_buffered.Goals as goal
+use Rattle.esync_script.specs.Opening.{language, PlaysScript}
+use Rattle.esync_script.proofs.play_pieces.Goals as goal
 
 -- a result that says how a script ended is what became of it
 judged :
@@ -20,5 +20,5 @@ judged Q before after (Err fault) outcome ok err p j = elim err [
 
 pub returns : goal.returns
 returns g c j =
-    judged (λ b a outcome. PlaysScript g.T.Telling.story (g.R.Read.remaining c.args.input) b a outcome) _ _ _ _
-    c.finish.ensures.ok c.finish.ensures.err c.play_script-outcome.ensures j
+    judged (λ b a outcome. PlaysScript (language _ g.C.Size.sized g.C.Size.size) g.T.Telling.story (g.R.Read.remaining c.args.input) b a outcome) _ _ _ _
+    c.finish.ensures.ok c.finish.ensures.err c.play_read-outcome.ensures j

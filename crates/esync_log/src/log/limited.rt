@@ -1,0 +1,127 @@
+//! A log whose capacity is chosen when it is made.
+ghost use Rattle.std.specs.Prelude.{◌≡◌, ◌≤◌, [], None, length, replicate};
+ghost use Rattle.esync_log.specs.Log.{Log as Logged};
+
+use super::{Exhausted, Log, LogStore, TryPublishError, WaitResult};
+use esync_base::kept::Kept;
+use esync_base::limited::Limit;
+use std::alloc::AllocError;
+use std::marker::{Model, PhantomData};
+
+/// A log that holds no more messages than were chosen, whatever more there is room for.
+#[derive(Drop)]
+pub struct LimitedLog<T, B: Limit, const CAP: usize, const SUBS: usize> {
+    capacity: usize,
+    limit: PhantomData<B>,
+    log: Log<T, CAP, SUBS>,
+}
+
+impl<T, B: Limit, const CAP: usize, const SUBS: usize> Model for LimitedLog<T, B, CAP, SUBS> {
+    ghost use Rattle.std.specs.Prelude.{◌≡◌, ◌≤◌, length};
+    ghost use Rattle.esync_log.specs.Log.{Log as Logged, log_code};
+
+    ghost Value = { Logged T };
+
+    ghost coded = { log_code T.code };
+
+    ghost view = { λ a. a.log };
+
+    ghost invariant = { λ a. (a.capacity ≡ B.limit) × (1 ≤ B.limit) × (length a.log.held ≤ B.limit) × (B.limit ≤ CAP) };
+}
+
+impl<T: Drop, B: Limit, const CAP: usize, const SUBS: usize> LimitedLog<T, B, CAP, SUBS> {
+    /// Returns a log of this capacity, without messages and subscribers. Its first message gets the number `next`.
+    pub fn new_at(capacity: usize, next: u64) -> Self
+        requires chosen { capacity ≡ B.limit }
+        requires some { 1 ≤ capacity }
+        requires room { capacity ≤ CAP }
+        ensures { result ≡ record { held = []; next = next; positions = replicate SUBS None } }
+    {
+        LimitedLog {
+            capacity,
+            limit: PhantomData,
+            log: Log::new_at(next),
+        }
+    }
+}
+
+impl<T: Clone, B: Limit, const CAP: usize, const SUBS: usize> LogStore
+    for LimitedLog<T, B, CAP, SUBS> {
+    type Message = T;
+
+    ghost capacity = { B.limit };
+
+    ghost places = { SUBS };
+
+    ghost log = { λ log. log };
+
+    fn capacity(&self) -> usize {
+        self.capacity
+    }
+
+    fn len(&self) -> usize {
+        self.log.len()
+    }
+
+    fn is_empty(&self) -> bool {
+        self.log.is_empty()
+    }
+
+    fn is_full(&self) -> bool {
+        self.log.len() >= self.capacity
+    }
+
+    fn is_live(&self, place: usize) -> bool {
+        self.log.is_live(place)
+    }
+
+    fn available(&self, place: usize) -> u64 {
+        self.log.available(place)
+    }
+
+    fn reader_count(&self, index: usize) -> Option<usize> {
+        self.log.reader_count(index)
+    }
+
+    fn has_subscribers(&self) -> bool {
+        self.log.has_subscribers()
+    }
+
+    fn join(&mut self) -> Option<usize> {
+        self.log.join()
+    }
+
+    fn leave(&mut self, place: usize) {
+        self.log.leave(place)
+    }
+
+    fn publish(&mut self, message: T) -> Result<(), TryPublishError<T>> {
+        self.log.publish_within(self.capacity, message)
+    }
+
+    fn publish_immediate(&mut self, message: T) -> Result<(), Exhausted<T>> {
+        self.log.publish_immediate_within(self.capacity, message)
+    }
+
+    fn clear(&mut self) {
+        self.log.clear()
+    }
+
+    fn read(&mut self, place: usize) -> Result<Option<WaitResult<T>>, AllocError> {
+        self.log.read(place)
+    }
+
+    fn read_on(&mut self, place: usize) -> Result<Option<T>, AllocError> {
+        self.log.read_on(place)
+    }
+}
+
+impl<T: Copy, B: Limit, const CAP: usize, const SUBS: usize> Kept for LimitedLog<T, B, CAP, SUBS> {
+    fn kept(&self) -> Result<Self, AllocError> {
+        Ok(LimitedLog {
+            capacity: self.capacity,
+            limit: PhantomData,
+            log: self.log.kept()?,
+        })
+    }
+}

@@ -1,0 +1,104 @@
+//! The capacities that line 1 of a script can say.
+ghost use Rattle.std.specs.Prelude.{◌≡◌, ◌≤◌};
+ghost use Rattle.esync_script.specs.Capacity.{capacity, places, any_capacity};
+
+use std::marker::Model;
+
+/// The greatest capacity.
+pub const MOST: usize = 4096;
+
+/// A capacity that line 1 can say.
+pub trait Size: Drop {
+    ghost use Rattle.std.specs.Prelude.{ℕ, Option};
+
+    /// The capacity of this number of places, if line 1 can say it.
+    ghost sized: { ℕ → Option Self };
+
+    /// How many places it says.
+    ghost size: { Self → ℕ };
+
+    /// Returns the capacity of this number of places, if line 1 can say it.
+    fn of(places: u64) -> Option<Self>
+        ensures { result ≡ sized places };
+
+    /// Returns how many places it says.
+    fn places(&self) -> usize
+        ensures value { result ≡ size self.now }
+        ensures some { 1 ≤ result }
+        ensures few { result ≤ 4096 };
+}
+
+/// A capacity that a script of `syncrun` can say.
+#[derive(Clone, Copy, Debug, PartialEq, Eq)]
+pub enum Capacity {
+    One,
+    Two,
+    Three,
+    Four,
+    Eight,
+}
+
+impl Size for Capacity {
+    ghost sized = { capacity };
+
+    ghost size = { places };
+
+    fn of(places: u64) -> Option<Self> {
+        match places {
+            1 => Some(Capacity::One),
+            2 => Some(Capacity::Two),
+            3 => Some(Capacity::Three),
+            4 => Some(Capacity::Four),
+            8 => Some(Capacity::Eight),
+            _ => None,
+        }
+    }
+
+    fn places(&self) -> usize {
+        match self {
+            Capacity::One => 1,
+            Capacity::Two => 2,
+            Capacity::Three => 3,
+            Capacity::Four => 4,
+            Capacity::Eight => 8,
+        }
+    }
+}
+
+/// Any capacity up to the greatest.
+#[derive(Debug, Drop)]
+pub struct AnyCapacity {
+    places: usize,
+}
+
+impl Model for AnyCapacity {
+    ghost use Rattle.std.specs.Prelude.{ℕ, ◌≤◌};
+    ghost use Rattle.std.specs.Coded.{coded_ℕ};
+
+    ghost Value = { ℕ };
+
+    ghost coded = { coded_ℕ };
+
+    ghost view = { λ c. c.places };
+
+    ghost invariant = { λ c. (1 ≤ c.places) × (c.places ≤ 4096) };
+}
+
+impl Size for AnyCapacity {
+    ghost sized = { any_capacity };
+
+    ghost size = { λ c. c };
+
+    fn of(places: u64) -> Option<Self> {
+        if places < 1 || places > MOST as u64 {
+            return None;
+        }
+        Some(AnyCapacity {
+            places: places as usize,
+        })
+    }
+
+    fn places(&self) -> usize {
+        self.places
+    }
+}
