@@ -65,11 +65,16 @@ fn a_closure_names_messages() {
 
 #[test]
 fn a_capacity_that_no_run_has() {
-    let channel: Channel<NoopRawMutex, u8, 5> = Channel::new();
+    let channel: Channel<NoopRawMutex, u8, 4097> = Channel::new();
     assert_eq!((channel.try_send(1), channel.try_receive()), (Ok(()), Ok(1)));
-    let text = "channel 5\n# stopped at a capacity of 5, where one of [1, 2, 3, 4, 8] can be recorded\n";
-    expect_stop(&channel.run(), Stop::Capacity(5), text);
+    let text = "channel 4097\n# stopped at a capacity of 4097, where 1 to 4096 can be recorded\n";
+    expect_stop(&channel.run(), Stop::Capacity(4097), text);
     keep("stop_at_a_capacity", &channel.run());
+    let pipe: Pipe<NoopRawMutex, 5> = Pipe::new();
+    assert_eq!(pipe.try_write(&[1]), Ok(1));
+    let text = "pipe 5\n# stopped at a capacity of 5, where one of [1, 2, 3, 4, 8] can be recorded\n";
+    expect_stop(&pipe.run(), Stop::FewCapacities(5), text);
+    keep("stop_at_one_of_few", &pipe.run());
     let pubsub: PubSubChannel<NoopRawMutex, u8, 2, 2, 1> = PubSubChannel::new();
     pubsub.clear();
     let text = "pubsub 2\n# stopped at 2 subscribers and 1 publishers, where 4 of each can be recorded\n";
@@ -271,12 +276,12 @@ fn what_is_saved() {
     let folder = std::path::Path::new(env!("CARGO_TARGET_TMPDIR")).join("saved");
     let signal: Signal<NoopRawMutex, u8> = Signal::new();
     signal.signal(1);
-    let channel: Channel<NoopRawMutex, u8, 9> = Channel::new();
-    channel.clear();
+    let pipe: Pipe<NoopRawMutex, 9> = Pipe::new();
+    pipe.clear();
     let word: Signal<NoopRawMutex, Word> = Signal::new();
     word.signal(Word::No(3));
-    let Err(Unsaved::Stopped(stopped)) = recorder::save(&folder) else { panic!("a capacity of 9 stops a recording") };
-    let stopped: Vec<Run> = stopped.into_iter().filter(|run| run.name == channel.run().name).collect();
+    let Err(Unsaved::Stopped(stopped)) = recorder::save(&folder) else { panic!("a pipe of 9 bytes stops a recording") };
+    let stopped: Vec<Run> = stopped.into_iter().filter(|run| run.name == pipe.run().name).collect();
     let reason = format!("{:?}", Unsaved::Stopped(stopped));
     assert!(reason.ends_with("stopped at a capacity of 9, where one of [1, 2, 3, 4, 8] can be recorded"), "{reason}");
     let run = signal.run();

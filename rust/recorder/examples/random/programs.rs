@@ -22,13 +22,16 @@ use crate::executor::within;
 pub type Program = fn(&mut Dice) -> Run;
 
 /// The programs. Each one plays with several capacities.
-pub const PROGRAMS: [Program; 24] = [
+pub const PROGRAMS: [Program; 29] = [
     channel::<1>,
     channel::<2>,
     channel::<3>,
+    channel::<5>,
+    channel::<4096>,
     priority::<Max, 1>,
     priority::<Max, 2>,
     priority::<Min, 3>,
+    priority::<Max, 6>,
     pipe::<1>,
     pipe::<2>,
     pipe::<3>,
@@ -40,10 +43,12 @@ pub const PROGRAMS: [Program; 24] = [
     fair::<1>,
     fair::<2>,
     fair::<3>,
+    fair::<7>,
     watch::<1>,
     watch::<2>,
     pubsub::<1>,
     pubsub::<2>,
+    pubsub::<5>,
     zerocopy,
     once,
     lazy,
@@ -414,8 +419,8 @@ async fn receive(mut receiver: Receiver<'_>, polls: usize) -> (Option<Sender<'_>
 
 /// In a plain program nothing is cleared.
 fn zerocopy(dice: &mut Dice) -> Run {
-    let mut slots = [7, 8, 9];
-    let mut channel = zerocopy_channel::Channel::new(&mut slots[..1 + dice.place(3)]);
+    let mut slots = [7, 8, 9, 10, 11, 12];
+    let mut channel = zerocopy_channel::Channel::new(&mut slots[..1 + dice.place(6)]);
     {
         let (sender, receiver) = channel.split();
         let (mut sender, mut receiver) = (Some(sender), Some(receiver));

@@ -1,14 +1,16 @@
 //! What a recorded run can say, and why a recording stops where a program does more.
 use std::fmt;
 
-/// The capacities that a primitive can have.
-pub const CAPACITIES: [usize; 5] = [1, 2, 3, 4, 8];
+/// The greatest capacity of a primitive.
+pub const GREATEST_CAPACITY: usize = 4096;
+/// The capacities that a pipe and a watch can have.
+pub const FEW_CAPACITIES: [usize; 5] = [1, 2, 3, 4, 8];
 /// How many numbers there are for requests with guards and releasers, and for each kind of handle.
 pub const NUMBERS: usize = 16;
 /// How many bytes a call of a pipe can name.
 pub const ROW: usize = 16;
 // A longer buffer of a pipe is named by its first bytes: no more than these can go in or out.
-const _: () = assert!(CAPACITIES[CAPACITIES.len() - 1] <= ROW);
+const _: () = assert!(FEW_CAPACITIES[FEW_CAPACITIES.len() - 1] <= ROW);
 /// How many subscribers, and how many publishers, a channel for them has.
 pub const HANDLES: usize = 4;
 /// The greatest number of a message.
@@ -21,6 +23,8 @@ pub const FIRST_GIVEN: u32 = u32::MAX - 65_535;
 pub enum Stop {
     /// The primitive has a capacity that no run can have.
     Capacity(usize),
+    /// The pipe or the watch has a capacity that no run of it can have.
+    FewCapacities(usize),
     /// The channel has other numbers of subscribers and publishers than a run's.
     Handles {
         /// How many subscribers it can have.
@@ -51,7 +55,10 @@ impl fmt::Display for Stop {
     fn fmt(&self, f: &mut fmt::Formatter<'_>) -> fmt::Result {
         match self {
             Stop::Capacity(capacity) => {
-                write!(f, "a capacity of {capacity}, where one of {CAPACITIES:?} can be recorded")
+                write!(f, "a capacity of {capacity}, where 1 to {GREATEST_CAPACITY} can be recorded")
+            }
+            Stop::FewCapacities(capacity) => {
+                write!(f, "a capacity of {capacity}, where one of {FEW_CAPACITIES:?} can be recorded")
             }
             Stop::Handles { subscribers, publishers } => {
                 write!(
@@ -77,9 +84,17 @@ impl std::error::Error for Stop {}
 
 /// Finds whether a run can have this capacity.
 pub fn capacity(capacity: usize) -> Result<(), Stop> {
-    match CAPACITIES.contains(&capacity) {
+    match (1..=GREATEST_CAPACITY).contains(&capacity) {
         true => Ok(()),
         false => Err(Stop::Capacity(capacity)),
+    }
+}
+
+/// Finds whether a run of a pipe or a watch can have this capacity.
+pub fn one_of_few(capacity: usize) -> Result<(), Stop> {
+    match FEW_CAPACITIES.contains(&capacity) {
+        true => Ok(()),
+        false => Err(Stop::FewCapacities(capacity)),
     }
 }
 
