@@ -8,7 +8,8 @@ use std::marker::{Brand, Model, PhantomData};
 
 /// A number that only proofs know. A type stands for it, so that contracts over that type can cite it.
 ///
-/// A call that knows the number when it runs takes [`Brand`] for the type, and its proof says the number.
+/// A call that knows the number when it runs takes [`Brand`] for the type, and says the number in the
+/// `Invariants.antt` of its proof.
 pub trait Limit {
     ghost limit: { ℕ };
 }
@@ -17,7 +18,7 @@ impl Limit for Brand {
     ghost limit = { 0 };
 }
 
-/// A store that takes no more messages than were chosen, whatever more there is room for.
+/// A store that holds at most `B.limit` messages, even where the store below has room for more.
 #[derive(Drop)]
 pub struct Limited<S: Store, B: Limit> {
     capacity: usize,
@@ -38,7 +39,8 @@ impl<S: Store, B: Limit> Model for Limited<S, B> {
 }
 
 impl<S: FixedStore, B: Limit> Limited<S, B> {
-    /// Returns an empty store of this capacity.
+    /// Returns an empty store of this capacity, which is the number that `B` stands for. The store below has to have
+    /// room for as many messages.
     pub fn new(capacity: usize) -> Self
         requires chosen { capacity ≡ B.limit }
         requires room { capacity ≤ S.keeping.capacity }

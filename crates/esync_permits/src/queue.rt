@@ -204,7 +204,7 @@ impl<W: Copy + Eq, const N: usize> FixedQueue for Queue<W, N> {
     }
 }
 
-/// A queue that takes no more entries than were chosen, whatever more there is room for.
+/// A queue of at most `B.limit` entries, even where the queue below has more places.
 #[derive(Drop)]
 pub struct LimitedQueue<Q: WaitQueue, B: Limit> {
     places: usize,
@@ -225,7 +225,8 @@ impl<Q: WaitQueue, B: Limit> Model for LimitedQueue<Q, B> {
 }
 
 impl<Q: FixedQueue, B: Limit> LimitedQueue<Q, B> {
-    /// Returns a queue without entries that has so many places.
+    /// Returns a queue without entries. It has this number of places, which is the number that `B` stands for. The
+    /// queue below has to have as many.
     pub fn new(places: usize) -> Self
         requires chosen { places ≡ B.limit }
         requires room { places ≤ Q.places }

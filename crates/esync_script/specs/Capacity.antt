@@ -3,7 +3,7 @@ use Rattle.std.specs.Prelude.{ℕ, ◌==◌, nat_lt, Option, Some, None, if◌th
 use Rattle.esync_script.specs.declared.capacity.Capacity.{Capacity}
 use Rattle.esync_script.specs.declared.capacity.Capacity.TheVariants.{One, Two, Three, Four, Eight}
 
--- in a script of `syncrun`
+-- the capacity that a script of `syncrun` says by this number
 abbrev pub capacity : ℕ → Option Capacity
 capacity n =
     if n == 1 then Some One
@@ -13,6 +13,7 @@ capacity n =
     else if n == 8 then Some Eight
     else None
 
+-- how many places it is
 abbrev pub places : Capacity → ℕ
 places One = 1
 places Two = 2
@@ -20,6 +21,6 @@ places Three = 3
 places Four = 4
 places Eight = 8
 
--- elsewhere
+-- the capacity that any other script says by this number
 abbrev pub any_capacity : ℕ → Option ℕ
 any_capacity n = if nat_lt n 1 then None else if nat_lt 4096 n then None else Some n

@@ -37,7 +37,7 @@ abbrev pub only_one : {A : Type 0} → A → ℕ → Option A
 only_one x n = if n == 1 then Some x else None
 
 module _ {C : Type 0} where
-  -- the primitive that line 1 names, if the capacities are said so
+  -- the primitive that line 1 names, where a number says this capacity, or none
   abbrev pub opening : (ℕ → Option C) → List ℕ → List (List ℕ) → Option (OpeningOf C)
   opening sized name words =
       if is_text name (codes "channel") then option_map (λ c. Channel c) (and_then (one 64 words) sized)
@@ -55,7 +55,7 @@ module _ {C : Type 0} where
       else if is_text name (codes "watch") then and_then (one_or_two 64 32 words) (λ p. option_map (λ c. Watch c p.1) (capacity p.0))
       else None
 
-  -- the setting of the primitive that line 1 names
+  -- the setting of the primitive that line 1 names, where a capacity has this number of places
   abbrev pub setting : (C → ℕ) → OpeningOf C → Setting
   setting size (Channel c) = channel_setting (BoundedList ℕ (size c))
   setting size (Max c) = channel_setting (Bag ℕ (greater nat_cmp) (size c))
@@ -77,7 +77,7 @@ pub record Language : Type 1 where
   pub opening : List ℕ → List (List ℕ) → Option Opening
   pub setting : Opening → Setting
 
--- the language in which capacities are said so
+-- the language whose capacities are of the type C: `sized` reads a number as one, `size` is its number of places
 abbrev pub language : (C : Type 0) → (ℕ → Option C) → (C → ℕ) → Language
 language C sized size = record { Opening = OpeningOf C; opening = opening sized; setting = setting size }
 
@@ -85,7 +85,7 @@ language C sized size = record { Opening = OpeningOf C; opening = opening sized;
 abbrev pub scripts : Language
 scripts = language Capacity capacity places
 
--- the language of recorded runs, with any capacity
+-- the language of recorded runs, and of every script but those of `syncrun`
 abbrev pub runs : Language
 runs = language ℕ any_capacity (λ c. c)
 

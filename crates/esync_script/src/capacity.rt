@@ -7,7 +7,7 @@ use std::marker::Model;
 /// The greatest capacity.
 pub const MOST: usize = 4096;
 
-/// A capacity that line 1 can say.
+/// A capacity as line 1 says it. A language of scripts has one type of capacities.
 pub trait Size: Drop {
     ghost use Rattle.std.specs.Prelude.{ℕ, Option};
 
@@ -65,7 +65,7 @@ impl Size for Capacity {
     }
 }
 
-/// Any capacity up to the greatest.
+/// Any capacity from 1 to the greatest.
 #[derive(Debug, Drop)]
 pub struct AnyCapacity {
     places: usize,

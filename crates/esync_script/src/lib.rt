@@ -33,9 +33,9 @@ pub mod zerocopy;
 
 /// Reads a script, writes the answers of its commands, and returns the status that tells how it ended.
 ///
-/// Line 1 names a primitive and its capacity, as `channel 2`. Each further line is one command. Its answer is one line,
-/// as `Ready(7) | 3 4`: the answer to the command, and the wakers that it hands out, in order, or `-` for none. A line
-/// is read, judged and answered before the next line is read.
+/// Line 1 names a primitive and its capacity, as `channel 2`. The capacity is a [`Capacity`]. Each further line is one
+/// command. Its answer is one line, as `Ready(7) | 3 4`: the answer to the command, and the wakers that it hands out, in
+/// order, or `-` for none. A line is read, judged and answered before the next line is read.
 ///
 /// | Status | The script ended | Written to `errors` |
 /// |---|---|---|
@@ -98,7 +98,8 @@ pub fn explain<R: Read + Drop, W: Write + Drop, N: Write + Drop, E: Write + Drop
 /// Plays a whole script, and writes what `telling` tells of it.
 ///
 /// The commands are those that the lines say, the replies are a run of the primitive that line 1 names, and the output
-/// is what `telling` tells of them.
+/// is what `telling` tells of them. The capacity in line 1 is an [`AnyCapacity`], but of a pipe and a watch a
+/// [`Capacity`].
 ///
 /// # Errors
 ///

@@ -51,7 +51,7 @@ fn is_shared(alloc: Global, text: &str) -> Result<(), Stopped> {
         }
         Some(_) => return Ok(()),
         None => {
-            // (what no script can say is told when it is played)
+            // (a line 1 that no script can have is told of when the script is played)
             if reason_of(alloc, None, line.as_bytes())?.is_some() {
                 return Ok(());
             }

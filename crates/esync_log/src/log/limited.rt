@@ -8,7 +8,7 @@ use esync_base::limited::Limit;
 use std::alloc::AllocError;
 use std::marker::{Model, PhantomData};
 
-/// A log that holds no more messages than were chosen, whatever more there is room for.
+/// A log that holds at most `B.limit` messages, even where `CAP` is greater.
 #[derive(Drop)]
 pub struct LimitedLog<T, B: Limit, const CAP: usize, const SUBS: usize> {
     capacity: usize,
@@ -30,7 +30,8 @@ impl<T, B: Limit, const CAP: usize, const SUBS: usize> Model for LimitedLog<T, B
 }
 
 impl<T: Drop, B: Limit, const CAP: usize, const SUBS: usize> LimitedLog<T, B, CAP, SUBS> {
-    /// Returns a log of this capacity, without messages and subscribers. Its first message gets the number `next`.
+    /// Returns a log without messages and subscribers. Its first message gets the number `next`. Its capacity is the
+    /// number that `B` stands for, from 1 to `CAP`.
     pub fn new_at(capacity: usize, next: u64) -> Self
         requires chosen { capacity ≡ B.limit }
         requires some { 1 ≤ capacity }
