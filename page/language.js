@@ -1,11 +1,11 @@
 // The words of the script language, for hints alone: what a line says is settled by the module.
 //
-// A command is its name and, behind a colon, a letter for each word: k a number, v a value below 2^32, n a number of bytes, b bytes,
-// c a capacity, d one of 1, 2, 3, 4 and 8, 1 the capacity 1; K and V may be missing.
+// A command is its name and, behind a colon, a letter for each word: k a number, v a value, n a number of bytes, b bytes,
+// c a capacity, 1 the capacity 1; K and V may be missing.
 "use strict";
 
 const OPENINGS =
-  "channel:c max:c min:c pubsub:cK signal:1 greedy:1k fair:ck pipe:d once:1 lazy:1v zerocopy:c mutex:1vv watch:dV";
+  "channel:c max:c min:c pubsub:cK signal:1 greedy:1k fair:ck pipe:c once:1 lazy:1v zerocopy:c mutex:1vv watch:cV";
 
 const REQUESTS = "poll:kk end:k";
 
@@ -45,9 +45,7 @@ const LANGUAGE = {
   },
 };
 
-const WORDS = { k: "0", v: "7", n: "1", b: "1,2", c: "2", d: "2", 1: "1", K: "", V: "" };
-
-const CAPACITIES = { c: "of 1 to 4096", d: "of 1, 2, 3, 4 or 8" };
+const WORDS = { k: "0", v: "7", n: "1", b: "1,2", c: "2", 1: "1", K: "", V: "" };
 
 /** The commands among these, each as its name and the letters of its words. */
 function commandsOf(list) {
@@ -97,8 +95,8 @@ function hintOf(primitive, line) {
   if (/[^\x20-\x7e]/.test(line)) {
     return "A line has ASCII characters alone.";
   }
-  if (line.length > 256) {
-    return "A line has at most 256 bytes.";
+  if (line.length > 16640) {
+    return "A line has at most 16640 bytes.";
   }
   const words = line.split(" ");
   const isOpening = primitive === undefined;
@@ -117,8 +115,8 @@ function hintOf(primitive, line) {
     const kind = isOpening ? "primitive" : isAsk ? `request of ${primitive}` : `command of ${primitive}`;
     return `No ${kind} is called ${name}${nearestTo(name, isOpening || isAsk ? commands : [...commands, { name: "start" }])}`;
   }
-  if (/[cd]/.test(known.letters) && isOpening) {
-    return `It is written as ${sampleOf(known)}, with a capacity ${CAPACITIES[known.letters[0]]}.`;
+  if (/c/.test(known.letters) && isOpening) {
+    return `It is written as ${sampleOf(known)}, with a capacity of 1 to 4096.`;
   }
   return `It is written as ${isAsk ? "start 0 " : ""}${sampleOf(known)}.`;
 }

@@ -1,5 +1,5 @@
 -- Places of a ring whose first ones are filled, and the bytes that stand there.
-use Rattle.std.proofs.Common.{◌≡◌, ℕ, zero, suc, ◌+◌, ◌-◌, ◌<◌, ◌≤◌, List, [], ◌∷◌, ◌++◌, take, drop, length, inl, inr, refl, sym, ap, ◌∙◌, append_assoc, arith, length-append, length-drop}
+use Rattle.std.proofs.Common.{◌≡◌, ℕ, zero, suc, ◌+◌, ◌-◌, ◌<◌, ◌≤◌, List, [], ◌∷◌, ◌++◌, take, drop, length, inl, inr, refl, sym, ap, ◌∙◌, append_assoc, arith, length-append, length-drop, length-take}
 use Rattle.std.proofs.Math.Seq.{take-append-add, drop-append-add, take-add}
 use Rattle.std.proofs.lemmas.List.{take-append-drop, take-append-le, drop-append-le, take-take, take_at, take_all, drop_all, drop-take, drop-drop, length-take-le, append-nil}
 use Rattle.std.proofs.lemmas.Bool.Decides.{nat_tests}
@@ -241,6 +241,21 @@ runs-to-end n row s ys l h =
 
 pub laid-to-end : (n : ℕ) (row : List ℕ) (s : Stretch) (ys : List ℕ) → IsLaid n row s → s.count + length ys ≤ n → laid (written (written row (slot n s.front s.count) (take (n - slot n s.front s.count) ys)) 0 (drop (n - slot n s.front s.count) ys)) (record { front = s.front; count = s.count + length ys }) ≡ laid row s ++ ys
 laid-to-end n row s ys l h = ap (λ x. laid x (record { front = s.front; count = s.count + length ys })) (runs-to-end n row s ys l h) ∙ laid-runs n row s ys l h
+
+-- and where the ring's places are the first n of a longer row
+pub laid-in-first : (n : ℕ) (bytes : List ℕ) (s : Stretch) (ys : List ℕ) → IsLaid n (take n bytes) s → s.count + length ys ≤ n → laid (take n (written (written (take n bytes) (slot n s.front s.count) (take (n - slot n s.front s.count) ys)) 0 (drop (n - slot n s.front s.count) ys) ++ drop n bytes)) (record { front = s.front; count = s.count + length ys }) ≡ laid (take n bytes) s ++ ys
+laid-in-first n bytes s ys l h =
+    let place = slot n s.front s.count in
+    let first = take (n - place) ys in
+    let rest = drop (n - place) ys in
+    let within = slot-within n s.front s.count l.first l.fits in
+    let p = l.places in
+    let f = length-take (n - place) ys in
+    let d = length-drop (n - place) ys in
+    let one : length (written (take n bytes) place first) ≡ n = length-written (take n bytes) place first (grind (arith, nat_tests)) ∙ p in
+    let two : length (written (written (take n bytes) place first) 0 rest) ≡ n = length-written (written (take n bytes) place first) 0 rest (omega arith) ∙ one in
+    ap (λ x. laid x (record { front = s.front; count = s.count + length ys })) (take_at (written (written (take n bytes) place first) 0 rest) (drop n bytes) n two)
+    ∙ laid-to-end n (take n bytes) s ys l h
 
 -- and from the front on to the last place of the row, and then from the first place on
 pub oldest-to-end : (n : ℕ) (row : List ℕ) (s : Stretch) (k : ℕ) → IsLaid n row s → k ≤ s.count → take k (take (n - s.front) (drop s.front row) ++ row) ≡ take k (laid row s)

@@ -3,6 +3,7 @@
 
 pub mod blocking_mutex;
 pub mod deque;
+pub mod extent;
 pub mod kept;
 pub mod limited;
 pub mod place;

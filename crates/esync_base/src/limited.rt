@@ -1,8 +1,9 @@
-//! A store whose capacity is chosen when it is made.
-ghost use Rattle.std.specs.Prelude.{◌≡◌, ℕ, ◌≤◌, [], length};
+//! A store, and a list of wakers, whose capacity is chosen when it is made.
+ghost use Rattle.std.specs.Prelude.{◌≡◌, ℕ, ◌<◌, ◌≤◌, ◌++◌, ◌∷◌, [], length, slice_get};
 
 use crate::kept::Kept;
 use crate::store::{FixedStore, Store};
+use crate::waitqueue::{FixedList, WakerList};
 use std::alloc::AllocError;
 use std::marker::{Brand, Model, PhantomData};
 
@@ -93,5 +94,86 @@ impl<S: Store + Kept, B: Limit> Kept for Limited<S, B> {
             store: self.store.kept()?,
             limit: PhantomData,
         })
+    }
+}
+
+/// A list that has room for `B.limit` wakers, even where the list below has room for more.
+pub struct LimitedList<L: WakerList, B: Limit> {
+    room: usize,
+    list: L,
+    limit: PhantomData<B>,
+}
+
+impl<L: WakerList, B: Limit> Clone for LimitedList<L, B> {
+    ghost use Rattle.std.specs.Prelude.{◌≡◌};
+
+    ghost is_clone = { λ s r. r ≡ s };
+
+    ghost is_infallible = { λ _. Unit {0} };
+
+    fn clone(&self) -> Result<Self, AllocError> {
+        Ok(LimitedList {
+            room: self.room,
+            list: self.list,
+            limit: PhantomData,
+        })
+    }
+}
+
+impl<L: WakerList, B: Limit> Copy for LimitedList<L, B> {}
+
+impl<L: WakerList, B: Limit> Model for LimitedList<L, B> {
+    ghost use Rattle.std.specs.Prelude.{◌≡◌, ◌≤◌, length};
+
+    ghost Value = { L };
+
+    ghost view = { λ a. a.list };
+
+    ghost invariant = { λ a. (a.room ≡ B.limit) × (length (L.wakers a.list) ≤ B.limit) × (B.limit ≤ L.room) };
+
+    ghost inverse = { λ list. record { room = B.limit; list = list; limit = record {} } };
+}
+
+impl<L: FixedList, B: Limit> LimitedList<L, B> {
+    /// Returns an empty list with this room, which is the number that `B` stands for. The list below has to have room
+    /// for as many wakers.
+    pub fn new(room: usize) -> Self
+        requires chosen { room ≡ B.limit }
+        requires room { room ≤ L.room }
+        ensures { L.wakers result ≡ [] }
+    {
+        LimitedList {
+            room,
+            list: L::new(),
+            limit: PhantomData,
+        }
+    }
+}
+
+impl<L: WakerList, B: Limit> WakerList for LimitedList<L, B> {
+    type Waker = L::Waker;
+
+    ghost room = { B.limit };
+
+    ghost wakers = { λ list. L.wakers list };
+
+    fn room(&self) -> usize {
+        self.room
+    }
+
+    fn len(&self) -> usize {
+        self.list.len()
+    }
+
+    fn get(&self, i: usize) -> Option<L::Waker> {
+        self.list.get(i)
+    }
+
+    fn push(&mut self, waker: L::Waker) {
+        self.list.push(waker)
+    }
+
+    fn clear(&mut self) {
+        self.list.clear()
     }
 }

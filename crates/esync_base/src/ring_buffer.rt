@@ -6,24 +6,29 @@ ghost use Rattle.std.proofs.Math.ListN.{replicate};
 ghost use Rattle.esync_base.specs.Ring.{slot};
 ghost use Rattle.esync_base.specs.RingBuffer.{filled_run, free_run, begins, written};
 
+use crate::extent::{Chosen, Extent, Fixed};
 use crate::kept::Kept;
-use crate::store::ByteStore;
+use crate::store::{ByteStore, FixedBytes};
 use std::alloc::AllocError;
 use std::marker::Model;
 use std::ops::Range;
 
-/// Which of the `N` places of a ring are filled: a count of places from the first filled one on. Behind the last place
-/// of the ring comes the first again.
+/// Which of the `N` places of a ring are filled.
+pub type RingBuffer<const N: usize> = RingBufferOver<Fixed<N>>;
+
+/// Which places of a ring are filled: a count of places from the first filled one on. Behind the last place of the ring
+/// comes the first again. `E` says how many places the ring has.
 // `start` and `len`, which a read changes, don't stand side by side. Otherwise both may be loaded as one vector right
 // behind a write's store of one of them, and the processor waits for that store.
 #[derive(Debug, Drop)]
-pub struct RingBuffer<const N: usize> {
+pub struct RingBufferOver<E: Extent> {
     start: usize,
     end: usize,
     len: usize,
+    places: E,
 }
 
-impl<const N: usize> Model for RingBuffer<N> {
+impl<E: Extent> Model for RingBufferOver<E> {
     ghost use Rattle.std.specs.Prelude.{◌≡◌, ◌-◌, ◌≤◌};
     ghost use Rattle.esync_base.specs.Ring.{slot};
     ghost use Rattle.esync_base.specs.RingBuffer.{Stretch, stretch_code};
@@ -34,25 +39,42 @@ impl<const N: usize> Model for RingBuffer<N> {
 
     ghost view = { λ a. record { front = a.start; count = a.len } };
 
-    ghost invariant = { λ a. (a.start ≤ N - 1) × (a.len ≤ N) × (a.end ≡ slot N a.start a.len) };
+    ghost invariant = { λ a. (a.start ≤ E.extent - 1) × (a.len ≤ E.extent) × (a.end ≡ slot E.extent a.start a.len) };
 }
 
-impl<const N: usize> RingBuffer<N> {
+impl<const N: usize> RingBufferOver<Fixed<N>> {
     /// Returns a ring with no place filled.
     pub fn new() -> Self
         ensures { result ≡ record { front = 0; count = 0 } }
     {
-        RingBuffer {
+        RingBufferOver::over(Fixed {})
+    }
+}
+
+impl<E: Extent> RingBufferOver<E> {
+    /// Returns a ring of this many places, none of which is filled.
+    pub fn over(places: E) -> Self
+        ensures { result ≡ record { front = 0; count = 0 } }
+    {
+        RingBufferOver {
             end: 0,
             start: 0,
             len: 0,
+            places,
         }
+    }
+
+    // How many places the ring has.
+    fn places(&self) -> usize
+        ensures { result ≡ E.extent }
+    {
+        self.places.get()
     }
 
     // The place behind the newest byte, where the next byte goes.
     fn end(&self) -> usize
-        ensures value { result ≡ slot N self.now.front self.now.count }
-        ensures within { result ≤ N - 1 }
+        ensures value { result ≡ slot E.extent self.now.front self.now.count }
+        ensures within { result ≤ E.extent - 1 }
     {
         self.end
     }
@@ -60,28 +82,30 @@ impl<const N: usize> RingBuffer<N> {
     // The place of the oldest byte, or of the next byte if there is none.
     fn first(&self) -> usize
         ensures value { result ≡ self.now.front }
-        ensures within { result ≤ N - 1 }
+        ensures within { result ≤ E.extent - 1 }
     {
         self.start
     }
 
     // How many free places stand one behind the other, from the next byte's place on.
     fn free_run(&self) -> usize
-        ensures { result ≡ free_run N self.now }
+        ensures value { result ≡ free_run E.extent self.now }
+        ensures fits { slot E.extent self.now.front self.now.count + free_run E.extent self.now < 2 ^ 64 }
     {
-        let before_end = N - self.start;
+        let before_end = self.places() - self.start;
         if self.len < before_end {
             before_end - self.len
         } else {
-            N - self.len
+            self.places() - self.len
         }
     }
 
     // How many filled places stand one behind the other, from the oldest byte's place on.
     fn filled_run(&self) -> usize
-        ensures { result ≡ filled_run N self.now }
+        ensures value { result ≡ filled_run E.extent self.now }
+        ensures fits { self.now.front + result < 2 ^ 64 }
     {
-        let before_end = N - self.start;
+        let before_end = self.places() - self.start;
         if self.len < before_end {
             self.len
         } else {
@@ -91,51 +115,51 @@ impl<const N: usize> RingBuffer<N> {
 
     /// Returns the range of the free places behind the filled ones, up to the wrap: where the next bytes go.
     pub fn push_buf(&self) -> Range<usize>
-        ensures start { result.start ≡ begins (slot N self.now.front self.now.count) (free_run N self.now) }
-        ensures end { result.end ≡ result.start + free_run N self.now }
-        ensures within { result.end ≤ N }
+        ensures start { result.start ≡ begins (slot E.extent self.now.front self.now.count) (free_run E.extent self.now) }
+        ensures end { result.end ≡ result.start + free_run E.extent self.now }
+        ensures within { result.end ≤ E.extent }
     {
         run(self.end, self.free_run())
     }
 
     /// Returns the ranges of all free places: the range of `push_buf`, and the free places behind the wrap.
     pub fn push_bufs(&self) -> (Range<usize>, Range<usize>)
-        ensures start { result.0.start ≡ begins (slot N self.now.front self.now.count) (free_run N self.now) }
-        ensures end { result.0.end ≡ result.0.start + free_run N self.now }
-        ensures within { result.0.end ≤ N }
+        ensures start { result.0.start ≡ begins (slot E.extent self.now.front self.now.count) (free_run E.extent self.now) }
+        ensures end { result.0.end ≡ result.0.start + free_run E.extent self.now }
+        ensures within { result.0.end ≤ E.extent }
         ensures wrapped { result.1.start ≡ 0 }
-        ensures rest { result.1.end ≡ N - self.now.count - free_run N self.now }
+        ensures rest { result.1.end ≡ E.extent - self.now.count - free_run E.extent self.now }
     {
         let first = self.free_run();
-        let rest = N - self.len - first;
+        let rest = self.places() - self.len - first;
         (run(self.end, first), 0..rest)
     }
 
     /// Fills the next `n` free places, in order. At least `n` have to be free.
     pub fn push(&mut self, n: usize)
-        requires { self.old.count + n ≤ N }
+        requires { self.old.count + n ≤ E.extent }
         ensures { self.new ≡ record self.old { count = self.old.count + n } }
     {
-        self.end = behind::<N>(self.end, n);
+        self.end = behind(self.places(), self.end, n);
         self.len += n;
     }
 
     /// Returns the range of the filled places from the oldest byte on, up to the wrap.
     pub fn pop_buf(&self) -> Range<usize>
-        ensures start { result.start ≡ begins self.now.front (filled_run N self.now) }
-        ensures end { result.end ≡ result.start + filled_run N self.now }
-        ensures within { result.end ≤ N }
+        ensures start { result.start ≡ begins self.now.front (filled_run E.extent self.now) }
+        ensures end { result.end ≡ result.start + filled_run E.extent self.now }
+        ensures within { result.end ≤ E.extent }
     {
         run(self.start, self.filled_run())
     }
 
     /// Returns the ranges of all filled places: the range of `pop_buf`, and the filled places behind the wrap.
     pub fn pop_bufs(&self) -> (Range<usize>, Range<usize>)
-        ensures start { result.0.start ≡ begins self.now.front (filled_run N self.now) }
-        ensures end { result.0.end ≡ result.0.start + filled_run N self.now }
-        ensures within { result.0.end ≤ N }
+        ensures start { result.0.start ≡ begins self.now.front (filled_run E.extent self.now) }
+        ensures end { result.0.end ≡ result.0.start + filled_run E.extent self.now }
+        ensures within { result.0.end ≤ E.extent }
         ensures wrapped { result.1.start ≡ 0 }
-        ensures rest { result.1.end ≡ self.now.count - filled_run N self.now }
+        ensures rest { result.1.end ≡ self.now.count - filled_run E.extent self.now }
     {
         let first = self.filled_run();
         (run(self.start, first), 0..self.len - first)
@@ -144,17 +168,17 @@ impl<const N: usize> RingBuffer<N> {
     /// Frees the first `n` filled places. At least `n` have to be filled.
     pub fn pop(&mut self, n: usize)
         requires { n ≤ self.old.count }
-        ensures { self.new ≡ record { front = slot N self.old.front n; count = self.old.count - n } }
+        ensures { self.new ≡ record { front = slot E.extent self.old.front n; count = self.old.count - n } }
     {
-        self.start = behind::<N>(self.start, n);
+        self.start = behind(self.places(), self.start, n);
         self.len -= n;
     }
 
     /// Returns whether all places are filled.
     pub fn is_full(&self) -> bool
-        ensures { IsTrue result ↔ (self.now.count ≡ N) }
+        ensures { IsTrue result ↔ (self.now.count ≡ E.extent) }
     {
-        self.len == N
+        self.len == self.places()
     }
 
     /// Returns whether no place is filled.
@@ -167,7 +191,7 @@ impl<const N: usize> RingBuffer<N> {
     /// Returns how many places are filled.
     pub fn len(&self) -> usize
         ensures value { result ≡ self.now.count }
-        ensures within { result ≤ N }
+        ensures within { result ≤ E.extent }
     {
         self.len
     }
@@ -182,13 +206,13 @@ impl<const N: usize> RingBuffer<N> {
     }
 }
 
-// The place `count` places behind this one.
-fn behind<const N: usize>(place: usize, count: usize) -> usize
-    requires place { place ≤ N - 1 }
-    requires count { count ≤ N }
-    ensures { result ≡ slot N place count }
+// The place `count` places behind this one, in a ring of `n` places.
+fn behind(n: usize, place: usize, count: usize) -> usize
+    requires place { place ≤ n - 1 }
+    requires count { count ≤ n }
+    ensures { result ≡ slot n place count }
 {
-    let before_end = N - place;
+    let before_end = n - place;
     if count < before_end {
         place + count
     } else {
@@ -229,87 +253,87 @@ impl<const N: usize> Clone for ByteRow<N> {
 
 impl<const N: usize> Copy for ByteRow<N> {}
 
-impl<const N: usize> ByteRow<N> {
-    // Writes the bytes from place `at` on.
-    fn copy_in(&mut self, at: usize, from: &[u8])
-        requires { at + length from.now ≤ N }
-        ensures { self.new.bytes ≡ written self.old.bytes at from.now }
-    {
-        let places = &mut self.bytes[..];
-        places[at..at + from.len()].copy_from_slice(from);
-    }
+// Writes the bytes from place `at` on.
+fn copy_in(places: &mut [u8], at: usize, from: &[u8])
+    requires { at + length from.now ≤ length places.old }
+    ensures { places.new ≡ written places.old at from.now }
+{
+    places[at..at + from.len()].copy_from_slice(from);
+}
 
-    // Writes `run` of the bytes from place `start` on, and the rest from the first place on.
-    fn copy_in_runs(&mut self, start: usize, run: usize, from: &[u8])
-        requires first { start + run ≤ N }
-        requires second { length from.now ≤ N }
-        ensures { self.new.bytes ≡ written (written self.old.bytes start (take run from.now)) 0 (drop run from.now) }
-    {
-        if from.len() <= run {
-            self.copy_in(start, from);
-        } else {
-            self.copy_in_two_runs(start, run, from);
-        }
+// Writes `run` of the bytes from place `start` on, and the rest from the first place on.
+fn copy_in_runs(places: &mut [u8], start: usize, run: usize, from: &[u8])
+    requires first { start + run ≤ length places.old }
+    requires second { length from.now ≤ length places.old }
+    ensures { places.new ≡ written (written places.old start (take run from.now)) 0 (drop run from.now) }
+{
+    if from.len() <= run {
+        copy_in(places, start, from);
+    } else {
+        copy_in_two_runs(places, start, run, from);
     }
+}
 
-    // Like `copy_in_runs`, for more bytes than the first run has. Out of line, so that a write that doesn't wrap is
-    // short.
-    #[inline(never)]
-    fn copy_in_two_runs(&mut self, start: usize, run: usize, from: &[u8])
-        requires first { start + run ≤ N }
-        requires second { length from.now ≤ N }
-        requires wraps { run < length from.now }
-        ensures { self.new.bytes ≡ written (written self.old.bytes start (take run from.now)) 0 (drop run from.now) }
-    {
-        self.copy_in(start, &from[..run]);
-        self.copy_in(0, &from[run..]);
-    }
+// Like `copy_in_runs`, for more bytes than the first run has. Out of line, so that a write that doesn't wrap is short.
+#[inline(never)]
+fn copy_in_two_runs(places: &mut [u8], start: usize, run: usize, from: &[u8])
+    requires first { start + run ≤ length places.old }
+    requires second { length from.now ≤ length places.old }
+    requires wraps { run < length from.now }
+    ensures { places.new ≡ written (written places.old start (take run from.now)) 0 (drop run from.now) }
+{
+    copy_in(places, start, &from[..run]);
+    copy_in(places, 0, &from[run..]);
+}
 
-    // Reads the bytes from place `at` on.
-    fn copy_out(&self, at: usize, to: &mut [u8])
-        requires { at + length to.old ≤ N }
-        ensures { to.new ≡ take (length to.old) (drop at self.now.bytes) }
-    {
-        let places = &self.bytes[..];
-        to.copy_from_slice(&places[at..at + to.len()]);
-    }
+// Reads the bytes from place `at` on.
+fn copy_out(places: &[u8], at: usize, to: &mut [u8])
+    requires { at + length to.old ≤ length places.now }
+    ensures { to.new ≡ take (length to.old) (drop at places.now) }
+{
+    to.copy_from_slice(&places[at..at + to.len()]);
+}
 
-    // Reads `run` bytes from place `start` on, and the rest from the first place on.
-    fn copy_out_runs(&self, start: usize, run: usize, to: &mut [u8])
-        requires first { start + run ≤ N }
-        requires second { length to.old ≤ N }
-        ensures { to.new ≡ take (length to.old) (take run (drop start self.now.bytes) ++ self.now.bytes) }
-    {
-        if to.len() <= run {
-            self.copy_out(start, to);
-        } else {
-            self.copy_out_two_runs(start, run, to);
-        }
+// Reads `run` bytes from place `start` on, and the rest from the first place on.
+fn copy_out_runs(places: &[u8], start: usize, run: usize, to: &mut [u8])
+    requires first { start + run ≤ length places.now }
+    requires second { length to.old ≤ length places.now }
+    ensures { to.new ≡ take (length to.old) (take run (drop start places.now) ++ places.now) }
+{
+    if to.len() <= run {
+        copy_out(places, start, to);
+    } else {
+        copy_out_two_runs(places, start, run, to);
     }
+}
 
-    // Like `copy_out_runs`, for more bytes than the first run has. Out of line, so that a read that doesn't wrap is
-    // short.
-    #[inline(never)]
-    fn copy_out_two_runs(&self, start: usize, run: usize, to: &mut [u8])
-        requires first { start + run ≤ N }
-        requires second { length to.old ≤ N }
-        requires wraps { run < length to.old }
-        ensures { to.new ≡ take (length to.old) (take run (drop start self.now.bytes) ++ self.now.bytes) }
-    {
-        self.copy_out(start, &mut to[..run]);
-        self.copy_out(0, &mut to[run..]);
-    }
+// Like `copy_out_runs`, for more bytes than the first run has. Out of line, so that a read that doesn't wrap is short.
+#[inline(never)]
+fn copy_out_two_runs(places: &[u8], start: usize, run: usize, to: &mut [u8])
+    requires first { start + run ≤ length places.now }
+    requires second { length to.old ≤ length places.now }
+    requires wraps { run < length to.old }
+    ensures { to.new ≡ take (length to.old) (take run (drop start places.now) ++ places.now) }
+{
+    copy_out(places, start, &mut to[..run]);
+    copy_out(places, 0, &mut to[run..]);
 }
 
 /// At most `N` bytes, oldest first, in a ring of `N` places.
+pub type ByteRing<const N: usize> = ByteRingOver<Fixed<N>, N>;
+
+/// At most `B.limit` bytes, oldest first, in a ring of as many of `N` places.
+pub type LimitedRing<B, const N: usize> = ByteRingOver<Chosen<B>, N>;
+
+/// Bytes, oldest first, in a ring of places: the first of `N` places, as many as `E` says.
 #[derive(Debug, Drop)]
-pub struct ByteRing<const N: usize> {
-    ring: RingBuffer<N>,
+pub struct ByteRingOver<E: Extent, const N: usize> {
+    ring: RingBufferOver<E>,
     row: ByteRow<N>,
 }
 
-impl<const N: usize> Model for ByteRing<N> {
-    ghost use Rattle.std.specs.Prelude.{ℕ};
+impl<E: Extent, const N: usize> Model for ByteRingOver<E, N> {
+    ghost use Rattle.std.specs.Prelude.{ℕ, ◌≤◌, take};
     ghost use Rattle.std.specs.Coded.{coded_ℕ};
     ghost use Rattle.esync_base.specs.Ring.{Ringed, ringed_code};
     ghost use Rattle.esync_base.specs.RingBuffer.{IsLaid, laid};
@@ -318,27 +342,38 @@ impl<const N: usize> Model for ByteRing<N> {
 
     ghost coded = { ringed_code coded_ℕ };
 
-    ghost view = { λ a. record { items = laid a.row.bytes a.ring; front = a.ring.front } };
+    ghost view = { λ a. record { items = laid (take E.extent a.row.bytes) a.ring; front = a.ring.front } };
 
-    ghost invariant = { λ a. IsLaid N a.row.bytes a.ring };
+    ghost invariant = { λ a. (E.extent ≤ N) × IsLaid E.extent (take E.extent a.row.bytes) a.ring };
 }
 
-impl<const N: usize> ByteRing<N> {
+impl<const N: usize> ByteRingOver<Fixed<N>, N> {
     /// Returns an empty ring.
     pub fn new() -> Self
         ensures items { result.items ≡ [] }
         ensures front { result.front ≡ 0 }
     {
-        ByteRing {
+        ByteRingOver::over(Fixed {})
+    }
+}
+
+impl<E: Extent, const N: usize> ByteRingOver<E, N> {
+    /// Returns an empty ring of this many places, which are `N` at most.
+    pub fn over(places: E) -> Self
+        requires { E.extent ≤ N }
+        ensures items { result.items ≡ [] }
+        ensures front { result.front ≡ 0 }
+    {
+        ByteRingOver {
             row: ByteRow { bytes: [0; N] },
-            ring: RingBuffer::new(),
+            ring: RingBufferOver::over(places),
         }
     }
 
     /// Returns how many bytes are in the ring.
     pub fn len(&self) -> usize
         ensures value { result ≡ length self.now.items }
-        ensures within { result ≤ N }
+        ensures within { result ≤ E.extent }
     {
         self.ring.len()
     }
@@ -352,7 +387,7 @@ impl<const N: usize> ByteRing<N> {
 
     /// Returns whether the ring is full.
     pub fn is_full(&self) -> bool
-        ensures { IsTrue result ↔ (length self.now.items ≡ N) }
+        ensures { IsTrue result ↔ (length self.now.items ≡ E.extent) }
     {
         self.ring.is_full()
     }
@@ -360,17 +395,23 @@ impl<const N: usize> ByteRing<N> {
     /// Appends as many of the slice's bytes as there is room for, and returns how many. They are copied in at most two
     /// runs.
     pub fn write(&mut self, from: &[u8]) -> usize
-        ensures count { result ≡ min (length from.now) (N - length self.old.items) }
+        ensures count { result ≡ min (length from.now) (E.extent - length self.old.items) }
         ensures items { self.new.items ≡ self.old.items ++ take result from.now }
         ensures front { self.new.front ≡ self.old.front }
-        ensures within { length self.new.items ≤ N }
+        ensures within { length self.new.items ≤ E.extent }
     {
         let held = self.ring.len();
-        let free = N - held;
+        let places = self.ring.places();
+        let free = places - held;
         let n = if from.len() < free { from.len() } else { free };
         let start = self.ring.end();
         self.ring.push(n);
-        self.row.copy_in_runs(start, N - start, &from[..n]);
+        copy_in_runs(
+            &mut self.row.bytes[..places],
+            start,
+            places - start,
+            &from[..n],
+        );
         n
     }
 
@@ -380,24 +421,30 @@ impl<const N: usize> ByteRing<N> {
         ensures count { result ≡ min (length to.old) (length self.old.items) }
         ensures bytes { to.new ≡ take result self.old.items ++ drop result to.old }
         ensures items { self.new.items ≡ drop result self.old.items }
-        ensures front { self.new.front ≡ slot N self.old.front result }
+        ensures front { self.new.front ≡ slot E.extent self.old.front result }
     {
         let held = self.ring.len();
         let n = if to.len() < held { to.len() } else { held };
+        let places = self.ring.places();
         let start = self.ring.first();
         self.ring.pop(n);
-        self.row.copy_out_runs(start, N - start, &mut to[..n]);
+        copy_out_runs(
+            &self.row.bytes[..places],
+            start,
+            places - start,
+            &mut to[..n],
+        );
         n
     }
 
     /// Returns the oldest bytes, up to the wrap of the ring. They stay in the ring. The slice is empty only if the ring
     /// is.
     pub fn filled(&self) -> &[u8]
-        ensures value { result.now ≡ take (N - self.now.front) self.now.items }
+        ensures value { result.now ≡ take (E.extent - self.now.front) self.now.items }
         ensures some { 0 < length self.now.items → 0 < length result.now }
     {
         let run = self.ring.pop_buf();
-        let places = &self.row.bytes[..];
+        let places = &self.row.bytes[..self.ring.places()];
         &places[run.start..run.end]
     }
 
@@ -405,7 +452,7 @@ impl<const N: usize> ByteRing<N> {
     pub fn consume(&mut self, n: usize)
         requires { n ≤ length self.old.items }
         ensures items { self.new.items ≡ drop n self.old.items }
-        ensures front { self.new.front ≡ slot N self.old.front n }
+        ensures front { self.new.front ≡ slot E.extent self.old.front n }
     {
         self.ring.pop(n);
     }
@@ -419,52 +466,59 @@ impl<const N: usize> ByteRing<N> {
     }
 }
 
-impl<const N: usize> ByteStore for ByteRing<N> {
-    ghost capacity = { N };
+impl<E: Extent, const N: usize> ByteStore for ByteRingOver<E, N> {
+    ghost capacity = { E.extent };
 
     ghost ring = { λ r. r };
 
-    fn new() -> Self {
-        ByteRing::new()
-    }
-
     fn len(&self) -> usize {
-        ByteRing::len(self)
+        ByteRingOver::len(self)
     }
 
-    fn capacity() -> usize {
-        N
+    fn capacity(&self) -> usize {
+        self.ring.places()
     }
 
     fn write(&mut self, from: &[u8]) -> usize {
-        ByteRing::write(self, from)
+        ByteRingOver::write(self, from)
     }
 
     fn read(&mut self, to: &mut [u8]) -> usize {
-        ByteRing::read(self, to)
+        ByteRingOver::read(self, to)
     }
 
     fn filled(&self) -> &[u8] {
-        ByteRing::filled(self)
+        ByteRingOver::filled(self)
     }
 
     fn consume(&mut self, n: usize) {
-        ByteRing::consume(self, n)
+        ByteRingOver::consume(self, n)
     }
 
     fn clear(&mut self) {
-        ByteRing::clear(self)
+        ByteRingOver::clear(self)
     }
 }
 
-impl<const N: usize> Kept for ByteRing<N> {
+impl<const N: usize> FixedBytes for ByteRingOver<Fixed<N>, N> {
+    fn new() -> Self {
+        ByteRingOver::over(Fixed {})
+    }
+
+    fn places() -> usize {
+        N
+    }
+}
+
+impl<E: Extent, const N: usize> Kept for ByteRingOver<E, N> {
     fn kept(&self) -> Result<Self, AllocError> {
-        Ok(ByteRing {
+        Ok(ByteRingOver {
             row: self.row,
-            ring: RingBuffer {
+            ring: RingBufferOver {
                 end: self.ring.end,
                 start: self.ring.start,
                 len: self.ring.len,
+                places: self.ring.places,
             },
         })
     }

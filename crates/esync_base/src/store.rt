@@ -61,18 +61,13 @@ pub trait ByteStore: Drop {
     /// The bytes in the store, oldest first, and the place of the oldest.
     ghost ring: { Self → Ringed ℕ };
 
-    /// Returns an empty store, which begins at the first place.
-    fn new() -> Self
-        ensures items { (ring result).items ≡ [] }
-        ensures front { (ring result).front ≡ 0 };
-
     /// Returns how many bytes are in the store.
     fn len(&self) -> usize
         ensures value { result ≡ length (ring self.now).items }
         ensures within { result ≤ capacity };
 
     /// Returns how many bytes the store has room for.
-    fn capacity() -> usize
+    fn capacity(&self) -> usize
         ensures { result ≡ capacity };
 
     /// Appends as many of the slice's bytes as there is room for, and returns how many.
@@ -105,4 +100,16 @@ pub trait ByteStore: Drop {
     fn clear(&mut self)
         ensures items { (ring self.new).items ≡ [] }
         ensures front { (ring self.new).front ≡ 0 };
+}
+
+/// A store of bytes whose capacity stands in its type.
+pub trait FixedBytes: ByteStore {
+    /// Returns an empty store, which begins at the first place.
+    fn new() -> Self
+        ensures items { (Self.ring result).items ≡ [] }
+        ensures front { (Self.ring result).front ≡ 0 };
+
+    /// Returns how many bytes each store of this type has room for.
+    fn places() -> usize
+        ensures { result ≡ Self.capacity };
 }

@@ -297,12 +297,8 @@ pub trait WakerList: Copy {
     /// The wakers in the list, in order.
     ghost wakers: { Self → List Self.Waker };
 
-    /// Returns an empty list.
-    fn new() -> Self
-        ensures { wakers result ≡ [] };
-
     /// Returns how many wakers the list has room for.
-    fn room() -> usize
+    fn room(&self) -> usize
         ensures { result ≡ room };
 
     /// Returns how many wakers are in the list.
@@ -324,6 +320,13 @@ pub trait WakerList: Copy {
         ensures { wakers self.new ≡ [] };
 }
 
+/// A list of wakers whose room stands in its type.
+pub trait FixedList: WakerList {
+    /// Returns an empty list.
+    fn new() -> Self
+        ensures { Self.wakers result ≡ [] };
+}
+
 impl<W: Copy + Eq, const N: usize> WakerList for Wakes<W, N> {
     type Waker = W;
 
@@ -331,11 +334,7 @@ impl<W: Copy + Eq, const N: usize> WakerList for Wakes<W, N> {
 
     ghost wakers = { λ list. list };
 
-    fn new() -> Self {
-        Wakes::new()
-    }
-
-    fn room() -> usize {
+    fn room(&self) -> usize {
         N
     }
 
@@ -353,6 +352,12 @@ impl<W: Copy + Eq, const N: usize> WakerList for Wakes<W, N> {
 
     fn clear(&mut self) {
         Wakes::clear(self)
+    }
+}
+
+impl<W: Copy + Eq, const N: usize> FixedList for Wakes<W, N> {
+    fn new() -> Self {
+        Wakes::new()
     }
 }
 

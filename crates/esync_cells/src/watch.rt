@@ -10,7 +10,9 @@ ghost use Rattle.esync_cells.specs.Watch.{fresh, judged, found, Answers, seen_af
 ghost use Rattle.esync_cells.specs.Watched.{Tells, TellsIf};
 
 use esync_base::kept::Kept;
-use esync_base::waitqueue::{Context, Poll, Registered, WakerList, WakerRegistrations, Wakes};
+use esync_base::waitqueue::{
+    Context, FixedList, Poll, Registered, WakerList, WakerRegistrations, Wakes,
+};
 pub use handles::{
     AnonRcv, AnonReceiver, Anything, Changed, ChangedAnd, DynAnonReceiver, DynReceiver, DynSender,
     Get, GetAnd, News, Passing, PassingNews, Rcv, Receiver, Sender, Snd, Sought, Waiting,
@@ -114,7 +116,7 @@ impl<T, L: WakerList> Registered for WatchOver<T, L> {
     }
 }
 
-impl<T: Drop, L: WakerList> WatchOver<T, L> {
+impl<T: Drop, L: FixedList> WatchOver<T, L> {
     /// Returns a watch without a value, at version 0.
     pub fn new() -> Self
         ensures { result ≡ fresh None 0 }
@@ -126,22 +128,27 @@ impl<T: Drop, L: WakerList> WatchOver<T, L> {
     pub fn new_with(value: T) -> Self
         ensures { result ≡ fresh (Some value) 0 }
     {
-        WatchOver {
-            value: Some(value),
-            version: 0,
-            waiters: WakerRegistrations::new(),
-            receivers: 0,
-        }
+        WatchOver::over(L::new(), Some(value), 0)
     }
 
     /// Returns a watch without a value, at the version.
     pub fn new_at(version: u64) -> Self
         ensures { result ≡ fresh None version }
     {
+        WatchOver::over(L::new(), None, version)
+    }
+}
+
+impl<T: Drop, L: WakerList> WatchOver<T, L> {
+    /// Returns a watch with this list, in which no waker may be, and with the value at the version, if one is given.
+    pub fn over(list: L, value: Option<T>, version: u64) -> Self
+        requires { L.wakers list ≡ [] }
+        ensures { result ≡ fresh value version }
+    {
         WatchOver {
-            value: None,
+            value,
             version,
-            waiters: WakerRegistrations::new(),
+            waiters: WakerRegistrations::over(list),
             receivers: 0,
         }
     }
@@ -272,7 +279,7 @@ impl<T: Drop, L: WakerList> WatchOver<T, L> {
         ensures answer { result ≡ nat_lt self.old.receivers L.room }
         ensures state { self.new ≡ record self.old { receivers = counted result self.old.receivers } }
     {
-        let has_room = self.receivers < L::room();
+        let has_room = self.receivers < self.waiters.room();
         if has_room {
             self.receivers += 1;
         }

@@ -27,23 +27,23 @@ pub struct Sending<'c, S: Store, H: Hand<u64>> {
 #[derive(Drop)]
 pub enum Held<'c, S: Store, H: Hand<u64>> {
     Send(Sending<'c, S, H>),
-    TrySend(u32),
+    TrySend(u64),
     Receive(ReceiveFuture<'c, SharedMailbox<S, u64, H>>),
     TryReceive,
     SendReady,
     ReceiveReady,
 }
 
-impl<'c, S: FixedStore<Message = u32>, H: Hand<u64>> Form for Channel<'c, S, H> {
-    type Ask = ChannelAsk<u32>;
+impl<'c, S: FixedStore<Message = u64>, H: Hand<u64>> Form for Channel<'c, S, H> {
+    type Ask = ChannelAsk<u64>;
 
-    type Call = ChannelCall<u32>;
+    type Call = ChannelCall<u64>;
 
-    type Heard = ChannelHeard<u32>;
+    type Heard = ChannelHeard<u64>;
 
     type Held = Held<'c, S, H>;
 
-    fn begin(&mut self, ask: ChannelAsk<u32>) -> Option<Self::Held> {
+    fn begin(&mut self, ask: ChannelAsk<u64>) -> Option<Self::Held> {
         Some(match ask {
             ChannelAsk::Send(message) => self.send(message),
             ChannelAsk::Receive => self.receive(),
@@ -52,7 +52,7 @@ impl<'c, S: FixedStore<Message = u32>, H: Hand<u64>> Form for Channel<'c, S, H> 
         })
     }
 
-    fn poll(&mut self, held: Self::Held, cx: &Context<u64>) -> Turn<ChannelHeard<u32>, Self::Held> {
+    fn poll(&mut self, held: Self::Held, cx: &Context<u64>) -> Turn<ChannelHeard<u64>, Self::Held> {
         match held {
             Held::Send(future) => send(future, cx),
             Held::TrySend(message) => self.try_send_by(message, cx),
@@ -65,9 +65,9 @@ impl<'c, S: FixedStore<Message = u32>, H: Hand<u64>> Form for Channel<'c, S, H> 
 
     fn call(
         &mut self,
-        call: ChannelCall<u32>,
+        call: ChannelCall<u64>,
         _place: &mut Option<Self::Held>,
-    ) -> Answer<ChannelHeard<u32>> {
+    ) -> Answer<ChannelHeard<u64>> {
         match call {
             ChannelCall::TrySend(message) => {
                 Answer::Gives(ChannelHeard::TrySent(self.try_send(message)))
@@ -91,7 +91,7 @@ impl<'c, S: FixedStore<Message = u32>, H: Hand<u64>> Form for Channel<'c, S, H> 
     }
 }
 
-impl<'c, S: FixedStore<Message = u32>, H: Hand<u64>> Channel<'c, S, H> {
+impl<'c, S: FixedStore<Message = u64>, H: Hand<u64>> Channel<'c, S, H> {
     /// Returns this channel, called in these ways.
     pub fn new(channel: &'c SharedMailbox<S, u64, H>, doors: Doors) -> Self {
         Channel {
@@ -102,7 +102,7 @@ impl<'c, S: FixedStore<Message = u32>, H: Hand<u64>> Channel<'c, S, H> {
         }
     }
 
-    fn send(&mut self, message: u32) -> Held<'c, S, H> {
+    fn send(&mut self, message: u64) -> Held<'c, S, H> {
         if !self.doors.is_future() {
             return Held::TrySend(message);
         }
@@ -126,7 +126,7 @@ impl<'c, S: FixedStore<Message = u32>, H: Hand<u64>> Channel<'c, S, H> {
         }
     }
 
-    fn poll_receive(&mut self, cx: &Context<u64>) -> Poll<u32> {
+    fn poll_receive(&mut self, cx: &Context<u64>) -> Poll<u64> {
         match self.doors.next() {
             Door::Own => match self.channel.try_receive_with_context(Some(cx)) {
                 Ok(message) => Poll::Ready(message),
@@ -150,7 +150,7 @@ impl<'c, S: FixedStore<Message = u32>, H: Hand<u64>> Channel<'c, S, H> {
         }
     }
 
-    fn try_send(&mut self, message: u32) -> Result<(), TrySendError<u32>> {
+    fn try_send(&mut self, message: u64) -> Result<(), TrySendError<u64>> {
         match self.doors.next() {
             Door::Own => self.channel.try_send(message),
             Door::Handle | Door::Dynamic => self.sender.try_send(message),
@@ -159,16 +159,16 @@ impl<'c, S: FixedStore<Message = u32>, H: Hand<u64>> Channel<'c, S, H> {
 
     fn try_send_by(
         &mut self,
-        message: u32,
+        message: u64,
         cx: &Context<u64>,
-    ) -> Turn<ChannelHeard<u32>, Held<'c, S, H>> {
+    ) -> Turn<ChannelHeard<u64>, Held<'c, S, H>> {
         match self.channel.try_send_with_context(message, Some(cx)) {
             Ok(()) => Turn::over(ChannelHeard::Ready),
             Err(TrySendError::Full(message)) => Turn::waits(Held::TrySend(message)),
         }
     }
 
-    fn try_receive(&mut self) -> Result<u32, TryReceiveError> {
+    fn try_receive(&mut self) -> Result<u64, TryReceiveError> {
         match self.doors.next() {
             Door::Own => self.channel.try_receive(),
             Door::Handle | Door::Dynamic => self.receiver.try_receive(),
@@ -192,10 +192,10 @@ impl<'c, S: FixedStore<Message = u32>, H: Hand<u64>> Channel<'c, S, H> {
     }
 }
 
-fn send<'c, S: Store<Message = u32>, H: Hand<u64>>(
+fn send<'c, S: Store<Message = u64>, H: Hand<u64>>(
     sending: Sending<'c, S, H>,
     cx: &Context<u64>,
-) -> Turn<ChannelHeard<u32>, Held<'c, S, H>> {
+) -> Turn<ChannelHeard<u64>, Held<'c, S, H>> {
     let Sending { mut future } = sending;
     if future.is_finished() {
         return over();
@@ -204,16 +204,16 @@ fn send<'c, S: Store<Message = u32>, H: Hand<u64>>(
     is_ready(polled, Held::Send(Sending { future }))
 }
 
-fn receive<'c, S: Store<Message = u32>, H: Hand<u64>>(
+fn receive<'c, S: Store<Message = u64>, H: Hand<u64>>(
     mut future: ReceiveFuture<'c, SharedMailbox<S, u64, H>>,
     cx: &Context<u64>,
-) -> Turn<ChannelHeard<u32>, Held<'c, S, H>> {
+) -> Turn<ChannelHeard<u64>, Held<'c, S, H>> {
     let polled = future.poll(cx);
     is_received(polled, Held::Receive(future))
 }
 
 // Returns what a poll leaves of a request for a message.
-fn is_received<H: Drop>(polled: Poll<u32>, held: H) -> Turn<ChannelHeard<u32>, H> {
+fn is_received<H: Drop>(polled: Poll<u64>, held: H) -> Turn<ChannelHeard<u64>, H> {
     match polled {
         Poll::Ready(message) => Turn::over(ChannelHeard::Received(message)),
         Poll::Pending => Turn::waits(held),
@@ -221,7 +221,7 @@ fn is_received<H: Drop>(polled: Poll<u32>, held: H) -> Turn<ChannelHeard<u32>, H
 }
 
 // Returns what a poll leaves of a request that gives nothing.
-fn is_ready<H: Drop>(polled: Poll<()>, held: H) -> Turn<ChannelHeard<u32>, H> {
+fn is_ready<H: Drop>(polled: Poll<()>, held: H) -> Turn<ChannelHeard<u64>, H> {
     match polled {
         Poll::Ready(()) => Turn::over(ChannelHeard::Ready),
         Poll::Pending => Turn::waits(held),

@@ -6,9 +6,9 @@ use esync_guards::mutex::{LockFuture, MappedMutexGuard, Mutex, MutexGuard, Secon
 use esync_machine::primitive::{Answer, Turn};
 
 /// The value of the mutex.
-pub type Pair = (u32, u32);
+pub type Pair = (u64, u64);
 
-type Heard = MutexHeard<Pair, u32>;
+type Heard = MutexHeard<Pair, u64>;
 
 /// A mutex of two values.
 #[derive(Drop)]
@@ -21,13 +21,13 @@ pub struct Guarded<'m, H> {
 pub enum Held<'m, H: Hand<u64>> {
     Lock(LockFuture<'m, Pair, u64, H>),
     Guard(MutexGuard<'m, Pair, u64, H>),
-    Mapped(MappedMutexGuard<'m, Pair, u32, Second, u64, H>),
+    Mapped(MappedMutexGuard<'m, Pair, u64, Second, u64, H>),
 }
 
 impl<'m, H: Hand<u64>> Form for Guarded<'m, H> {
     type Ask = Lock;
 
-    type Call = MutexCall<Pair, u32>;
+    type Call = MutexCall<Pair, u64>;
 
     type Heard = Heard;
 
@@ -45,7 +45,7 @@ impl<'m, H: Hand<u64>> Form for Guarded<'m, H> {
         }
     }
 
-    fn number(call: &MutexCall<Pair, u32>) -> Option<usize> {
+    fn number(call: &MutexCall<Pair, u64>) -> Option<usize> {
         match call {
             MutexCall::TryLock(r)
             | MutexCall::Read(r)
@@ -57,7 +57,7 @@ impl<'m, H: Hand<u64>> Form for Guarded<'m, H> {
 
     fn call(
         &mut self,
-        call: MutexCall<Pair, u32>,
+        call: MutexCall<Pair, u64>,
         place: &mut Option<Self::Held>,
     ) -> Answer<Heard> {
         match call {
@@ -140,7 +140,7 @@ fn write_at<H: Hand<u64>>(place: &mut Option<Held<'_, H>>, value: Pair) -> Answe
 }
 
 // Writes the part through a mapped guard.
-fn write_part_at<H: Hand<u64>>(place: &mut Option<Held<'_, H>>, part: u32) -> Answer<Heard> {
+fn write_part_at<H: Hand<u64>>(place: &mut Option<Held<'_, H>>, part: u64) -> Answer<Heard> {
     let Some(Held::Mapped(guard)) = place else {
         return Answer::NoSuch;
     };

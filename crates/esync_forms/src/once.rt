@@ -10,7 +10,7 @@ use std::mem;
 /// lock itself.
 #[derive(Drop)]
 pub struct Once<H> {
-    lock: OnceLock<u32, u64, H>,
+    lock: OnceLock<u64, u64, H>,
     hand: H,
     doors: Doors,
 }
@@ -18,9 +18,9 @@ pub struct Once<H> {
 impl<H: Hand<u64> + Copy> Form for Once<H> {
     type Ask = Get;
 
-    type Call = OnceCall<u32>;
+    type Call = OnceCall<u64>;
 
-    type Heard = OnceHeard<u32>;
+    type Heard = OnceHeard<u64>;
 
     type Held = Get;
 
@@ -28,14 +28,14 @@ impl<H: Hand<u64> + Copy> Form for Once<H> {
         Some(ask)
     }
 
-    fn poll(&mut self, held: Get, cx: &Context<u64>) -> Turn<OnceHeard<u32>, Get> {
+    fn poll(&mut self, held: Get, cx: &Context<u64>) -> Turn<OnceHeard<u64>, Get> {
         match self.get(cx) {
             Poll::Ready(value) => Turn::over(OnceHeard::Got(value)),
             Poll::Pending => Turn::waits(held),
         }
     }
 
-    fn call(&mut self, call: OnceCall<u32>, _place: &mut Option<Get>) -> Answer<OnceHeard<u32>> {
+    fn call(&mut self, call: OnceCall<u64>, _place: &mut Option<Get>) -> Answer<OnceHeard<u64>> {
         Answer::Gives(match call {
             OnceCall::TryGet => OnceHeard::Found(self.lock.try_get().copied()),
             OnceCall::Init(value) => OnceHeard::HasSet(self.lock.init(value)),
@@ -56,7 +56,7 @@ impl<H: Hand<u64> + Copy> Once<H> {
         }
     }
 
-    fn get(&mut self, cx: &Context<u64>) -> Poll<u32> {
+    fn get(&mut self, cx: &Context<u64>) -> Poll<u64> {
         match self.doors.next() {
             Door::Own => copied(self.lock.poll_get(cx)),
             Door::Handle => copied(self.lock.get().poll(cx)),
@@ -65,7 +65,7 @@ impl<H: Hand<u64> + Copy> Once<H> {
     }
 
     // Gets the value once more: a future acts anew after it was ready.
-    fn get_again(&self, cx: &Context<u64>) -> Poll<u32> {
+    fn get_again(&self, cx: &Context<u64>) -> Poll<u64> {
         let mut get = self.lock.get();
         match get.poll(cx) {
             Poll::Ready(_shown) => copied(get.poll(cx)),
@@ -74,7 +74,7 @@ impl<H: Hand<u64> + Copy> Once<H> {
     }
 
     // Takes the value. A lock that was taken apart leaves a lock without a value.
-    fn take(&mut self) -> Option<u32> {
+    fn take(&mut self) -> Option<u64> {
         match self.doors.next() {
             Door::Own | Door::Handle => self.lock.take(),
             Door::Dynamic => { mem::replace(&mut self.lock, OnceLock::new(self.hand)).into_inner() }
@@ -83,7 +83,7 @@ impl<H: Hand<u64> + Copy> Once<H> {
 }
 
 // Returns a copy of the value that a poll lends.
-fn copied(polled: Poll<&u32>) -> Poll<u32> {
+fn copied(polled: Poll<&u64>) -> Poll<u64> {
     match polled {
         Poll::Ready(value) => Poll::Ready(*value),
         Poll::Pending => Poll::Pending,

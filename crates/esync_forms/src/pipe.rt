@@ -4,7 +4,7 @@ ghost use Rattle.std.specs.Prelude.{◌≡◌, ◌≤◌, IfOk, OnErr, length};
 
 use crate::form::{Door, Doors, Form, over, sizes};
 use bumpalo::Bump;
-use esync_base::store::ByteStore;
+use esync_base::store::FixedBytes;
 use esync_base::waitqueue::{Context, Hand, Poll, TaskId};
 use esync_machine::primitive::{Answer, Turn};
 use esync_pipe::bytes::Bytes;
@@ -22,12 +22,12 @@ type Few = Bytes<16>;
 
 /// A pipe that is split anew wherever one of its ends is called, and whose futures are made anew for each poll.
 #[derive(Drop)]
-pub struct Split<R: ByteStore, H> {
+pub struct Split<R: FixedBytes, H> {
     pipe: SharedPipe<R, u64, H>,
     doors: Doors,
 }
 
-impl<R: ByteStore, H: Hand<u64> + Drop> Form for Split<R, H> {
+impl<R: FixedBytes, H: Hand<u64> + Drop> Form for Split<R, H> {
     type Ask = PipeAsk<Few>;
 
     type Call = PipeCall<Few>;
@@ -83,7 +83,7 @@ impl<R: ByteStore, H: Hand<u64> + Drop> Form for Split<R, H> {
     }
 }
 
-impl<R: ByteStore, H: Hand<u64> + Drop> Split<R, H> {
+impl<R: FixedBytes, H: Hand<u64> + Drop> Split<R, H> {
     /// Returns this pipe, called in these ways.
     pub fn new(pipe: SharedPipe<R, u64, H>, doors: Doors) -> Self {
         Split { pipe, doors }
@@ -194,18 +194,18 @@ impl<R: ByteStore, H: Hand<u64> + Drop> Split<R, H> {
 
 /// A pipe of tasks, in the form that the ends of any pipe take.
 #[derive_where(Clone, Copy)]
-pub struct Lent<'c, R: ByteStore, H> {
+pub struct Lent<'c, R: FixedBytes, H> {
     pipe: &'c SharedPipe<R, TaskId, H>,
 }
 
-impl<'c, R: ByteStore, H: Hand<TaskId>> Lent<'c, R, H> {
+impl<'c, R: FixedBytes, H: Hand<TaskId>> Lent<'c, R, H> {
     /// Returns this pipe in that form.
     pub fn new(pipe: &'c SharedPipe<R, TaskId, H>) -> Self {
         Lent { pipe }
     }
 }
 
-impl<R: ByteStore, H: Hand<TaskId>> DynamicPipe for Lent<'_, R, H> {
+impl<R: FixedBytes, H: Hand<TaskId>> DynamicPipe for Lent<'_, R, H> {
     ghost places = { λ _. R.capacity };
 
     fn capacity(&self) -> usize {
@@ -239,7 +239,7 @@ impl<R: ByteStore, H: Hand<TaskId>> DynamicPipe for Lent<'_, R, H> {
 /// A pipe whose writing futures stay at their numbers from poll to poll, and whose bytes are read by an end of any
 /// pipe.
 #[derive(Drop)]
-pub struct Lasting<'c, R: ByteStore, H> {
+pub struct Lasting<'c, R: FixedBytes, H> {
     pipe: &'c SharedPipe<R, TaskId, H>,
     // The bytes that are to be written.
     written: &'c Bump,
@@ -250,7 +250,7 @@ pub struct Lasting<'c, R: ByteStore, H> {
 
 /// A future that writes, or the ask of a read, whose future is made anew for each poll.
 #[derive(Drop)]
-pub enum Held<'c, R: ByteStore, H> {
+pub enum Held<'c, R: FixedBytes, H> {
     Write(WriteFuture<'c, R, TaskId, H>),
     DynWrite(DynamicWriteFuture<'c, Lent<'c, R, H>>),
     WriteAll(WriteAllFuture<'c, R, TaskId, H>),
@@ -258,7 +258,7 @@ pub enum Held<'c, R: ByteStore, H> {
     Fill,
 }
 
-impl<'c, R: ByteStore, H: Hand<TaskId>> Form for Lasting<'c, R, H> {
+impl<'c, R: FixedBytes, H: Hand<TaskId>> Form for Lasting<'c, R, H> {
     type Ask = PipeAsk<Few>;
 
     type Call = PipeCall<Few>;
@@ -321,7 +321,7 @@ impl<'c, R: ByteStore, H: Hand<TaskId>> Form for Lasting<'c, R, H> {
     }
 }
 
-impl<'c, R: ByteStore, H: Hand<TaskId>> Lasting<'c, R, H> {
+impl<'c, R: FixedBytes, H: Hand<TaskId>> Lasting<'c, R, H> {
     /// Returns this pipe with these ends of it, called in these ways. Bytes that are to be written are stored in
     /// `written`.
     pub fn new(
@@ -410,7 +410,7 @@ impl<'c, R: ByteStore, H: Hand<TaskId>> Lasting<'c, R, H> {
     }
 }
 
-fn write<'c, R: ByteStore, H: Hand<TaskId>>(
+fn write<'c, R: FixedBytes, H: Hand<TaskId>>(
     mut future: WriteFuture<'c, R, TaskId, H>,
     cx: &Context<TaskId>,
 ) -> Turn<PipeHeard<Few>, Held<'c, R, H>> {
@@ -418,7 +418,7 @@ fn write<'c, R: ByteStore, H: Hand<TaskId>>(
     is_written(polled, Held::Write(future))
 }
 
-fn dyn_write<'c, R: ByteStore, H: Hand<TaskId>>(
+fn dyn_write<'c, R: FixedBytes, H: Hand<TaskId>>(
     mut future: DynamicWriteFuture<'c, Lent<'c, R, H>>,
     cx: &Context<TaskId>,
 ) -> Turn<PipeHeard<Few>, Held<'c, R, H>> {
@@ -426,7 +426,7 @@ fn dyn_write<'c, R: ByteStore, H: Hand<TaskId>>(
     is_written(polled, Held::DynWrite(future))
 }
 
-fn write_all<'c, R: ByteStore, H: Hand<TaskId>>(
+fn write_all<'c, R: FixedBytes, H: Hand<TaskId>>(
     mut future: WriteAllFuture<'c, R, TaskId, H>,
     cx: &Context<TaskId>,
 ) -> Turn<PipeHeard<Few>, Held<'c, R, H>> {
@@ -502,7 +502,7 @@ fn kept(written: &Bump, bytes: Few) -> Option<&[u8]> {
 }
 
 // Returns the number of bytes in the pipe.
-fn len<R: ByteStore, W: Copy + Eq, H: Hand<W>>(
+fn len<R: FixedBytes, W: Copy + Eq, H: Hand<W>>(
     pipe: &SharedPipe<R, W, H>,
 ) -> Answer<PipeHeard<Few>> {
     let sizes = sizes!(pipe);

@@ -11,7 +11,7 @@ use esync_pubsub::pubsub::{
 use std::alloc::{AllocError, Global};
 
 /// A pub-sub channel of any capacity that subscribers and publishers join.
-pub trait Topic: PubSubBehavior<Message = u32, Waker = u64> {
+pub trait Topic: PubSubBehavior<Message = u64, Waker = u64> {
     /// Adds a subscriber, if there is a place for it.
     fn join(&self, door: Door) -> Result<Sub<'_, Self>, Error>;
 
@@ -20,7 +20,7 @@ pub trait Topic: PubSubBehavior<Message = u32, Waker = u64> {
 }
 
 impl<
-    G: FixedLog<Message = u32>,
+    G: FixedLog<Message = u64>,
     S: WakerList<Waker = u64>,
     P: WakerList<Waker = u64>,
     H: Hand<u64>,
@@ -55,15 +55,15 @@ pub struct PubSub<'c, B: Topic> {
 // A number's holder is the ask of its request: the request's future borrows its subscriber or publisher, and so is made
 // anew at each poll.
 impl<'c, B: Topic> Form for PubSub<'c, B> {
-    type Ask = PubSubAsk<u32>;
+    type Ask = PubSubAsk<u64>;
 
-    type Call = PubSubCall<u32>;
+    type Call = PubSubCall<u64>;
 
-    type Heard = PubSubHeard<u32>;
+    type Heard = PubSubHeard<u64>;
 
-    type Held = PubSubAsk<u32>;
+    type Held = PubSubAsk<u64>;
 
-    fn begin(&mut self, ask: PubSubAsk<u32>) -> Option<PubSubAsk<u32>> {
+    fn begin(&mut self, ask: PubSubAsk<u64>) -> Option<PubSubAsk<u64>> {
         let is_there = match ask {
             PubSubAsk::Publish(p, _) => self.is_publisher(p),
             PubSubAsk::Message(s) => self.is_subscriber(s),
@@ -75,9 +75,9 @@ impl<'c, B: Topic> Form for PubSub<'c, B> {
 
     fn poll(
         &mut self,
-        held: PubSubAsk<u32>,
+        held: PubSubAsk<u64>,
         cx: &Context<u64>,
-    ) -> Turn<PubSubHeard<u32>, PubSubAsk<u32>> {
+    ) -> Turn<PubSubHeard<u64>, PubSubAsk<u64>> {
         match held {
             PubSubAsk::Publish(p, message) => self.poll_publish(p, message, cx),
             PubSubAsk::Message(s) => self.poll_message(s, cx),
@@ -88,9 +88,9 @@ impl<'c, B: Topic> Form for PubSub<'c, B> {
 
     fn call(
         &mut self,
-        call: PubSubCall<u32>,
-        _place: &mut Option<PubSubAsk<u32>>,
-    ) -> Answer<PubSubHeard<u32>> {
+        call: PubSubCall<u64>,
+        _place: &mut Option<PubSubAsk<u64>>,
+    ) -> Answer<PubSubHeard<u64>> {
         match call {
             PubSubCall::Join(s) => self.join(s),
             PubSubCall::Leave(s) => ends(self.subscribers.get_mut(s)),
@@ -112,7 +112,7 @@ impl<'c, B: Topic> Form for PubSub<'c, B> {
         }
     }
 
-    fn leaves(&self, call: &PubSubCall<u32>, held: &PubSubAsk<u32>) -> bool {
+    fn leaves(&self, call: &PubSubCall<u64>, held: &PubSubAsk<u64>) -> bool {
         match call {
             PubSubCall::Leave(s) => subscriber_of(held) == Some(*s),
             PubSubCall::Retire(p) => publisher_of(held) == Some(*p),
@@ -122,7 +122,7 @@ impl<'c, B: Topic> Form for PubSub<'c, B> {
 }
 
 // Returns the number of the subscriber that asks.
-fn subscriber_of(ask: &PubSubAsk<u32>) -> Option<usize> {
+fn subscriber_of(ask: &PubSubAsk<u64>) -> Option<usize> {
     match ask {
         PubSubAsk::Publish(..) => None,
         PubSubAsk::Message(s) | PubSubAsk::MessagePure(s) | PubSubAsk::Stream(s) => Some(*s),
@@ -130,7 +130,7 @@ fn subscriber_of(ask: &PubSubAsk<u32>) -> Option<usize> {
 }
 
 // Returns the number of the publisher that asks.
-fn publisher_of(ask: &PubSubAsk<u32>) -> Option<usize> {
+fn publisher_of(ask: &PubSubAsk<u64>) -> Option<usize> {
     match ask {
         PubSubAsk::Publish(p, _) => Some(*p),
         PubSubAsk::Message(_) | PubSubAsk::MessagePure(_) | PubSubAsk::Stream(_) => None,
@@ -138,7 +138,7 @@ fn publisher_of(ask: &PubSubAsk<u32>) -> Option<usize> {
 }
 
 // Removes the subscriber or publisher at a place, and frees the number.
-fn ends<T: Drop>(place: Option<&mut Option<T>>) -> Answer<PubSubHeard<u32>> {
+fn ends<T: Drop>(place: Option<&mut Option<T>>) -> Answer<PubSubHeard<u64>> {
     let Some(place) = place else {
         return Answer::NoSuch;
     };
@@ -166,9 +166,9 @@ impl<'c, B: Topic> PubSub<'c, B> {
     fn poll_publish(
         &mut self,
         p: usize,
-        message: u32,
+        message: u64,
         cx: &Context<u64>,
-    ) -> Turn<PubSubHeard<u32>, PubSubAsk<u32>> {
+    ) -> Turn<PubSubHeard<u64>, PubSubAsk<u64>> {
         let door = self.doors.next();
         let Some(Some(publisher)) = self.publishers.get(p) else {
             return over();
@@ -190,7 +190,7 @@ impl<'c, B: Topic> PubSub<'c, B> {
         &mut self,
         s: usize,
         cx: &Context<u64>,
-    ) -> Turn<PubSubHeard<u32>, PubSubAsk<u32>> {
+    ) -> Turn<PubSubHeard<u64>, PubSubAsk<u64>> {
         match self.subscribers.get_mut(s) {
             Some(Some(subscriber)) => message(subscriber, s, cx),
             _ => over(),
@@ -201,14 +201,14 @@ impl<'c, B: Topic> PubSub<'c, B> {
         &mut self,
         s: usize,
         cx: &Context<u64>,
-    ) -> Turn<PubSubHeard<u32>, PubSubAsk<u32>> {
+    ) -> Turn<PubSubHeard<u64>, PubSubAsk<u64>> {
         match self.subscribers.get_mut(s) {
             Some(Some(subscriber)) => message_pure(subscriber, s, cx),
             _ => over(),
         }
     }
 
-    fn poll_next(&mut self, s: usize, cx: &Context<u64>) -> Turn<PubSubHeard<u32>, PubSubAsk<u32>> {
+    fn poll_next(&mut self, s: usize, cx: &Context<u64>) -> Turn<PubSubHeard<u64>, PubSubAsk<u64>> {
         let Some(Some(subscriber)) = self.subscribers.get_mut(s) else {
             return over();
         };
@@ -219,7 +219,7 @@ impl<'c, B: Topic> PubSub<'c, B> {
         }
     }
 
-    fn join(&mut self, s: usize) -> Answer<PubSubHeard<u32>> {
+    fn join(&mut self, s: usize) -> Answer<PubSubHeard<u64>> {
         let door = self.doors.next();
         let Some(place) = self.subscribers.get_mut(s) else {
             return Answer::NoSuch;
@@ -236,7 +236,7 @@ impl<'c, B: Topic> PubSub<'c, B> {
         }))
     }
 
-    fn publisher(&mut self, p: usize) -> Answer<PubSubHeard<u32>> {
+    fn publisher(&mut self, p: usize) -> Answer<PubSubHeard<u64>> {
         let door = self.doors.next();
         let Some(place) = self.publishers.get_mut(p) else {
             return Answer::NoSuch;
@@ -253,7 +253,7 @@ impl<'c, B: Topic> PubSub<'c, B> {
         }))
     }
 
-    fn try_publish(&mut self, p: usize, message: u32) -> Answer<PubSubHeard<u32>> {
+    fn try_publish(&mut self, p: usize, message: u64) -> Answer<PubSubHeard<u64>> {
         let door = self.doors.next();
         let Some(Some(publisher)) = self.publishers.get(p) else {
             return Answer::NoSuch;
@@ -265,7 +265,7 @@ impl<'c, B: Topic> PubSub<'c, B> {
         }))
     }
 
-    fn publish_immediate(&mut self, message: u32) -> Result<(), Exhausted<u32>> {
+    fn publish_immediate(&mut self, message: u64) -> Result<(), Exhausted<u64>> {
         match (self.doors.next(), first(&self.publishers)) {
             (Door::Own, _) => self.channel.publish_immediate(message),
             (Door::Handle, Some(publisher)) => publisher.publish_immediate(message),
@@ -274,7 +274,7 @@ impl<'c, B: Topic> PubSub<'c, B> {
         }
     }
 
-    fn try_next_message(&mut self, s: usize) -> Answer<PubSubHeard<u32>> {
+    fn try_next_message(&mut self, s: usize) -> Answer<PubSubHeard<u64>> {
         let Some(Some(subscriber)) = self.subscribers.get_mut(s) else {
             return Answer::NoSuch;
         };
@@ -284,7 +284,7 @@ impl<'c, B: Topic> PubSub<'c, B> {
         }
     }
 
-    fn try_next_message_pure(&mut self, s: usize) -> Answer<PubSubHeard<u32>> {
+    fn try_next_message_pure(&mut self, s: usize) -> Answer<PubSubHeard<u64>> {
         let Some(Some(subscriber)) = self.subscribers.get_mut(s) else {
             return Answer::NoSuch;
         };
@@ -294,7 +294,7 @@ impl<'c, B: Topic> PubSub<'c, B> {
         }
     }
 
-    fn available(&self, s: usize) -> Answer<PubSubHeard<u32>> {
+    fn available(&self, s: usize) -> Answer<PubSubHeard<u64>> {
         let Some(Some(subscriber)) = self.subscribers.get(s) else {
             return Answer::NoSuch;
         };
@@ -315,12 +315,12 @@ impl<'c, B: Topic> PubSub<'c, B> {
         }
     }
 
-    fn len(&mut self) -> Answer<PubSubHeard<u32>> {
+    fn len(&mut self) -> Answer<PubSubHeard<u64>> {
         let sizes = self.sizes();
         sizes.checked(PubSubHeard::Number(sizes.len))
     }
 
-    fn free_capacity(&mut self) -> Answer<PubSubHeard<u32>> {
+    fn free_capacity(&mut self) -> Answer<PubSubHeard<u64>> {
         let sizes = self.sizes();
         sizes.checked(PubSubHeard::Number(sizes.free))
     }
@@ -345,7 +345,7 @@ fn message<B: Topic>(
     subscriber: &mut Sub<'_, B>,
     s: usize,
     cx: &Context<u64>,
-) -> Turn<PubSubHeard<u32>, PubSubAsk<u32>> {
+) -> Turn<PubSubHeard<u64>, PubSubAsk<u64>> {
     match subscriber.next_message().poll(cx) {
         Ok(Poll::Ready(read)) => Turn::over(PubSubHeard::Read(read)),
         Ok(Poll::Pending) => Turn::waits(PubSubAsk::Message(s)),
@@ -358,7 +358,7 @@ fn message_pure<B: Topic>(
     subscriber: &mut Sub<'_, B>,
     s: usize,
     cx: &Context<u64>,
-) -> Turn<PubSubHeard<u32>, PubSubAsk<u32>> {
+) -> Turn<PubSubHeard<u64>, PubSubAsk<u64>> {
     match subscriber.next_message_pure().poll(cx) {
         Ok(Poll::Ready(message)) => Turn::over(PubSubHeard::ReadPure(message)),
         Ok(Poll::Pending) => Turn::waits(PubSubAsk::MessagePure(s)),
@@ -367,7 +367,7 @@ fn message_pure<B: Topic>(
 }
 
 // Keeps the request: there was no memory for a clone.
-fn refused(ask: PubSubAsk<u32>) -> Turn<PubSubHeard<u32>, PubSubAsk<u32>> {
+fn refused(ask: PubSubAsk<u64>) -> Turn<PubSubHeard<u64>, PubSubAsk<u64>> {
     Turn {
         answer: Answer::NoMemory,
         place: Some(ask),
@@ -377,9 +377,9 @@ fn refused(ask: PubSubAsk<u32>) -> Turn<PubSubHeard<u32>, PubSubAsk<u32>> {
 // Publishes the message by a future, which is finished once it is ready.
 fn publishes<B: Topic>(
     publisher: &Pub<'_, B>,
-    message: u32,
+    message: u64,
     cx: &Context<u64>,
-) -> Poll<Result<(), Exhausted<u32>>> {
+) -> Poll<Result<(), Exhausted<u64>>> {
     let mut future = publisher.publish(message);
     let polled = future.poll(cx);
     if future.is_finished() {
@@ -392,9 +392,9 @@ fn publishes<B: Topic>(
 // Publishes the message through a sink that stores it.
 fn sinks<B: Topic>(
     publisher: &Pub<'_, B>,
-    message: u32,
+    message: u64,
     cx: &Context<u64>,
-) -> Poll<Result<(), Exhausted<u32>>> {
+) -> Poll<Result<(), Exhausted<u64>>> {
     let mut sink = publisher.sink();
     sink.start_send(message);
     sink.poll_flush(cx)
@@ -402,7 +402,7 @@ fn sinks<B: Topic>(
 
 impl<
     'c,
-    G: FixedLog<Message = u32>,
+    G: FixedLog<Message = u64>,
     S: WakerList<Waker = u64>,
     P: WakerList<Waker = u64>,
     H: Hand<u64>,

@@ -9,9 +9,9 @@ use esync_machine::primitive::{Answer, Turn};
 /// A signal whose waits are polled in each way in turn.
 #[derive(Drop)]
 pub struct Signaling<'s, H> {
-    signal: &'s Signal<u32, u64, H>,
+    signal: &'s Signal<u64, u64, H>,
     // Polls once more: a future acts anew after it was ready.
-    again: SignalWait<'s, u32, u64, H>,
+    again: SignalWait<'s, u64, u64, H>,
     doors: Doors,
 }
 
@@ -21,7 +21,7 @@ pub enum Held<'s, H> {
     /// By the signal itself.
     Own,
     /// By a future of its own.
-    Future(SignalWait<'s, u32, u64, H>),
+    Future(SignalWait<'s, u64, u64, H>),
     /// By the future that waits again and again.
     Again,
 }
@@ -29,9 +29,9 @@ pub enum Held<'s, H> {
 impl<'s, H: Hand<u64>> Form for Signaling<'s, H> {
     type Ask = Wait;
 
-    type Call = SignalCall<u32>;
+    type Call = SignalCall<u64>;
 
-    type Heard = SignalHeard<u32>;
+    type Heard = SignalHeard<u64>;
 
     type Held = Held<'s, H>;
 
@@ -43,7 +43,7 @@ impl<'s, H: Hand<u64>> Form for Signaling<'s, H> {
         })
     }
 
-    fn poll(&mut self, held: Self::Held, cx: &Context<u64>) -> Turn<SignalHeard<u32>, Self::Held> {
+    fn poll(&mut self, held: Self::Held, cx: &Context<u64>) -> Turn<SignalHeard<u64>, Self::Held> {
         match held {
             Held::Own => has_waited(self.signal.poll_wait(cx), Held::Own),
             Held::Future(future) => wait(future, cx),
@@ -53,9 +53,9 @@ impl<'s, H: Hand<u64>> Form for Signaling<'s, H> {
 
     fn call(
         &mut self,
-        call: SignalCall<u32>,
+        call: SignalCall<u64>,
         _place: &mut Option<Self::Held>,
-    ) -> Answer<SignalHeard<u32>> {
+    ) -> Answer<SignalHeard<u64>> {
         match call {
             SignalCall::Signal(value) => {
                 self.signal.signal(value);
@@ -73,7 +73,7 @@ impl<'s, H: Hand<u64>> Form for Signaling<'s, H> {
 
 impl<'s, H: Hand<u64>> Signaling<'s, H> {
     /// Returns this signal, called in these ways.
-    pub fn new(signal: &'s Signal<u32, u64, H>, doors: Doors) -> Self {
+    pub fn new(signal: &'s Signal<u64, u64, H>, doors: Doors) -> Self {
         Signaling {
             signal,
             again: signal.wait(),
@@ -83,15 +83,15 @@ impl<'s, H: Hand<u64>> Signaling<'s, H> {
 }
 
 fn wait<'s, H: Hand<u64>>(
-    mut future: SignalWait<'s, u32, u64, H>,
+    mut future: SignalWait<'s, u64, u64, H>,
     cx: &Context<u64>,
-) -> Turn<SignalHeard<u32>, Held<'s, H>> {
+) -> Turn<SignalHeard<u64>, Held<'s, H>> {
     let polled = future.poll(cx);
     has_waited(polled, Held::Future(future))
 }
 
 // Returns what a poll leaves of a wait for the value.
-fn has_waited<H: Drop>(polled: Poll<u32>, held: H) -> Turn<SignalHeard<u32>, H> {
+fn has_waited<H: Drop>(polled: Poll<u64>, held: H) -> Turn<SignalHeard<u64>, H> {
     match polled {
         Poll::Ready(value) => Turn::over(SignalHeard::Waited(value)),
         Poll::Pending => Turn::waits(held),

@@ -8,7 +8,7 @@ use std::alloc::{AllocError, Global};
 use std::marker::PhantomData;
 
 /// A watch of values for any number of receivers: the calls that its senders and receivers don't have.
-pub trait Watches: WatchBehavior<Value = u32, Waker = u64> {
+pub trait Watches: WatchBehavior<Value = u64, Waker = u64> {
     /// Returns a sender.
     fn sending(&self, door: Door) -> Snd<'_, Self>;
 
@@ -21,14 +21,14 @@ pub trait Watches: WatchBehavior<Value = u32, Waker = u64> {
     fn version(&self) -> u64;
 
     /// Reads the value, if there is one.
-    fn found(&self) -> Result<Option<u32>, AllocError>;
+    fn found(&self) -> Result<Option<u64>, AllocError>;
 
     /// Reads the value, if there is one that passes the test.
-    fn found_of<J: Judge<u32> + Copy>(&self, judge: J) -> Result<Option<u32>, AllocError>;
+    fn found_of<J: Judge<u64> + Copy>(&self, judge: J) -> Result<Option<u64>, AllocError>;
 }
 
 impl<L: WakerList<Waker = u64>, H: Hand<u64>, const K: usize> Watches
-    for SharedWatch<u32, L, H, K> {
+    for SharedWatch<u64, L, H, K> {
     fn sending(&self, door: Door) -> Snd<'_, Self> {
         match door {
             Door::Own => self.sender(),
@@ -57,11 +57,11 @@ impl<L: WakerList<Waker = u64>, H: Hand<u64>, const K: usize> Watches
         self.get_msg_id()
     }
 
-    fn found(&self) -> Result<Option<u32>, AllocError> {
+    fn found(&self) -> Result<Option<u64>, AllocError> {
         self.try_get()
     }
 
-    fn found_of<J: Judge<u32> + Copy>(&self, judge: J) -> Result<Option<u32>, AllocError> {
+    fn found_of<J: Judge<u64> + Copy>(&self, judge: J) -> Result<Option<u64>, AllocError> {
         self.try_get_and(|value| judge.holds(value))
     }
 }
@@ -82,19 +82,19 @@ enum Receiver<'w, B: WatchBehavior> {
     Anon(AnonRcv<'w, B>),
 }
 
-impl<'w, B: WatchBehavior<Value = u32, Waker = u64>> Receiver<'w, B> {
-    fn read<J: Judge<u32> + Copy>(&mut self, read: Reading<J>) -> Result<Option<u32>, AllocError> {
+impl<'w, B: WatchBehavior<Value = u64, Waker = u64>> Receiver<'w, B> {
+    fn read<J: Judge<u64> + Copy>(&mut self, read: Reading<J>) -> Result<Option<u64>, AllocError> {
         match self {
             Receiver::Counted(receiver) => counted_reads(receiver, read),
             Receiver::Anon(receiver) => anon_reads(receiver, read),
         }
     }
 
-    fn poll<J: Judge<u32> + Copy>(
+    fn poll<J: Judge<u64> + Copy>(
         &mut self,
         held: Await<J>,
         cx: &Context<u64>,
-    ) -> Turn<WatchHeard<u32>, Await<J>> {
+    ) -> Turn<WatchHeard<u64>, Await<J>> {
         match self {
             Receiver::Counted(receiver) => has_waited(polls(receiver, held.read, cx), held),
             Receiver::Anon(_) => over(),
@@ -109,10 +109,10 @@ impl<'w, B: WatchBehavior<Value = u32, Waker = u64>> Receiver<'w, B> {
     }
 }
 
-fn counted_reads<B: WatchBehavior<Value = u32>, J: Judge<u32> + Copy>(
+fn counted_reads<B: WatchBehavior<Value = u64>, J: Judge<u64> + Copy>(
     receiver: &mut Rcv<'_, B>,
     read: Reading<J>,
-) -> Result<Option<u32>, AllocError> {
+) -> Result<Option<u64>, AllocError> {
     match read {
         Reading::Get => receiver.try_get(),
         Reading::Changed => receiver.try_changed(),
@@ -121,10 +121,10 @@ fn counted_reads<B: WatchBehavior<Value = u32>, J: Judge<u32> + Copy>(
     }
 }
 
-fn anon_reads<B: WatchBehavior<Value = u32>, J: Judge<u32> + Copy>(
+fn anon_reads<B: WatchBehavior<Value = u64>, J: Judge<u64> + Copy>(
     receiver: &mut AnonRcv<'_, B>,
     read: Reading<J>,
-) -> Result<Option<u32>, AllocError> {
+) -> Result<Option<u64>, AllocError> {
     match read {
         Reading::Get => receiver.try_get(),
         Reading::Changed => receiver.try_changed(),
@@ -134,11 +134,11 @@ fn anon_reads<B: WatchBehavior<Value = u32>, J: Judge<u32> + Copy>(
 }
 
 // Polls the future that a receiver's call returns. The future borrows the receiver, and so is made anew for each poll.
-fn polls<B: WatchBehavior<Value = u32, Waker = u64>, J: Judge<u32> + Copy>(
+fn polls<B: WatchBehavior<Value = u64, Waker = u64>, J: Judge<u64> + Copy>(
     receiver: &mut Rcv<'_, B>,
     read: Reading<J>,
     cx: &Context<u64>,
-) -> Result<Poll<u32>, AllocError> {
+) -> Result<Poll<u64>, AllocError> {
     match read {
         Reading::Get => receiver.get().poll(cx),
         Reading::Changed => receiver.changed().poll(cx),
@@ -149,9 +149,9 @@ fn polls<B: WatchBehavior<Value = u32, Waker = u64>, J: Judge<u32> + Copy>(
 
 // Returns what a poll leaves of a request for a value.
 fn has_waited<J: Drop>(
-    polled: Result<Poll<u32>, AllocError>,
+    polled: Result<Poll<u64>, AllocError>,
     held: Await<J>,
-) -> Turn<WatchHeard<u32>, Await<J>> {
+) -> Turn<WatchHeard<u64>, Await<J>> {
     match polled {
         Ok(Poll::Ready(value)) => Turn::over(WatchHeard::Waited(value)),
         Ok(Poll::Pending) => Turn::waits(held),
@@ -163,7 +163,7 @@ fn has_waited<J: Drop>(
 }
 
 // Returns the answer to a read, in the words of a watch.
-fn has_found(found: Result<Option<u32>, AllocError>) -> Answer<WatchHeard<u32>> {
+fn has_found(found: Result<Option<u64>, AllocError>) -> Answer<WatchHeard<u64>> {
     match found {
         Ok(found) => Answer::Gives(WatchHeard::Found(found)),
         Err(AllocError) => Answer::NoMemory,
@@ -173,14 +173,14 @@ fn has_found(found: Result<Option<u32>, AllocError>) -> Answer<WatchHeard<u32>> 
 impl<'w, B, C, J> Form for Watching<'w, B, C, J>
 where
     B: Watches,
-    C: Change<u32> + Drop,
-    J: Judge<u32> + Copy,
+    C: Change<u64> + Drop,
+    J: Judge<u64> + Copy,
 {
     type Ask = Await<J>;
 
-    type Call = WatchCall<u32, C, J>;
+    type Call = WatchCall<u64, C, J>;
 
-    type Heard = WatchHeard<u32>;
+    type Heard = WatchHeard<u64>;
 
     type Held = Await<J>;
 
@@ -191,7 +191,7 @@ where
         }
     }
 
-    fn poll(&mut self, held: Await<J>, cx: &Context<u64>) -> Turn<WatchHeard<u32>, Await<J>> {
+    fn poll(&mut self, held: Await<J>, cx: &Context<u64>) -> Turn<WatchHeard<u64>, Await<J>> {
         match self.receivers.get_mut(held.receiver) {
             Some(Some(receiver)) => receiver.poll(held, cx),
             _ => over(),
@@ -200,9 +200,9 @@ where
 
     fn call(
         &mut self,
-        call: WatchCall<u32, C, J>,
+        call: WatchCall<u64, C, J>,
         _place: &mut Option<Await<J>>,
-    ) -> Answer<WatchHeard<u32>> {
+    ) -> Answer<WatchHeard<u64>> {
         match call {
             WatchCall::Receiver(h) => self.join(h),
             WatchCall::Anon(h) => self.join_anon(h),
@@ -225,7 +225,7 @@ where
         }
     }
 
-    fn leaves(&self, call: &WatchCall<u32, C, J>, held: &Await<J>) -> bool {
+    fn leaves(&self, call: &WatchCall<u64, C, J>, held: &Await<J>) -> bool {
         match call {
             WatchCall::Leave(h) => held.receiver == *h,
             _ => false,
@@ -236,8 +236,8 @@ where
 impl<'w, B, C, J> Watching<'w, B, C, J>
 where
     B: Watches,
-    C: Change<u32> + Drop,
-    J: Judge<u32> + Copy,
+    C: Change<u64> + Drop,
+    J: Judge<u64> + Copy,
 {
     fn sender(&mut self) -> Snd<'w, B> {
         let watch = self.watch;
@@ -252,7 +252,7 @@ where
     }
 
     // Adds a counted receiver.
-    fn join(&mut self, h: usize) -> Answer<WatchHeard<u32>> {
+    fn join(&mut self, h: usize) -> Answer<WatchHeard<u64>> {
         if !self.is_free(h) {
             return Answer::NoSuch;
         }
@@ -266,7 +266,7 @@ where
     }
 
     // Adds an anonymous receiver.
-    fn join_anon(&mut self, h: usize) -> Answer<WatchHeard<u32>> {
+    fn join_anon(&mut self, h: usize) -> Answer<WatchHeard<u64>> {
         if !self.is_free(h) {
             return Answer::NoSuch;
         }
@@ -282,7 +282,7 @@ where
     }
 
     // Removes the receiver at the number.
-    fn leave(&mut self, h: usize) -> Answer<WatchHeard<u32>> {
+    fn leave(&mut self, h: usize) -> Answer<WatchHeard<u64>> {
         let Some(place) = self.receivers.get_mut(h) else {
             return Answer::NoSuch;
         };
@@ -294,7 +294,7 @@ where
     }
 
     // Reads the value without a receiver.
-    fn try_get(&mut self) -> Result<Option<u32>, AllocError> {
+    fn try_get(&mut self) -> Result<Option<u64>, AllocError> {
         match self.doors.next() {
             Door::Own => self.watch.found(),
             Door::Handle | Door::Dynamic => self.sender().try_get(),
@@ -302,7 +302,7 @@ where
     }
 
     // Reads the value for the receiver at the number.
-    fn read(&mut self, h: usize, read: Reading<J>) -> Answer<WatchHeard<u32>> {
+    fn read(&mut self, h: usize, read: Reading<J>) -> Answer<WatchHeard<u64>> {
         let Some(Some(receiver)) = self.receivers.get_mut(h) else {
             return Answer::NoSuch;
         };
@@ -318,8 +318,8 @@ where
     fn finds_too(
         &mut self,
         judge: J,
-        found: Result<Option<u32>, AllocError>,
-    ) -> Answer<WatchHeard<u32>> {
+        found: Result<Option<u64>, AllocError>,
+    ) -> Answer<WatchHeard<u64>> {
         let without = match self.doors.next() {
             Door::Own => self.watch.found_of(judge),
             Door::Handle | Door::Dynamic => {
@@ -350,12 +350,12 @@ where
     }
 }
 
-impl<'w, L, H, C, J, const K: usize> Watching<'w, SharedWatch<u32, L, H, K>, C, J>
+impl<'w, L, H, C, J, const K: usize> Watching<'w, SharedWatch<u64, L, H, K>, C, J>
 where
     L: WakerList<Waker = u64>,
     H: Hand<u64>,
-    C: Change<u32> + Drop,
-    J: Judge<u32> + Copy,
+    C: Change<u64> + Drop,
+    J: Judge<u64> + Copy,
 {
     /// Returns this watch without receivers, called in these ways.
     ///
@@ -364,7 +364,7 @@ where
     /// Returns the error if there is no memory.
     pub fn new(
         alloc: Global,
-        watch: &'w SharedWatch<u32, L, H, K>,
+        watch: &'w SharedWatch<u64, L, H, K>,
         doors: Doors,
     ) -> Result<Self, AllocError> {
         Ok(Watching {

@@ -15,7 +15,7 @@ use esync_zerocopy::zerocopy_channel::{
 #[derive(Clone, Copy)]
 pub struct Numbered {
     pub number: usize,
-    pub value: u32,
+    pub value: u64,
 }
 
 /// The two sides of a channel, and for each side whether its slot is lent.
@@ -31,9 +31,9 @@ pub struct Zerocopy<'c, H: Hand<u64>> {
 impl<'c, H: Hand<u64>> Form for Zerocopy<'c, H> {
     type Ask = Side;
 
-    type Call = ZeroCall<u32>;
+    type Call = ZeroCall<u64>;
 
-    type Heard = ZeroHeard<u32>;
+    type Heard = ZeroHeard<u64>;
 
     type Held = Side;
 
@@ -41,7 +41,7 @@ impl<'c, H: Hand<u64>> Form for Zerocopy<'c, H> {
         Some(ask)
     }
 
-    fn poll(&mut self, held: Side, cx: &Context<u64>) -> Turn<ZeroHeard<u32>, Side> {
+    fn poll(&mut self, held: Side, cx: &Context<u64>) -> Turn<ZeroHeard<u64>, Side> {
         let lent = match held {
             Side::Sender => self.poll_send(cx),
             Side::Receiver => self.poll_receive(cx),
@@ -52,7 +52,7 @@ impl<'c, H: Hand<u64>> Form for Zerocopy<'c, H> {
         }
     }
 
-    fn call(&mut self, call: ZeroCall<u32>, _place: &mut Option<Side>) -> Answer<ZeroHeard<u32>> {
+    fn call(&mut self, call: ZeroCall<u64>, _place: &mut Option<Side>) -> Answer<ZeroHeard<u64>> {
         match call {
             ZeroCall::Try(Side::Sender) => Answer::Gives(ZeroHeard::Tried(self.try_send())),
             ZeroCall::Try(Side::Receiver) => Answer::Gives(ZeroHeard::Tried(self.try_receive())),
@@ -130,12 +130,12 @@ fn polled<H: Hand<u64>>(loan: Poll<SlotLoan<'_, Numbered, u64, H>>) -> Option<Nu
 }
 
 // Returns what the sender hears of a slot.
-fn spare(slot: Option<Numbered>) -> Option<Lent<u32>> {
+fn spare(slot: Option<Numbered>) -> Option<Lent<u64>> {
     slot.map(|slot| Lent::Spare(slot.number))
 }
 
 // Returns what the receiver hears of a slot.
-fn held(slot: Option<Numbered>) -> Option<Lent<u32>> {
+fn held(slot: Option<Numbered>) -> Option<Lent<u64>> {
     slot.map(|slot| Lent::Held(slot.number, slot.value))
 }
 
@@ -155,7 +155,7 @@ impl<'c, H: Hand<u64>> Zerocopy<'c, H> {
         }
     }
 
-    fn poll_send(&mut self, cx: &Context<u64>) -> Option<Lent<u32>> {
+    fn poll_send(&mut self, cx: &Context<u64>) -> Option<Lent<u64>> {
         let received = receives_again(&mut self.receiver, self.is_receiving);
         let slot = match self.doors.next() {
             Door::Own => polled(self.sender.poll_send(cx)),
@@ -167,7 +167,7 @@ impl<'c, H: Hand<u64>> Zerocopy<'c, H> {
         spare(slot)
     }
 
-    fn poll_receive(&mut self, cx: &Context<u64>) -> Option<Lent<u32>> {
+    fn poll_receive(&mut self, cx: &Context<u64>) -> Option<Lent<u64>> {
         let sent = sends_again(&mut self.sender, self.is_sending);
         let slot = match self.doors.next() {
             Door::Own => polled(self.receiver.poll_receive(cx)),
@@ -179,7 +179,7 @@ impl<'c, H: Hand<u64>> Zerocopy<'c, H> {
         held(slot)
     }
 
-    fn try_send(&mut self) -> Option<Lent<u32>> {
+    fn try_send(&mut self) -> Option<Lent<u64>> {
         let received = receives_again(&mut self.receiver, self.is_receiving);
         let slot = shown(self.sender.try_send());
         drop(received);
@@ -187,7 +187,7 @@ impl<'c, H: Hand<u64>> Zerocopy<'c, H> {
         spare(slot)
     }
 
-    fn try_receive(&mut self) -> Option<Lent<u32>> {
+    fn try_receive(&mut self) -> Option<Lent<u64>> {
         let sent = sends_again(&mut self.sender, self.is_sending);
         let slot = shown(self.receiver.try_receive());
         drop(sent);
@@ -195,7 +195,7 @@ impl<'c, H: Hand<u64>> Zerocopy<'c, H> {
         held(slot)
     }
 
-    fn write(&mut self, value: u32) -> Answer<ZeroHeard<u32>> {
+    fn write(&mut self, value: u64) -> Answer<ZeroHeard<u64>> {
         let Some(mut loan) = sends_again(&mut self.sender, self.is_sending) else {
             return Answer::NoSuch;
         };
@@ -205,7 +205,7 @@ impl<'c, H: Hand<u64>> Zerocopy<'c, H> {
         Answer::Done
     }
 
-    fn send_done(&mut self) -> Answer<ZeroHeard<u32>> {
+    fn send_done(&mut self) -> Answer<ZeroHeard<u64>> {
         let is_full = self.sender.is_full();
         let received = receives_again(&mut self.receiver, self.is_receiving);
         sends(&mut self.sender, self.is_sending);
@@ -218,7 +218,7 @@ impl<'c, H: Hand<u64>> Zerocopy<'c, H> {
         }
     }
 
-    fn receive_done(&mut self) -> Answer<ZeroHeard<u32>> {
+    fn receive_done(&mut self) -> Answer<ZeroHeard<u64>> {
         let is_empty = self.receiver.is_empty();
         let sent = sends_again(&mut self.sender, self.is_sending);
         gives_back(&mut self.receiver, self.is_receiving);
@@ -231,7 +231,7 @@ impl<'c, H: Hand<u64>> Zerocopy<'c, H> {
         }
     }
 
-    fn end_send(&mut self) -> Answer<ZeroHeard<u32>> {
+    fn end_send(&mut self) -> Answer<ZeroHeard<u64>> {
         let Some(loan) = sends_again(&mut self.sender, self.is_sending) else {
             return Answer::NoSuch;
         };
@@ -240,7 +240,7 @@ impl<'c, H: Hand<u64>> Zerocopy<'c, H> {
         Answer::Done
     }
 
-    fn end_receive(&mut self) -> Answer<ZeroHeard<u32>> {
+    fn end_receive(&mut self) -> Answer<ZeroHeard<u64>> {
         let Some(loan) = receives_again(&mut self.receiver, self.is_receiving) else {
             return Answer::NoSuch;
         };
@@ -269,12 +269,12 @@ impl<'c, H: Hand<u64>> Zerocopy<'c, H> {
         cleared
     }
 
-    fn len(&mut self) -> Answer<ZeroHeard<u32>> {
+    fn len(&mut self) -> Answer<ZeroHeard<u64>> {
         let sizes = self.sizes();
         sizes.checked(ZeroHeard::Count(sizes.len))
     }
 
-    fn free_capacity(&mut self) -> Answer<ZeroHeard<u32>> {
+    fn free_capacity(&mut self) -> Answer<ZeroHeard<u64>> {
         let sizes = self.sizes();
         sizes.checked(ZeroHeard::Count(sizes.free))
     }

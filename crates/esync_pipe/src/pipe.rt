@@ -8,13 +8,13 @@ ghost use Rattle.std.specs.Option.{option_copied};
 ghost use Rattle.esync_base.specs.Registration.{registered_if, displaced_if};
 ghost use Rattle.esync_pipe.specs.Pipe.{waker_if, out_if, left_if, puts, rest_of, WritesAll, slots_after_write_all, wakes_of_write_all};
 
+use crate::ring::Ring;
 pub use dynamic::{
     DynamicFillBufFuture, DynamicPipe, DynamicReadFuture, DynamicReader, DynamicWriteFuture,
     DynamicWriter,
 };
 use esync_base::kept::Kept;
-use esync_base::ring_buffer::ByteRing;
-use esync_base::store::ByteStore;
+use esync_base::store::{ByteStore, FixedBytes};
 use esync_base::waitqueue::{Context, Poll, Registered, WakerRegistration, Wakes};
 pub use shared::{
     CopiedIn, FillBufFuture, Pipe, PipeReader, PipeWriter, ReadFuture, Reader, SharedPipe,
@@ -45,7 +45,7 @@ pub enum TryWriteError {
 }
 
 /// The state of a pipe of at most `N` bytes.
-pub type PipeState<W, const N: usize> = PipeOver<ByteRing<N>, W>;
+pub type PipeState<W, const N: usize> = PipeOver<Ring<N>, W>;
 
 /// The state of a pipe: its bytes, oldest first, a slot for the waker of a task that waits for bytes, and a slot for
 /// that of a task that waits for room.
@@ -135,12 +135,8 @@ impl<R: ByteStore, W: Copy + Eq> Registered for PipeOver<R, W> {
     }
 }
 
-impl<R: ByteStore, W: Copy + Eq> PipeOver<R, W> {
-    ghost use Rattle.std.specs.Prelude.{◌≡◌, ◌<◌, ◌≤◌, ◌+◌, ◌++◌, [], Some, None, length, is_ok, IfOk, OnErr, ◌&&◌, nat_lt, take, ⊤, false};
-    ghost use mathlib.Core.Option.{none};
-    ghost use Rattle.std.specs.Borrow.{sem, follows_so};
-    ghost use Rattle.esync_pipe.specs.Pipe.{Writes, Reads, shown, without, out_if, left_if, is_empty, is_full, slots_after_write, wakes_of_write, slots_after_read, wakes_of_read, slots_after_fill, wakes_of_fill, behind, puts, slots_after_write_all, wakes_of_write_all};
-    ghost use Rattle.esync_pipe.specs.contracts.pipe.PipeOver.{the_row};
+impl<R: FixedBytes, W> PipeOver<R, W> {
+    ghost use Rattle.std.specs.Prelude.{◌≡◌, []};
 
     /// Returns an empty pipe without a registered waker.
     pub fn new() -> Self
@@ -149,12 +145,33 @@ impl<R: ByteStore, W: Copy + Eq> PipeOver<R, W> {
         ensures readers { result.slots.readers ≡ [] }
         ensures writers { result.slots.writers ≡ [] }
     {
+        PipeOver::over(R::new())
+    }
+}
+
+impl<R: ByteStore, W> PipeOver<R, W> {
+    ghost use Rattle.std.specs.Prelude.{◌≡◌, []};
+
+    /// Returns a pipe with these bytes, without a registered waker.
+    pub fn over(buffer: R) -> Self
+        ensures ring { result.ring ≡ R.ring buffer }
+        ensures readers { result.slots.readers ≡ [] }
+        ensures writers { result.slots.writers ≡ [] }
+    {
         PipeOver {
-            buffer: R::new(),
-            read_waker: WakerRegistration::new(),
-            write_waker: WakerRegistration::new(),
+            buffer,
+            read_waker: WakerRegistration::default(),
+            write_waker: WakerRegistration::default(),
         }
     }
+}
+
+impl<R: ByteStore, W: Copy + Eq> PipeOver<R, W> {
+    ghost use Rattle.std.specs.Prelude.{◌≡◌, ◌<◌, ◌≤◌, ◌+◌, ◌++◌, [], Some, None, length, is_ok, IfOk, OnErr, ◌&&◌, nat_lt, take, ⊤, false};
+    ghost use mathlib.Core.Option.{none};
+    ghost use Rattle.std.specs.Borrow.{sem, follows_so};
+    ghost use Rattle.esync_pipe.specs.Pipe.{Writes, Reads, shown, without, out_if, left_if, is_empty, is_full, slots_after_write, wakes_of_write, slots_after_read, wakes_of_read, slots_after_fill, wakes_of_fill, behind, puts, slots_after_write_all, wakes_of_write_all};
+    ghost use Rattle.esync_pipe.specs.contracts.pipe.PipeOver.{the_row};
 
     fn read<const K: usize>(
         &mut self,
@@ -291,7 +308,7 @@ impl<R: ByteStore, W: Copy + Eq> PipeOver<R, W> {
         ensures slots { self.new.slots ≡ slots_after_write W.eq self.old.ring waker (is_ok result) self.old.slots }
         ensures wakes { wakes.new ≡ wakes.old ++ wakes_of_write W.eq self.old.ring waker (is_ok result) self.old.slots }
     {
-        if self.len() == R::capacity() {
+        if self.len() == self.buffer.capacity() {
             if let Some(waker) = waker {
                 self.write_waker.register(waker, wakes);
             }
@@ -368,7 +385,7 @@ impl<R: ByteStore, W: Copy + Eq> PipeOver<R, W> {
     pub fn is_full(&self) -> bool
         ensures { result ≡ is_full R.capacity self.now.ring }
     {
-        self.buffer.len() == R::capacity()
+        self.buffer.len() == self.buffer.capacity()
     }
 
     /// Returns whether the pipe is empty.
@@ -382,7 +399,7 @@ impl<R: ByteStore, W: Copy + Eq> PipeOver<R, W> {
     pub fn capacity(&self) -> usize
         ensures { result ≡ R.capacity }
     {
-        R::capacity()
+        self.buffer.capacity()
     }
 
     /// Returns how many bytes are in the pipe.
@@ -397,7 +414,7 @@ impl<R: ByteStore, W: Copy + Eq> PipeOver<R, W> {
     pub fn free_capacity(&self) -> usize
         ensures { result + length self.now.ring.items ≡ R.capacity }
     {
-        R::capacity() - self.buffer.len()
+        self.buffer.capacity() - self.buffer.len()
     }
 }
 

@@ -6,7 +6,9 @@ ghost use Rattle.esync_pubsub.specs.PubSub.{fresh, Subscribes, Adds, frees, list
 
 pub mod machine;
 
-use esync_base::waitqueue::{Context, Poll, Registered, WakerList, WakerRegistrations, Wakes};
+use esync_base::waitqueue::{
+    Context, FixedList, Poll, Registered, WakerList, WakerRegistrations, Wakes,
+};
 pub use esync_log::log::{Exhausted, FixedLog, Log, LogStore, TryPublishError, WaitResult};
 pub use handles::{
     DynImmediatePublisher, DynPublisher, DynSubscriber, ImmediatePub, ImmediatePublisher,
@@ -106,7 +108,7 @@ impl<G: LogStore, S: WakerList, P: WakerList<Waker = S::Waker>> Registered for P
     }
 }
 
-impl<G: FixedLog, S: WakerList, P: WakerList<Waker = S::Waker>> PubSubOver<G, S, P> {
+impl<G: FixedLog, S: FixedList, P: FixedList<Waker = S::Waker>> PubSubOver<G, S, P> {
     /// Returns an empty channel without subscribers, publishers or wakers. The first message gets the number 0.
     pub fn new() -> Self
         requires messages { 1 ≤ G.capacity }
@@ -126,7 +128,7 @@ impl<G: FixedLog, S: WakerList, P: WakerList<Waker = S::Waker>> PubSubOver<G, S,
     }
 }
 
-impl<G: LogStore, S: WakerList, P: WakerList<Waker = S::Waker>> PubSubOver<G, S, P> {
+impl<G: LogStore, S: FixedList, P: FixedList<Waker = S::Waker>> PubSubOver<G, S, P> {
     /// Returns a channel with the messages and subscribers of the log, without publishers or wakers.
     pub fn over(log: G) -> Self
         requires { G.places ≤ S.room }
@@ -140,7 +142,9 @@ impl<G: LogStore, S: WakerList, P: WakerList<Waker = S::Waker>> PubSubOver<G, S,
             log,
         }
     }
+}
 
+impl<G: LogStore, S: WakerList, P: WakerList<Waker = S::Waker>> PubSubOver<G, S, P> {
     /// Returns the log of the messages.
     pub fn log(&self) -> &G
         ensures { G.log result.now ≡ self.now.log }
@@ -193,7 +197,7 @@ impl<G: LogStore, S: WakerList, P: WakerList<Waker = S::Waker>> PubSubOver<G, S,
         ensures count { Adds P.room self.old.publishers result self.new.publishers }
         ensures rest { self.new ≡ record self.old { publishers = self.new.publishers } }
     {
-        if self.publishers >= P::room() {
+        if self.publishers >= self.publisher_wakers.room() {
             return Err(Error::MaximumPublishersReached);
         }
         self.publishers += 1;

@@ -16,17 +16,17 @@ use Rattle.esync_channel.specs.Mailbox.{Slots}
 use Rattle.esync_channel.specs.ChannelRules.{channel_rules, channel_wakings}
 use Rattle.esync_script.specs.Setting.{Setting, setting_of}
 
-abbrev pub channel_asks : List ℕ → List (List ℕ) → Option (ChannelAsk ℕ)
-channel_asks name words =
-    if is_text name (codes "send") then option_map (λ v. Send v) (one 32 words)
+abbrev pub channel_asks : ℕ → List ℕ → List (List ℕ) → Option (ChannelAsk ℕ)
+channel_asks k name words =
+    if is_text name (codes "send") then option_map (λ v. Send v) (one k words)
     else if is_text name (codes "receive") then option_map (λ x. Receive) (nothing words)
     else if is_text name (codes "send-ready") then option_map (λ x. SendReady) (nothing words)
     else if is_text name (codes "receive-ready") then option_map (λ x. ReceiveReady) (nothing words)
     else None
 
-abbrev pub channel_calls : List ℕ → List (List ℕ) → Option (ChannelCall ℕ)
-channel_calls name words =
-    if is_text name (codes "try-send") then option_map (λ v. TrySend v) (one 32 words)
+abbrev pub channel_calls : ℕ → List ℕ → List (List ℕ) → Option (ChannelCall ℕ)
+channel_calls k name words =
+    if is_text name (codes "try-send") then option_map (λ v. TrySend v) (one k words)
     else if is_text name (codes "try-receive") then option_map (λ x. TryReceive) (nothing words)
     else if is_text name (codes "clear") then option_map (λ x. Clear) (nothing words)
     else if is_text name (codes "len") then option_map (λ x. Len) (nothing words)
@@ -47,5 +47,5 @@ abbrev pub nobody_waits : Slots ℕ
 nobody_waits = record { receivers = []; senders = [] }
 
 -- a channel or a priority channel that keeps its messages in this way
-abbrev pub channel_setting : Keeping ℕ → Setting
-channel_setting keeping = setting_of 1 (channel_rules keeping) (channel_wakings nat_eq keeping) channel_asks channel_calls channel_text [] nobody_waits
+abbrev pub channel_setting : ℕ → Keeping ℕ → Setting
+channel_setting k keeping = setting_of 1 (channel_rules keeping) (channel_wakings nat_eq keeping) (channel_asks k) (channel_calls k) channel_text [] nobody_waits

@@ -17,13 +17,13 @@ a_lock = record {}
 abbrev pub mutex_asks : List ℕ → List (List ℕ) → Option Lock
 mutex_asks name words = if is_text name (codes "lock") then option_map (λ x. a_lock) (nothing words) else None
 
-abbrev pub mutex_calls : List ℕ → List (List ℕ) → Option (MutexCall (ℕ × ℕ) ℕ)
-mutex_calls name words =
+abbrev pub mutex_calls : ℕ → List ℕ → List (List ℕ) → Option (MutexCall (ℕ × ℕ) ℕ)
+mutex_calls k name words =
     if is_text name (codes "try-lock") then option_map (λ r. TryLock r) (one 64 words)
     else if is_text name (codes "read") then option_map (λ r. Read r) (one 64 words)
-    else if is_text name (codes "write") then option_map (λ p. Write p.0 (p.1, p.2)) (number_and_values words)
+    else if is_text name (codes "write") then option_map (λ p. Write p.0 (p.1, p.2)) (number_and_values k words)
     else if is_text name (codes "map") then option_map (λ r. Map r) (one 64 words)
-    else if is_text name (codes "write-part") then option_map (λ p. WritePart p.0 p.1) (two 64 32 words)
+    else if is_text name (codes "write-part") then option_map (λ p. WritePart p.0 p.1) (two 64 k words)
     else None
 
 abbrev pub mutex_text : MutexHeard (ℕ × ℕ) ℕ → List ℕ
@@ -44,5 +44,5 @@ second v = v.1
 abbrev pub with_second : ℕ × ℕ → ℕ → ℕ × ℕ
 with_second v x = (v.0, x)
 
-abbrev pub mutex_setting : ℕ → ℕ → Setting
-mutex_setting v x = setting_of 1 (mutex_rules second with_second) (mutex_wakings nat_eq) mutex_asks mutex_calls mutex_text (a_free_lock v x) []
+abbrev pub mutex_setting : ℕ → ℕ → ℕ → Setting
+mutex_setting k v x = setting_of 1 (mutex_rules second with_second) (mutex_wakings nat_eq) mutex_asks (mutex_calls k) mutex_text (a_free_lock v x) []

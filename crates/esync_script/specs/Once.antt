@@ -18,11 +18,11 @@ a_get = record {}
 abbrev pub once_asks : List ℕ → List (List ℕ) → Option Get
 once_asks name words = if is_text name (codes "get") then option_map (λ x. a_get) (nothing words) else None
 
-abbrev pub once_calls : List ℕ → List (List ℕ) → Option (OnceCall ℕ)
-once_calls name words =
+abbrev pub once_calls : ℕ → List ℕ → List (List ℕ) → Option (OnceCall ℕ)
+once_calls k name words =
     if is_text name (codes "try-get") then option_map (λ x. TryGet) (nothing words)
-    else if is_text name (codes "init") then option_map (λ v. Init v) (one 32 words)
-    else if is_text name (codes "get-or-init") then option_map (λ v. GetOrInit v) (one 32 words)
+    else if is_text name (codes "init") then option_map (λ v. Init v) (one k words)
+    else if is_text name (codes "get-or-init") then option_map (λ v. GetOrInit v) (one k words)
     else if is_text name (codes "take") then option_map (λ x. Take) (nothing words)
     else if is_text name (codes "is-set") then option_map (λ x. AskSet) (nothing words)
     else None
@@ -36,5 +36,5 @@ once_text (Shown value) = decimal value
 once_text (IsSet true) = codes "true"
 once_text (IsSet false) = codes "false"
 
-abbrev pub once_setting : Setting
-once_setting = setting_of 1 (once_rules ℕ) (once_wakings ℕ ℕ) once_asks once_calls once_text None tt
+abbrev pub once_setting : ℕ → Setting
+once_setting k = setting_of 1 (once_rules ℕ) (once_wakings ℕ ℕ) once_asks (once_calls k) once_text None tt

@@ -37,57 +37,60 @@ abbrev pub only_one : {A : Type 0} → A → ℕ → Option A
 only_one x n = if n == 1 then Some x else None
 
 module _ {C : Type 0} where
-  -- the primitive that line 1 names, where a number says this capacity, or none
-  abbrev pub opening : (ℕ → Option C) → List ℕ → List (List ℕ) → Option (OpeningOf C)
-  opening sized name words =
+  -- the primitive that line 1 names, where a number says this capacity, or none, and a value has k bits
+  abbrev pub opening : (ℕ → Option C) → ℕ → List ℕ → List (List ℕ) → Option (OpeningOf C)
+  opening sized k name words =
       if is_text name (codes "channel") then option_map (λ c. Channel c) (and_then (one 64 words) sized)
       else if is_text name (codes "max") then option_map (λ c. Max c) (and_then (one 64 words) sized)
       else if is_text name (codes "min") then option_map (λ c. Min c) (and_then (one 64 words) sized)
       else if is_text name (codes "signal") then and_then (one 64 words) (only_one Signal)
       else if is_text name (codes "greedy") then and_then (two 64 64 words) (λ p. only_one (Greedy p.1) p.0)
       else if is_text name (codes "fair") then and_then (two 64 64 words) (λ p. option_map (λ c. Fair c p.1) (sized p.0))
-      else if is_text name (codes "pipe") then option_map (λ c. Pipe c) (and_then (one 64 words) capacity)
+      else if is_text name (codes "pipe") then option_map (λ c. Pipe c) (and_then (one 64 words) sized)
       else if is_text name (codes "pubsub") then and_then (one_or_two 64 64 words) (λ p. option_map (λ c. PubSub c (unwrap_or p.1 0)) (sized p.0))
       else if is_text name (codes "once") then and_then (one 64 words) (only_one Once)
-      else if is_text name (codes "lazy") then and_then (two 64 32 words) (λ p. only_one (Lazy p.1) p.0)
+      else if is_text name (codes "lazy") then and_then (two 64 k words) (λ p. only_one (Lazy p.1) p.0)
       else if is_text name (codes "zerocopy") then option_map (λ c. Zerocopy c) (and_then (one 64 words) sized)
-      else if is_text name (codes "mutex") then and_then (number_and_values words) (λ p. only_one (Mutex p.1 p.2) p.0)
-      else if is_text name (codes "watch") then and_then (one_or_two 64 32 words) (λ p. option_map (λ c. Watch c p.1) (capacity p.0))
+      else if is_text name (codes "mutex") then and_then (number_and_values k words) (λ p. only_one (Mutex p.1 p.2) p.0)
+      else if is_text name (codes "watch") then and_then (one_or_two 64 k words) (λ p. option_map (λ c. Watch c p.1) (sized p.0))
       else None
 
-  -- the setting of the primitive that line 1 names, where a capacity has this number of places
-  abbrev pub setting : (C → ℕ) → OpeningOf C → Setting
-  setting size (Channel c) = channel_setting (BoundedList ℕ (size c))
-  setting size (Max c) = channel_setting (Bag ℕ (greater nat_cmp) (size c))
-  setting size (Min c) = channel_setting (Bag ℕ (less nat_cmp) (size c))
-  setting size Signal = signal_setting
-  setting size (Greedy permits) = greedy_setting permits
-  setting size (Fair c permits) = fair_setting (size c) permits
-  setting size (Pipe c) = pipe_setting (places c)
-  setting size (PubSub c first) = pubsub_setting (size c) first
-  setting size Once = once_setting
-  setting size (Lazy v) = lazy_setting v
-  setting size (Mutex v x) = mutex_setting v x
-  setting size (Watch c value) = watch_setting (places c) value
-  setting size (Zerocopy c) = zero_setting (size c)
+  -- The setting of the primitive that line 1 names. A capacity has this number of places, a command of a pipe has at most
+  -- so many bytes, and a value has k bits.
+  module _ (size : C → ℕ) (bytes k : ℕ) where
+    abbrev pub setting : OpeningOf C → Setting
+    setting (Channel c) = channel_setting k (BoundedList ℕ (size c))
+    setting (Max c) = channel_setting k (Bag ℕ (greater nat_cmp) (size c))
+    setting (Min c) = channel_setting k (Bag ℕ (less nat_cmp) (size c))
+    setting Signal = signal_setting k
+    setting (Greedy permits) = greedy_setting permits
+    setting (Fair c permits) = fair_setting (size c) permits
+    setting (Pipe c) = pipe_setting bytes (size c)
+    setting (PubSub c first) = pubsub_setting k (size c) first
+    setting Once = once_setting k
+    setting (Lazy v) = lazy_setting v
+    setting (Mutex v x) = mutex_setting k v x
+    setting (Watch c value) = watch_setting k (size c) value
+    setting (Zerocopy c) = zero_setting k (size c)
 
--- What line 1 can say, and the setting of each primitive that it names.
+-- What line 1 can say, the setting of each primitive that it names, and the greatest number of bytes of a line.
 pub record Language : Type 1 where
   pub Opening : Type 0
   pub opening : List ℕ → List (List ℕ) → Option Opening
   pub setting : Opening → Setting
+  pub longest : ℕ
 
 -- the language whose capacities are of the type C: `sized` reads a number as one, `size` is its number of places
-abbrev pub language : (C : Type 0) → (ℕ → Option C) → (C → ℕ) → Language
-language C sized size = record { Opening = OpeningOf C; opening = opening sized; setting = setting size }
+abbrev pub language : (C : Type 0) → (ℕ → Option C) → (C → ℕ) → (bytes bits longest : ℕ) → Language
+language C sized size bytes bits longest = record { Opening = OpeningOf C; opening = opening sized bits; setting = setting size bytes bits; longest = longest }
 
 -- the language of `syncrun`
 abbrev pub scripts : Language
-scripts = language Capacity capacity places
+scripts = language Capacity capacity places 16 32 256
 
 -- the language of recorded runs, and of every script but those of `syncrun`
 abbrev pub runs : Language
-runs = language ℕ any_capacity (λ c. c)
+runs = language ℕ any_capacity (λ c. c) 4096 64 16640
 
 -- Behind lines that were played, the foot is written. The script's outcome is theirs, unless a write or memory failed.
 abbrev pub Closes : List ℕ → Option (List ℕ) → Option (List ℕ) → Result (Unit {0}) Fault → Result (Unit {0}) Fault → Type 0
@@ -96,14 +99,14 @@ Closes foot before after played outcome = IsJudged outcome → (outcome ≡ play
 -- The statement `plays` on the lines behind line n and on the named primitive's machine, which begins as line 1 says.
 module _ (L : Language) (plays : (Q C A Reply : Type 0) (M : Meaning (Command Q ℕ C) Reply ℕ) → (List ℕ → Option (Command Q ℕ C)) → (A → List ℕ) → (Reply → Answer A) → (Reply → List ℕ) → M.Object → M.Registered → ℕ → Option (List ℕ) → Option (List ℕ) → Option (List ℕ) → Result (Unit {0}) Fault → Type 0) where
   abbrev pub Plays : L.Opening → ℕ → Option (List ℕ) → Option (List ℕ) → Option (List ℕ) → Result (Unit {0}) Fault → Type 0
-  Plays o n left before after outcome = PlaysFrom plays (L.setting o) n left before after outcome
+  Plays o n left before after outcome = PlaysFrom plays L.longest (L.setting o) n left before after outcome
 
 -- A whole script. Line 1 names a primitive, the story tells of it, the lines behind it are played, and the foot is
 -- written. Or line 1 names none; or a read, a write or memory failed before.
 abbrev pub PlaysBehind : (L : Language) (S : Story) → (S.Notes → S.Notes → (Q C A Reply : Type 0) (M : Meaning (Command Q ℕ C) Reply ℕ) → (List ℕ → Option (Command Q ℕ C)) → (A → List ℕ) → (Reply → Answer A) → (Reply → List ℕ) → M.Object → M.Registered → ℕ → Option (List ℕ) → Option (List ℕ) → Option (List ℕ) → Result (Unit {0}) Fault → Type 0) → Option (List ℕ) → Option (List ℕ) → Option (List ℕ) → Result (Unit {0}) Fault → Type 0
 PlaysBehind L S plays left before after outcome =
-    ((o : L.Opening) × (was now : S.Notes) × (rest mid last : Option (List ℕ)) × (played : Result (Unit {0}) Fault) × Opened (says L.opening) S o was left rest before mid × Plays L (plays was now) o 1 rest mid last played × Closes S.foot last after played outcome)
-    ⊎ ((fault : Fault) × (outcome ≡ Err fault) × (IsJudged (Err fault) → NotOpened (says L.opening) fault left before after))
+    ((o : L.Opening) × (was now : S.Notes) × (rest mid last : Option (List ℕ)) × (played : Result (Unit {0}) Fault) × Opened (says L.longest L.opening) S o was left rest before mid × Plays L (plays was now) o 1 rest mid last played × Closes S.foot last after played outcome)
+    ⊎ ((fault : Fault) × (outcome ≡ Err fault) × (IsJudged (Err fault) → NotOpened (says L.longest L.opening) fault left before after))
 
 -- A whole script, whose lines are given to the primitive as commands, and of which the story is written.
 abbrev pub PlaysScript : Language → Story → Option (List ℕ) → Option (List ℕ) → Option (List ℕ) → Result (Unit {0}) Fault → Type 0

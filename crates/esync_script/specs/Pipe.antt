@@ -1,5 +1,5 @@
 -- The words of a pipe, and the text of what it tells.
-use Rattle.std.specs.Prelude.{ℕ, List, ◌++◌, codes, decimal, Option, None, Result, Ok, Err, if◌then◌else◌, []}
+use Rattle.std.specs.Prelude.{ℕ, suc, List, ◌++◌, codes, decimal, Option, None, Result, Ok, Err, if◌then◌else◌, []}
 use Rattle.std.specs.Option.{option_map}
 use Rattle.std.proofs.Common.{nat_eq}
 use Rattle.esync_pipe.specs.declared.pipe.TryReadError.{TryReadError}
@@ -18,22 +18,22 @@ use Rattle.esync_pipe.specs.PipeRules.{pipe_rules, pipe_wakings}
 use Rattle.esync_pipe.specs.Piped.{Slots as PipeSlots}
 use Rattle.esync_script.specs.Setting.{Setting, setting_of}
 
--- how many bytes a read asks for: at most 16
-abbrev pub a_count : List (List ℕ) → Option ℕ
-a_count words = and_then (one 64 words) (below 17)
+-- how many bytes a read asks for: at most so many
+abbrev pub a_count : ℕ → List (List ℕ) → Option ℕ
+a_count most words = and_then (one 64 words) (below (suc most))
 
-abbrev pub pipe_asks : List ℕ → List (List ℕ) → Option (PipeAsk (List ℕ))
-pipe_asks name words =
-    if is_text name (codes "write") then option_map (λ b. Write b) (row 16 words)
-    else if is_text name (codes "write-all") then option_map (λ b. WriteAll b) (row 16 words)
-    else if is_text name (codes "read") then option_map (λ n. Read n) (a_count words)
+abbrev pub pipe_asks : ℕ → List ℕ → List (List ℕ) → Option (PipeAsk (List ℕ))
+pipe_asks most name words =
+    if is_text name (codes "write") then option_map (λ b. Write b) (row most words)
+    else if is_text name (codes "write-all") then option_map (λ b. WriteAll b) (row most words)
+    else if is_text name (codes "read") then option_map (λ n. Read n) (a_count most words)
     else if is_text name (codes "fill") then option_map (λ x. Fill) (nothing words)
     else None
 
-abbrev pub pipe_calls : List ℕ → List (List ℕ) → Option (PipeCall (List ℕ))
-pipe_calls name words =
-    if is_text name (codes "try-write") then option_map (λ b. TryWrite b) (row 16 words)
-    else if is_text name (codes "try-read") then option_map (λ n. TryRead n) (a_count words)
+abbrev pub pipe_calls : ℕ → List ℕ → List (List ℕ) → Option (PipeCall (List ℕ))
+pipe_calls most name words =
+    if is_text name (codes "try-write") then option_map (λ b. TryWrite b) (row most words)
+    else if is_text name (codes "try-read") then option_map (λ n. TryRead n) (a_count most words)
     else if is_text name (codes "try-fill") then option_map (λ x. TryFill) (nothing words)
     else if is_text name (codes "consume") then option_map (λ n. Consume n) (one 64 words)
     else if is_text name (codes "clear") then option_map (λ x. Clear) (nothing words)
@@ -68,6 +68,6 @@ an_empty_pipe = record { items = []; front = 0 }
 abbrev pub no_slot : PipeSlots ℕ
 no_slot = record { readers = []; writers = [] }
 
--- a pipe, whose steps hand out two wakers at most
-abbrev pub pipe_setting : ℕ → Setting
-pipe_setting places = setting_of 2 (pipe_rules places) (pipe_wakings nat_eq places) pipe_asks pipe_calls pipe_text an_empty_pipe no_slot
+-- a pipe, whose steps hand out two wakers at most; a command writes or reads at most so many bytes
+abbrev pub pipe_setting : ℕ → ℕ → Setting
+pipe_setting most places = setting_of 2 (pipe_rules places) (pipe_wakings nat_eq places) (pipe_asks most) (pipe_calls most) pipe_text an_empty_pipe no_slot

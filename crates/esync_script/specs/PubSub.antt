@@ -19,22 +19,22 @@ use Rattle.esync_pubsub.specs.PubSub.{Lists}
 use Rattle.esync_pubsub.specs.PubSubRules.{Topic, pubsub_rules, pubsub_wakings}
 use Rattle.esync_script.specs.Setting.{Setting, setting_of, IsSame, NeedsNone}
 
-abbrev pub pubsub_asks : List ℕ → List (List ℕ) → Option (PubSubAsk ℕ)
-pubsub_asks name words =
-    if is_text name (codes "publish") then option_map (λ p. Publish p.0 p.1) (two 64 32 words)
+abbrev pub pubsub_asks : ℕ → List ℕ → List (List ℕ) → Option (PubSubAsk ℕ)
+pubsub_asks k name words =
+    if is_text name (codes "publish") then option_map (λ p. Publish p.0 p.1) (two 64 k words)
     else if is_text name (codes "message") then option_map (λ s. Message s) (one 64 words)
     else if is_text name (codes "message-pure") then option_map (λ s. MessagePure s) (one 64 words)
     else if is_text name (codes "stream") then option_map (λ s. Stream s) (one 64 words)
     else None
 
-abbrev pub pubsub_calls : List ℕ → List (List ℕ) → Option (PubSubCall ℕ)
-pubsub_calls name words =
+abbrev pub pubsub_calls : ℕ → List ℕ → List (List ℕ) → Option (PubSubCall ℕ)
+pubsub_calls k name words =
     if is_text name (codes "join") then option_map (λ s. Join s) (one 64 words)
     else if is_text name (codes "leave") then option_map (λ s. Leave s) (one 64 words)
     else if is_text name (codes "publisher") then option_map (λ p. Publisher p) (one 64 words)
     else if is_text name (codes "retire") then option_map (λ p. Retire p) (one 64 words)
-    else if is_text name (codes "try-publish") then option_map (λ p. TryPublish p.0 p.1) (two 64 32 words)
-    else if is_text name (codes "immediate") then option_map (λ v. Immediate v) (one 32 words)
+    else if is_text name (codes "try-publish") then option_map (λ p. TryPublish p.0 p.1) (two 64 k words)
+    else if is_text name (codes "immediate") then option_map (λ v. Immediate v) (one k words)
     else if is_text name (codes "next") then option_map (λ s. Next s) (one 64 words)
     else if is_text name (codes "next-pure") then option_map (λ s. NextPure s) (one 64 words)
     else if is_text name (codes "available") then option_map (λ s. Available s) (one 64 words)
@@ -82,5 +82,5 @@ abbrev pub no_lists : Lists ℕ
 no_lists = record { subscribers = []; publishers = [] }
 
 -- a channel of `places` messages for four subscribers and four publishers, whose steps hand out four wakers at most
-abbrev pub pubsub_setting : ℕ → ℕ → Setting
-pubsub_setting places first = setting_of 4 (pubsub_rules IsSame NeedsNone places 4) (pubsub_wakings nat_eq 4 4) pubsub_asks pubsub_calls pubsub_text (a_new_topic first) no_lists
+abbrev pub pubsub_setting : ℕ → ℕ → ℕ → Setting
+pubsub_setting k places first = setting_of 4 (pubsub_rules IsSame NeedsNone places 4) (pubsub_wakings nat_eq 4 4) (pubsub_asks k) (pubsub_calls k) pubsub_text (a_new_topic first) no_lists

@@ -20,7 +20,7 @@ pub record Setting : Type 1 where
   pub Heard : Type 0
   pub rules : Rules Ask Held Call Heard
   pub wakings : Wakings rules.Core Held Call Heard ℕ
-  -- the greatest number of wakers that a step hands out
+  -- how many wakers a reply has room for, which are enough for each step
   pub most : ℕ
   -- the ask and the call that a name and the words behind it say, and the text of an answer
   pub asks : List ℕ → List (List ℕ) → Option Ask
@@ -61,8 +61,9 @@ IsSame v w = w ≡ v
 abbrev pub NeedsNone : ℕ → Type 0
 NeedsNone v = Unit {0}
 
--- The statement `plays` on the lines behind line n and on the primitive's machine, which begins without requests.
+-- The statement `plays` on the lines behind line n, each of at most `longest` bytes, and on the primitive's machine,
+-- which begins without requests.
 module _ (plays : (Q C A Reply : Type 0) (M : Meaning (Command Q ℕ C) Reply ℕ) → (List ℕ → Option (Command Q ℕ C)) → (A → List ℕ) → (Reply → Answer A) → (Reply → List ℕ) → M.Object → M.Registered → ℕ → Option (List ℕ) → Option (List ℕ) → Option (List ℕ) → Result (Unit {0}) Fault → Type 0) where
-  abbrev pub PlaysFrom : Setting → ℕ → Option (List ℕ) → Option (List ℕ) → Option (List ℕ) → Result (Unit {0}) Fault → Type 0
-  PlaysFrom s n left before after outcome =
-      plays s.Ask s.Call s.Heard (Reply (Answer s.Heard) ℕ s.most) (requests_meaning s.rules s.wakings nat_eq s.most) (says (command s.asks s.calls)) s.text (λ a. a.answer) (λ a. a.wakes) (new_object s.core) s.registered n left before after outcome
+  abbrev pub PlaysFrom : ℕ → Setting → ℕ → Option (List ℕ) → Option (List ℕ) → Option (List ℕ) → Result (Unit {0}) Fault → Type 0
+  PlaysFrom longest s n left before after outcome =
+      plays s.Ask s.Call s.Heard (Reply (Answer s.Heard) ℕ s.most) (requests_meaning s.rules s.wakings nat_eq s.most) (says longest (command s.asks s.calls)) s.text (λ a. a.answer) (λ a. a.wakes) (new_object s.core) s.registered n left before after outcome

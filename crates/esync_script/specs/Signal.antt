@@ -18,9 +18,9 @@ a_wait = record {}
 abbrev pub signal_asks : List ℕ → List (List ℕ) → Option Wait
 signal_asks name words = if is_text name (codes "wait") then option_map (λ x. a_wait) (nothing words) else None
 
-abbrev pub signal_calls : List ℕ → List (List ℕ) → Option (SignalCall ℕ)
-signal_calls name words =
-    if is_text name (codes "signal") then option_map (λ v. Signal v) (one 32 words)
+abbrev pub signal_calls : ℕ → List ℕ → List (List ℕ) → Option (SignalCall ℕ)
+signal_calls k name words =
+    if is_text name (codes "signal") then option_map (λ v. Signal v) (one k words)
     else if is_text name (codes "reset") then option_map (λ x. Reset) (nothing words)
     else if is_text name (codes "try-take") then option_map (λ x. TryTake) (nothing words)
     else if is_text name (codes "signaled") then option_map (λ x. AskSignaled) (nothing words)
@@ -32,5 +32,5 @@ signal_text (Taken taken) = option_text taken
 signal_text (Signaled true) = codes "true"
 signal_text (Signaled false) = codes "false"
 
-abbrev pub signal_setting : Setting
-signal_setting = setting_of 1 (signal_rules ℕ) (signal_wakings nat_eq) signal_asks signal_calls signal_text None []
+abbrev pub signal_setting : ℕ → Setting
+signal_setting k = setting_of 1 (signal_rules ℕ) (signal_wakings nat_eq) signal_asks (signal_calls k) signal_text None []

@@ -16,10 +16,10 @@ use Rattle.std.proofs.Math.ListN.{replicate}
 use Rattle.esync_cells.specs.WatchRules.{Watch, watch_rules, watch_wakings}
 use Rattle.esync_script.specs.Setting.{Setting, setting_of, IsSame, NeedsNone}
 
--- a value with this much added, modulo 2^32; no value stays none
-abbrev pub added : ℕ → Option ℕ → Option ℕ
-added amount None = None
-added amount (Some v) = if amount == 0 then Some v else Some ((v + amount) % 2 ^ 32)
+-- a value of k bits with this much added, modulo 2^k; no value stays none
+abbrev pub added : (k amount : ℕ) → Option ℕ → Option ℕ
+added k amount None = None
+added k amount (Some v) = if amount == 0 then Some v else Some ((v + amount) % 2 ^ k)
 
 -- whether there is a value to add to, and an amount to add
 abbrev pub adds : ℕ → Option ℕ → Bool
@@ -31,35 +31,35 @@ adds_by true v w told = refl
 adds_by false v w told = cc
 
 -- a value to which nothing is added is unchanged
-pub adds_tells : (amount : ℕ) (v : Option ℕ) → adds amount v ≡ false → added amount v ≡ v
-adds_tells amount None told = refl
-adds_tells amount (Some v) told = adds_by (amount == 0) v ((v + amount) % 2 ^ 32) told
+pub adds_tells : (k amount : ℕ) (v : Option ℕ) → adds amount v ≡ false → added k amount v ≡ v
+adds_tells k amount None told = refl
+adds_tells k amount (Some v) told = adds_by (amount == 0) v ((v + amount) % 2 ^ k) told
 
-abbrev pub watch_asks : List ℕ → List (List ℕ) → Option (Await Below)
-watch_asks name words =
+abbrev pub watch_asks : ℕ → List ℕ → List (List ℕ) → Option (Await Below)
+watch_asks k name words =
     if is_text name (codes "get") then option_map (λ h. record { receiver = h; read = Get }) (one 64 words)
     else if is_text name (codes "changed") then option_map (λ h. record { receiver = h; read = Changed }) (one 64 words)
-    else if is_text name (codes "get-below") then option_map (λ p. record { receiver = p.0; read = GetAnd (record { limit = p.1 }) }) (two 64 32 words)
-    else if is_text name (codes "changed-below") then option_map (λ p. record { receiver = p.0; read = ChangedAnd (record { limit = p.1 }) }) (two 64 32 words)
+    else if is_text name (codes "get-below") then option_map (λ p. record { receiver = p.0; read = GetAnd (record { limit = p.1 }) }) (two 64 k words)
+    else if is_text name (codes "changed-below") then option_map (λ p. record { receiver = p.0; read = ChangedAnd (record { limit = p.1 }) }) (two 64 k words)
     else None
 
 -- the try forms have the words of the asks
-abbrev pub watch_reads : List ℕ → List (List ℕ) → Option (WatchCall ℕ Adds Below)
-watch_reads name words = option_map (λ (ask : Await Below). Read ask.receiver ask.read) (watch_asks name words)
+abbrev pub watch_reads : ℕ → List ℕ → List (List ℕ) → Option (WatchCall ℕ Adds Below)
+watch_reads k name words = option_map (λ (ask : Await Below). Read ask.receiver ask.read) (watch_asks k name words)
 
-abbrev pub watch_calls : List ℕ → List (List ℕ) → Option (WatchCall ℕ Adds Below)
-watch_calls name words =
+abbrev pub watch_calls : ℕ → List ℕ → List (List ℕ) → Option (WatchCall ℕ Adds Below)
+watch_calls k name words =
     if is_text name (codes "receiver") then option_map (λ h. Receiver h) (one 64 words)
     else if is_text name (codes "anon") then option_map (λ h. Anon h) (one 64 words)
     else if is_text name (codes "leave") then option_map (λ h. Leave h) (one 64 words)
     else if is_text name (codes "clear") then option_map (λ x. Clear) (nothing words)
-    else if is_text name (codes "send") then option_map (λ v. Send v) (one 32 words)
-    else if is_text name (codes "modify") then option_map (λ v. Modify (record { amount = v })) (one 32 words)
-    else if is_text name (codes "modify-if") then option_map (λ v. ModifyIf (record { amount = v })) (one 32 words)
+    else if is_text name (codes "send") then option_map (λ v. Send v) (one k words)
+    else if is_text name (codes "modify") then option_map (λ v. Modify (record { bits = k; amount = v })) (one k words)
+    else if is_text name (codes "modify-if") then option_map (λ v. ModifyIf (record { bits = k; amount = v })) (one k words)
     else if is_text name (codes "try-get") then option_map (λ x. TryGet) (nothing words)
     else if is_text name (codes "id") then option_map (λ x. Id) (nothing words)
     else if is_text name (codes "contains") then option_map (λ x. Contains) (nothing words)
-    else watch_reads name words
+    else watch_reads k name words
 
 abbrev pub watch_text : WatchHeard ℕ → List ℕ
 watch_text (Waited value) = codes "Ready(" ++ decimal value ++ codes ")"
@@ -80,7 +80,7 @@ a_new_watch value = record { value = value; version = 0; receivers = replicate 1
 
 -- what a change of a script makes of a value, and whether it tells; and which values pass a test
 abbrev pub changed : Adds → Option ℕ → Option ℕ
-changed change value = added change.amount value
+changed change value = added change.bits change.amount value
 
 abbrev pub tells_change : Adds → Option ℕ → Bool
 tells_change change value = adds change.amount value
@@ -88,6 +88,6 @@ tells_change change value = adds change.amount value
 abbrev pub passes : Below → ℕ → Bool
 passes below value = nat_lt value below.limit
 
--- a watch, whose steps hand out as many wakers at most as there are counted receivers
-abbrev pub watch_setting : ℕ → Option ℕ → Setting
-watch_setting places value = setting_of places (watch_rules places IsSame NeedsNone changed tells_change passes) (watch_wakings nat_eq places tells_change) watch_asks watch_calls watch_text (a_new_watch value) []
+-- a watch, whose steps hand out as many wakers at most as receivers can be counted
+abbrev pub watch_setting : ℕ → ℕ → Option ℕ → Setting
+watch_setting k places value = setting_of 4096 (watch_rules places IsSame NeedsNone changed tells_change passes) (watch_wakings nat_eq places tells_change) (watch_asks k) (watch_calls k) watch_text (a_new_watch value) []

@@ -23,11 +23,11 @@ zero_asks name words =
     else if is_text name (codes "receive") then option_map (λ x. Receiver) (nothing words)
     else None
 
-abbrev pub zero_calls : List ℕ → List (List ℕ) → Option (ZeroCall ℕ)
-zero_calls name words =
+abbrev pub zero_calls : ℕ → List ℕ → List (List ℕ) → Option (ZeroCall ℕ)
+zero_calls k name words =
     if is_text name (codes "try-send") then option_map (λ x. Try Sender) (nothing words)
     else if is_text name (codes "try-receive") then option_map (λ x. Try Receiver) (nothing words)
-    else if is_text name (codes "write") then option_map (λ v. Write v) (one 32 words)
+    else if is_text name (codes "write") then option_map (λ v. Write v) (one k words)
     else if is_text name (codes "done-send") then option_map (λ x. Done Sender) (nothing words)
     else if is_text name (codes "done-receive") then option_map (λ x. Done Receiver) (nothing words)
     else if is_text name (codes "end-send") then option_map (λ x. EndLoan Sender) (nothing words)
@@ -58,5 +58,5 @@ zero_slots n = record { sides = all_spare n; values = replicate n 0 }
 abbrev pub no_side_waits : Waiting ℕ
 no_side_waits = record { senders = []; receivers = [] }
 
-abbrev pub zero_setting : ℕ → Setting
-zero_setting places = setting_of 1 (zero_rules ℕ) (zero_wakings nat_eq) zero_asks zero_calls zero_text (zero_slots places) no_side_waits
+abbrev pub zero_setting : ℕ → ℕ → Setting
+zero_setting k places = setting_of 1 (zero_rules ℕ) (zero_wakings nat_eq) zero_asks (zero_calls k) zero_text (zero_slots places) no_side_waits

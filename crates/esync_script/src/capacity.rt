@@ -2,13 +2,16 @@
 ghost use Rattle.std.specs.Prelude.{◌≡◌, ◌≤◌};
 ghost use Rattle.esync_script.specs.Capacity.{capacity, places, any_capacity};
 
+use esync_words::bits::Bits;
+use esync_words::lines::{LONGEST, LineLimit, SHORT};
 use std::marker::Model;
 
 /// The greatest capacity.
 pub const MOST: usize = 4096;
 
-/// A capacity as line 1 says it. A language of scripts has one type of capacities.
-pub trait Size: Drop {
+/// A capacity as line 1 says it. A language of scripts has one type of capacities, which stands for the language: it
+/// says how long a line is, how many bytes a command of a pipe has, and how many bits a value.
+pub trait Size: LineLimit + Drop {
     ghost use Rattle.std.specs.Prelude.{ℕ, Option};
 
     /// The capacity of this number of places, if line 1 can say it.
@@ -16,6 +19,21 @@ pub trait Size: Drop {
 
     /// How many places it says.
     ghost size: { Self → ℕ };
+
+    /// The greatest number of bytes that a command of a pipe writes or reads.
+    ghost bytes: { ℕ };
+
+    /// How many bits a value has.
+    ghost bits: { ℕ };
+
+    /// Returns the greatest number of bytes that a command of a pipe writes or reads.
+    fn bytes() -> usize
+        ensures value { result ≡ bytes }
+        ensures few { result ≤ 4096 };
+
+    /// Returns how many bits a value has.
+    fn bits() -> Bits
+        ensures { result ≡ bits };
 
     /// Returns the capacity of this number of places, if line 1 can say it.
     fn of(places: u64) -> Option<Self>
@@ -38,10 +56,34 @@ pub enum Capacity {
     Eight,
 }
 
+impl LineLimit for Capacity {
+    ghost use Rattle.std.proofs.Common.{arith};
+
+    ghost longest = { 256 };
+
+    ghost a_line_has_room = { omega arith };
+
+    fn longest() -> usize {
+        SHORT
+    }
+}
+
 impl Size for Capacity {
     ghost sized = { capacity };
 
     ghost size = { places };
+
+    ghost bytes = { 16 };
+
+    ghost bits = { 32 };
+
+    fn bytes() -> usize {
+        16
+    }
+
+    fn bits() -> Bits {
+        Bits::short()
+    }
 
     fn of(places: u64) -> Option<Self> {
         match places {
@@ -84,10 +126,34 @@ impl Model for AnyCapacity {
     ghost invariant = { λ c. (1 ≤ c.places) × (c.places ≤ 4096) };
 }
 
+impl LineLimit for AnyCapacity {
+    ghost use Rattle.std.proofs.Common.{arith};
+
+    ghost longest = { 16640 };
+
+    ghost a_line_has_room = { omega arith };
+
+    fn longest() -> usize {
+        LONGEST
+    }
+}
+
 impl Size for AnyCapacity {
     ghost sized = { any_capacity };
 
     ghost size = { λ c. c };
+
+    ghost bytes = { 4096 };
+
+    ghost bits = { 64 };
+
+    fn bytes() -> usize {
+        MOST
+    }
+
+    fn bits() -> Bits {
+        Bits::long()
+    }
 
     fn of(places: u64) -> Option<Self> {
         if places < 1 || places > MOST as u64 {

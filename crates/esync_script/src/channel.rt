@@ -1,5 +1,5 @@
 //! The words of a channel and of a priority channel.
-use crate::capacity::MOST;
+use crate::capacity::{MOST, Size};
 use crate::scripted::Scripted;
 use esync_base::deque::Deque;
 use esync_base::limited::{Limit, Limited};
@@ -10,28 +10,31 @@ use esync_priority::prio::{Kind, PrioQueue};
 use esync_words::vocabulary::{Place, REQS, Vocabulary};
 use esync_words::words::Words;
 use std::io::{self, Write};
+use std::marker::PhantomData;
 
 /// The words of a channel of values.
-pub struct ChannelWords {}
+pub struct ChannelWords<C: Size> {
+    capacities: PhantomData<C>,
+}
 
-impl Vocabulary for ChannelWords {
-    type Ask = ChannelAsk<u32>;
+impl<C: Size> Vocabulary for ChannelWords<C> {
+    type Ask = ChannelAsk<u64>;
 
-    type Call = ChannelCall<u32>;
+    type Call = ChannelCall<u64>;
 
-    type Heard = ChannelHeard<u32>;
+    type Heard = ChannelHeard<u64>;
 
     ghost use Rattle.esync_script.specs.Channel.{channel_asks, channel_calls, channel_text};
 
-    ghost asks = { channel_asks };
+    ghost asks = { channel_asks C.bits };
 
-    ghost calls = { channel_calls };
+    ghost calls = { channel_calls C.bits };
 
     ghost text = { channel_text };
 
-    fn ask(name: &str, words: Words<'_>) -> Option<ChannelAsk<u32>> {
+    fn ask(name: &str, words: Words<'_>) -> Option<ChannelAsk<u64>> {
         match name {
-            "send" => Some(ChannelAsk::Send(words.value()?)),
+            "send" => Some(ChannelAsk::Send(words.value(C::bits())?)),
             "receive" => words.nothing().map(|_| ChannelAsk::Receive),
             "send-ready" => words.nothing().map(|_| ChannelAsk::SendReady),
             "receive-ready" => words.nothing().map(|_| ChannelAsk::ReceiveReady),
@@ -39,9 +42,9 @@ impl Vocabulary for ChannelWords {
         }
     }
 
-    fn call(name: &str, words: Words<'_>) -> Option<ChannelCall<u32>> {
+    fn call(name: &str, words: Words<'_>) -> Option<ChannelCall<u64>> {
         match name {
-            "try-send" => Some(ChannelCall::TrySend(words.value()?)),
+            "try-send" => Some(ChannelCall::TrySend(words.value(C::bits())?)),
             "try-receive" => words.nothing().map(|_| ChannelCall::TryReceive),
             "clear" => words.nothing().map(|_| ChannelCall::Clear),
             "len" => words.nothing().map(|_| ChannelCall::Len),
@@ -50,7 +53,7 @@ impl Vocabulary for ChannelWords {
         }
     }
 
-    fn print<W: Write>(heard: &ChannelHeard<u32>, output: &mut W) -> io::Result<()> {
+    fn print<W: Write>(heard: &ChannelHeard<u64>, output: &mut W) -> io::Result<()> {
         match heard {
             ChannelHeard::Ready => write!(output, "Ready"),
             ChannelHeard::Received(message) => write!(output, "Ready({message})"),
@@ -78,9 +81,9 @@ impl Vocabulary for ChannelWords {
 }
 
 /// A channel of at most `B.limit` messages.
-pub type Listed<B> = Requests<Mailbox<Limited<Deque<u32, MOST>, B>, u64>, REQS, 1>;
+pub type Listed<B> = Requests<Mailbox<Limited<Deque<u64, MOST>, B>, u64>, REQS, 1>;
 
-impl<B: Limit> Scripted<ChannelWords> for Listed<B> {
+impl<C: Size, B: Limit> Scripted<ChannelWords<C>> for Listed<B> {
     /// The capacity.
     type First = usize;
 
@@ -91,7 +94,7 @@ impl<B: Limit> Scripted<ChannelWords> for Listed<B> {
 
     ghost CanBegin = { λ capacity. (capacity ≡ B.limit) × (capacity ≤ 4096) };
 
-    ghost IsNew = { λ capacity m. BeginsAs (channel_setting (BoundedList ℕ B.limit)) (Self.semantics.object m) (Self.semantics.registrations m) };
+    ghost IsNew = { λ capacity m. BeginsAs (channel_setting C.bits (BoundedList ℕ B.limit)) (Self.semantics.object m) (Self.semantics.registrations m) };
 
     fn begin(capacity: usize) -> Self {
         Requests::new(Mailbox::over(Limited::new(capacity)))
@@ -99,9 +102,9 @@ impl<B: Limit> Scripted<ChannelWords> for Listed<B> {
 }
 
 /// A priority channel of at most `B.limit` messages.
-pub type Prioritized<Q, B> = Requests<Mailbox<Limited<PrioQueue<u32, Q, MOST>, B>, u64>, REQS, 1>;
+pub type Prioritized<Q, B> = Requests<Mailbox<Limited<PrioQueue<u64, Q, MOST>, B>, u64>, REQS, 1>;
 
-impl<Q: Kind<u32>, B: Limit> Scripted<ChannelWords> for Prioritized<Q, B> {
+impl<C: Size, Q: Kind<u64>, B: Limit> Scripted<ChannelWords<C>> for Prioritized<Q, B> {
     /// The capacity.
     type First = usize;
 
@@ -112,7 +115,7 @@ impl<Q: Kind<u32>, B: Limit> Scripted<ChannelWords> for Prioritized<Q, B> {
 
     ghost CanBegin = { λ capacity. (capacity ≡ B.limit) × (capacity ≤ 4096) };
 
-    ghost IsNew = { λ capacity m. BeginsAs (channel_setting (Bag ℕ Q.above B.limit)) (Self.semantics.object m) (Self.semantics.registrations m) };
+    ghost IsNew = { λ capacity m. BeginsAs (channel_setting C.bits (Bag ℕ Q.above B.limit)) (Self.semantics.object m) (Self.semantics.registrations m) };
 
     fn begin(capacity: usize) -> Self {
         Requests::new(Mailbox::over(Limited::new(capacity)))

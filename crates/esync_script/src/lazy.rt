@@ -15,7 +15,7 @@ impl Vocabulary for LazyWords {
 
     type Call = LazyCall;
 
-    type Heard = u32;
+    type Heard = u64;
 
     ghost use Rattle.std.specs.Prelude.{decimal};
     ghost use Rattle.esync_script.specs.Lazy.{lazy_asks, lazy_calls};
@@ -38,21 +38,21 @@ impl Vocabulary for LazyWords {
         }
     }
 
-    fn print<W: Write>(heard: &u32, output: &mut W) -> io::Result<()> {
+    fn print<W: Write>(heard: &u64, output: &mut W) -> io::Result<()> {
         write!(output, "{heard}")
     }
 }
 
-impl Scripted<LazyWords> for LazyRun<u32, Given<u32>, u64, REQS, 1> {
+impl Scripted<LazyWords> for LazyRun<u64, Given<u64>, u64, REQS, 1> {
     /// The value that will be made.
-    type First = u32;
+    type First = u64;
 
     ghost use Rattle.esync_script.specs.Lazy.{lazy_setting};
     ghost use Rattle.esync_script.specs.Setting.{BeginsAs};
 
     ghost IsNew = { λ value m. BeginsAs (lazy_setting value) (Self.semantics.object m) (Self.semantics.registrations m) };
 
-    fn begin(value: u32) -> Self {
+    fn begin(value: u64) -> Self {
         Requests::new(LazyHolder::new(Given { value }))
     }
 }

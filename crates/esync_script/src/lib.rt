@@ -1,7 +1,7 @@
 //! Scripts: commands for one primitive, a line each, and the lines that answer them.
 #![tactic(auto)]
 
-ghost use Rattle.std.specs.Prelude.{◌≡◌, ◌⊎◌, Some, Err, IsOk, OnOk, IfErr};
+ghost use Rattle.std.specs.Prelude.{◌≡◌, ◌≤◌, ◌⊎◌, min, Some, Err, IsOk, OnOk, IfErr};
 ghost use Rattle.esync_script.specs.Opening.{language, scripts, runs, PlaysScript, EndsScript, EndsWith, status_of_outcome};
 ghost use Rattle.esync_words.specs.Diagram.{diagram_story};
 ghost use Rattle.esync_words.specs.Explained.{explained_story};
@@ -11,10 +11,10 @@ use crate::capacity::{AnyCapacity, Capacity, Size};
 use esync_words::diagram::Diagram;
 use esync_words::explain::Explained;
 use esync_words::fault::Fault;
-use esync_words::lines::Lines;
+use esync_words::lines::{Bounded, Lines};
 use esync_words::play::{Replies, Telling};
 use std::alloc::Global;
-use std::io::{self, BufWriter, Read, Write};
+use std::io::{self, BufReader, BufWriter, Read, Write};
 
 pub mod capacity;
 pub mod channel;
@@ -33,9 +33,10 @@ pub mod zerocopy;
 
 /// Reads a script, writes the answers of its commands, and returns the status that tells how it ended.
 ///
-/// Line 1 names a primitive and its capacity, as `channel 2`. The capacity is a [`Capacity`]. Each further line is one
-/// command. Its answer is one line, as `Ready(7) | 3 4`: the answer to the command, and the wakers that it hands out, in
-/// order, or `-` for none. A line is read, judged and answered before the next line is read.
+/// Line 1 names a primitive and its capacity, as `channel 2`. The capacity is a [`Capacity`]. A line has at most 256
+/// bytes, a command of a pipe at most 16, and a value 32 bits. Each further line is one command. Its answer is one line,
+/// as `Ready(7) | 3 4`: the answer to the command, and the wakers that it hands out, in order, or `-` for none. A line is
+/// read, judged and answered before the next line is read.
 ///
 /// | Status | The script ended | Written to `errors` |
 /// |---|---|---|
@@ -98,8 +99,8 @@ pub fn explain<R: Read + Drop, W: Write + Drop, N: Write + Drop, E: Write + Drop
 /// Plays a whole script, and writes what `telling` tells of it.
 ///
 /// The commands are those that the lines say, the replies are a run of the primitive that line 1 names, and the output
-/// is what `telling` tells of them. The capacity in line 1 is an [`AnyCapacity`], but of a pipe and a watch a
-/// [`Capacity`].
+/// is what `telling` tells of them. The capacity in line 1 is an [`AnyCapacity`]. A line has at most 16,640 bytes, a
+/// command of a pipe at most 4,096, and a value 64 bits.
 ///
 /// # Errors
 ///
@@ -121,10 +122,12 @@ fn play_read<C: Size, T: Telling, R: Read + Drop, W: Write>(
     input: R,
     output: &mut W,
 ) -> Result<(), Fault>
-    ensures { PlaysScript (language C C.sized C.size) T.story (R.remaining input) (W.contents output.old) (W.contents output.new) result }
+    ensures { PlaysScript (language C C.sized C.size (min C.bytes 4096) C.bits C.longest) T.story (R.remaining input) (W.contents output.old) (W.contents output.new) result }
 {
     match Lines::buffered(alloc, input) {
-        Ok(mut lines) => opening::play_lines::<C, T, _, W>(telling, &mut lines, output),
+        Ok(mut lines) => opening::play_lines::<C, T, Bounded<BufReader<R>, C>, W>(
+            telling, &mut lines, output,
+        ),
         Err(fault) => Err(fault),
     }
 }
@@ -169,7 +172,7 @@ fn run<C: Size, T: Telling, R: Read + Drop, W: Write + Drop, E: Write + Drop>(
     output: W,
     errors: E,
 ) -> u8
-    ensures { EndsWith (language C C.sized C.size) T.story (R.remaining input) result }
+    ensures { EndsWith (language C C.sized C.size (min C.bytes 4096) C.bits C.longest) T.story (R.remaining input) result }
 {
     status(
         play_pieces::<C, T, R, W>(alloc, telling, input, output),
@@ -217,7 +220,7 @@ fn play_pieces<C: Size, T: Telling, R: Read + Drop, W: Write + Drop>(
     input: R,
     output: W,
 ) -> Result<(), Fault>
-    ensures { EndsScript (language C C.sized C.size) T.story (R.remaining input) result }
+    ensures { EndsScript (language C C.sized C.size (min C.bytes 4096) C.bits C.longest) T.story (R.remaining input) result }
 {
     let mut output = BufWriter::new(alloc, output).map_err(|_| Fault::OutOfMemory)?;
     let outcome = play_read::<C, T, R, BufWriter<W>>(alloc, telling, input, &mut output);

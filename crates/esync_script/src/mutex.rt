@@ -1,4 +1,5 @@
 //! The words of a mutex.
+use crate::capacity::Size;
 use crate::scripted::Scripted;
 use esync_guards::mutex::machine::{Guarded, Lock, MutexCall, MutexHeard, MutexRun};
 use esync_guards::mutex::{Second, TryLockError};
@@ -6,22 +7,25 @@ use esync_machine::requests::Requests;
 use esync_words::vocabulary::{Place, REQS, Vocabulary};
 use esync_words::words::Words;
 use std::io::{self, Write};
+use std::marker::PhantomData;
 
 /// The words of a mutex of two values, of which the second is the part of a mapped guard.
-pub struct MutexWords {}
+pub struct MutexWords<C: Size> {
+    capacities: PhantomData<C>,
+}
 
-impl Vocabulary for MutexWords {
+impl<C: Size> Vocabulary for MutexWords<C> {
     type Ask = Lock;
 
-    type Call = MutexCall<(u32, u32), u32>;
+    type Call = MutexCall<(u64, u64), u64>;
 
-    type Heard = MutexHeard<(u32, u32), u32>;
+    type Heard = MutexHeard<(u64, u64), u64>;
 
     ghost use Rattle.esync_script.specs.Mutex.{mutex_asks, mutex_calls, mutex_text};
 
     ghost asks = { mutex_asks };
 
-    ghost calls = { mutex_calls };
+    ghost calls = { mutex_calls C.bits };
 
     ghost text = { mutex_text };
 
@@ -32,24 +36,24 @@ impl Vocabulary for MutexWords {
         }
     }
 
-    fn call(name: &str, words: Words<'_>) -> Option<MutexCall<(u32, u32), u32>> {
+    fn call(name: &str, words: Words<'_>) -> Option<MutexCall<(u64, u64), u64>> {
         match name {
             "try-lock" => Some(MutexCall::TryLock(words.number()? as usize)),
             "read" => Some(MutexCall::Read(words.number()? as usize)),
             "write" => {
-                let (r, value, part) = words.number_and_two_values()?;
+                let (r, value, part) = words.number_and_two_values(C::bits())?;
                 Some(MutexCall::Write(r as usize, (value, part)))
             }
             "map" => Some(MutexCall::Map(words.number()? as usize)),
             "write-part" => {
-                let (r, part) = words.number_and_value()?;
+                let (r, part) = words.number_and_value(C::bits())?;
                 Some(MutexCall::WritePart(r as usize, part))
             }
             _ => None,
         }
     }
 
-    fn print<W: Write>(heard: &MutexHeard<(u32, u32), u32>, output: &mut W) -> io::Result<()> {
+    fn print<W: Write>(heard: &MutexHeard<(u64, u64), u64>, output: &mut W) -> io::Result<()> {
         match heard {
             MutexHeard::Locked => write!(output, "Ready"),
             MutexHeard::Tried(Ok(())) => write!(output, "Ok"),
@@ -74,16 +78,16 @@ impl Vocabulary for MutexWords {
     }
 }
 
-impl Scripted<MutexWords> for MutexRun<(u32, u32), u32, Second, u64, REQS, 1> {
+impl<C: Size> Scripted<MutexWords<C>> for MutexRun<(u64, u64), u64, Second, u64, REQS, 1> {
     /// The two values at first.
-    type First = (u32, u32);
+    type First = (u64, u64);
 
     ghost use Rattle.esync_script.specs.Mutex.{mutex_setting};
     ghost use Rattle.esync_script.specs.Setting.{BeginsAs};
 
-    ghost IsNew = { λ value m. BeginsAs (mutex_setting value.0 value.1) (Self.semantics.object m) (Self.semantics.registrations m) };
+    ghost IsNew = { λ value m. BeginsAs (mutex_setting C.bits value.0 value.1) (Self.semantics.object m) (Self.semantics.registrations m) };
 
-    fn begin(value: (u32, u32)) -> Self {
+    fn begin(value: (u64, u64)) -> Self {
         Requests::new(Guarded::new(value, Second {}))
     }
 }

@@ -1,4 +1,5 @@
 //! The words of a value that is set once.
+use crate::capacity::Size;
 use crate::scripted::Scripted;
 use esync_cells::once_lock::machine::{Get, OnceCall, OnceHeard, OnceRun};
 use esync_cells::once_lock::{InitError, OnceState};
@@ -7,22 +8,25 @@ use esync_words::printing::print_option;
 use esync_words::vocabulary::{REQS, Vocabulary};
 use esync_words::words::Words;
 use std::io::{self, Write};
+use std::marker::PhantomData;
 
 /// The words of a value that is set once.
-pub struct OnceWords {}
+pub struct OnceWords<C: Size> {
+    capacities: PhantomData<C>,
+}
 
-impl Vocabulary for OnceWords {
+impl<C: Size> Vocabulary for OnceWords<C> {
     type Ask = Get;
 
-    type Call = OnceCall<u32>;
+    type Call = OnceCall<u64>;
 
-    type Heard = OnceHeard<u32>;
+    type Heard = OnceHeard<u64>;
 
     ghost use Rattle.esync_script.specs.Once.{once_asks, once_calls, once_text};
 
     ghost asks = { once_asks };
 
-    ghost calls = { once_calls };
+    ghost calls = { once_calls C.bits };
 
     ghost text = { once_text };
 
@@ -33,11 +37,11 @@ impl Vocabulary for OnceWords {
         }
     }
 
-    fn call(name: &str, words: Words<'_>) -> Option<OnceCall<u32>> {
+    fn call(name: &str, words: Words<'_>) -> Option<OnceCall<u64>> {
         match name {
             "try-get" => words.nothing().map(|_| OnceCall::TryGet),
-            "init" => Some(OnceCall::Init(words.value()?)),
-            "get-or-init" => Some(OnceCall::GetOrInit(words.value()?)),
+            "init" => Some(OnceCall::Init(words.value(C::bits())?)),
+            "get-or-init" => Some(OnceCall::GetOrInit(words.value(C::bits())?)),
             "take" => words.nothing().map(|_| OnceCall::Take),
             "is-set" => words.nothing().map(|_| OnceCall::IsSet),
             _ => None,
@@ -48,10 +52,10 @@ impl Vocabulary for OnceWords {
         &["is-set", "try-get"]
     }
 
-    fn print<W: Write>(heard: &OnceHeard<u32>, output: &mut W) -> io::Result<()> {
+    fn print<W: Write>(heard: &OnceHeard<u64>, output: &mut W) -> io::Result<()> {
         match heard {
             OnceHeard::Got(value) => write!(output, "Ready({value})"),
-            OnceHeard::Found(value) => print_option(value.map(u64::from), output),
+            OnceHeard::Found(value) => print_option(*value, output),
             OnceHeard::HasSet(Ok(())) => write!(output, "Ok"),
             OnceHeard::HasSet(Err(InitError::Set(value))) => write!(output, "Err(Set({value}))"),
             OnceHeard::Shown(value) => write!(output, "{value}"),
@@ -61,13 +65,13 @@ impl Vocabulary for OnceWords {
     }
 }
 
-impl Scripted<OnceWords> for OnceRun<u32, u64, REQS, 1> {
+impl<C: Size> Scripted<OnceWords<C>> for OnceRun<u64, u64, REQS, 1> {
     type First = ();
 
     ghost use Rattle.esync_script.specs.Once.{once_setting};
     ghost use Rattle.esync_script.specs.Setting.{BeginsAs};
 
-    ghost IsNew = { λ first m. BeginsAs once_setting (Self.semantics.object m) (Self.semantics.registrations m) };
+    ghost IsNew = { λ first m. BeginsAs (once_setting C.bits) (Self.semantics.object m) (Self.semantics.registrations m) };
 
     fn begin(_first: ()) -> Self {
         Requests::new(OnceState::new())

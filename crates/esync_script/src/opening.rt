@@ -1,9 +1,8 @@
 //! Line 1 of a script, which names the primitive, and the machine that is played behind it.
-ghost use Rattle.std.specs.Prelude.{◌≡◌, ◌<◌, ◌≤◌, ℕ, [], None, replicate};
+ghost use Rattle.std.specs.Prelude.{◌≡◌, ◌<◌, ◌≤◌, ℕ, [], None, min, replicate};
 ghost use Rattle.esync_base.specs.Keeping.{BoundedList};
 ghost use Rattle.esync_priority.specs.Prio.{Bag};
 ghost use Rattle.esync_script.specs.Channel.{channel_setting};
-ghost use Rattle.esync_script.specs.Capacity.{places, capacity};
 ghost use Rattle.esync_script.specs.Opening.{opening, language, Closes, Plays, PlaysBehind, PlaysScript};
 ghost use Rattle.esync_script.specs.Pipe.{pipe_setting};
 ghost use Rattle.esync_script.specs.PubSub.{a_new_topic, no_lists, pubsub_setting};
@@ -53,8 +52,7 @@ fn read_capacity<C: Size>(words: Words<'_>) -> Option<C>
     C::of(words.number()?)
 }
 
-/// The primitive that line 1 names, with its capacity. A pipe and a watch have one of five in each language: theirs
-/// stands in the type of their machine.
+/// The primitive that line 1 names, with its capacity.
 #[derive(Clone, Copy, Debug, PartialEq, Eq, Drop)]
 pub enum OpeningOf<C> {
     Channel(C),
@@ -63,12 +61,12 @@ pub enum OpeningOf<C> {
     Signal,
     Greedy(usize),
     Fair(C, usize),
-    Pipe(Capacity),
+    Pipe(C),
     PubSub(C, u64),
     Once,
-    Lazy(u32),
-    Mutex(u32, u32),
-    Watch(Capacity, Option<u32>),
+    Lazy(u64),
+    Mutex(u64, u64),
+    Watch(C, Option<u64>),
     Zerocopy(C),
 }
 
@@ -78,7 +76,7 @@ pub type Opening = OpeningOf<Capacity>;
 impl<C: Size> Opens for OpeningOf<C> {
     ghost use Rattle.esync_script.specs.Opening.{opening};
 
-    ghost opens = { opening C.sized };
+    ghost opens = { opening C.sized C.bits };
 
     fn opening(name: &str, words: Words<'_>) -> Option<Self> {
         match name {
@@ -101,45 +99,25 @@ impl<C: Size> Opens for OpeningOf<C> {
             }
             "once" => (words.number()? == 1).then_some(OpeningOf::Once),
             "lazy" => {
-                let (places, value) = words.number_and_value()?;
+                let (places, value) = words.number_and_value(C::bits())?;
                 (places == 1).then_some(OpeningOf::Lazy(value))
             }
             "zerocopy" => Some(OpeningOf::Zerocopy(read_capacity(words)?)),
             "mutex" => {
-                let (places, value, part) = words.number_and_two_values()?;
+                let (places, value, part) = words.number_and_two_values(C::bits())?;
                 (places == 1).then_some(OpeningOf::Mutex(value, part))
             }
             "watch" => {
-                let (places, value) = words.number_and_value_if_any()?;
-                Some(OpeningOf::Watch(Capacity::of(places)?, value))
+                let (places, value) = words.number_and_value_if_any(C::bits())?;
+                Some(OpeningOf::Watch(C::of(places)?, value))
             }
             _ => None,
         }
     }
 }
 
-// An expression over a capacity, written out for each capacity: a number of places is part of a machine's type.
-macro_rules! at_capacity {
-    ($capacity:expr => $serve:ident!($($argument:tt)*)) => {
-        match $capacity {
-            Capacity::One => $serve!(1, $($argument)*),
-            Capacity::Two => $serve!(2, $($argument)*),
-            Capacity::Three => $serve!(3, $($argument)*),
-            Capacity::Four => $serve!(4, $($argument)*),
-            Capacity::Eight => $serve!(8, $($argument)*),
-        }
-    };
-}
-
-// A call of a function whose type parameter is the number of places.
-macro_rules! at_places {
-    ($n:literal, $serve:ident::<$($of:ident),*>($($argument:ident),*)) => {
-        $serve::<$n, $($of),*>($($argument),*)
-    };
-}
-
 // A script over a channel of at most `B.limit` messages.
-fn serve_list<B: Limit, P: Player<R, W>, R: ByteSource, W: Write>(
+fn serve_list<B: Limit, C: Size, P: Player<R, W>, R: ByteSource, W: Write>(
     player: &mut P,
     capacity: usize,
     lines: &mut Lines<R>,
@@ -147,9 +125,9 @@ fn serve_list<B: Limit, P: Player<R, W>, R: ByteSource, W: Write>(
 ) -> Result<(), Fault>
     requires chosen { capacity ≡ B.limit }
     requires few { capacity ≤ 4096 }
-    ensures { PlaysFrom (P.plays player.old player.new) (channel_setting (BoundedList ℕ B.limit)) lines.old.number lines.old.left (W.contents output.old) (W.contents output.new) result }
+    ensures { PlaysFrom (P.plays player.old player.new) R.longest (channel_setting C.bits (BoundedList ℕ B.limit)) lines.old.number lines.old.left (W.contents output.old) (W.contents output.new) result }
 {
-    serve::<ChannelWords, Listed<B>, P, R, W>(player, capacity, lines, output)
+    serve::<ChannelWords<C>, Listed<B>, P, R, W>(player, capacity, lines, output)
 }
 
 fn serve_channel<C: Size, P: Player<R, W>, R: ByteSource, W: Write>(
@@ -158,13 +136,13 @@ fn serve_channel<C: Size, P: Player<R, W>, R: ByteSource, W: Write>(
     lines: &mut Lines<R>,
     output: &mut W,
 ) -> Result<(), Fault>
-    ensures { PlaysFrom (P.plays player.old player.new) (channel_setting (BoundedList ℕ (C.size capacity))) lines.old.number lines.old.left (W.contents output.old) (W.contents output.new) result }
+    ensures { PlaysFrom (P.plays player.old player.new) R.longest (channel_setting C.bits (BoundedList ℕ (C.size capacity))) lines.old.number lines.old.left (W.contents output.old) (W.contents output.new) result }
 {
-    serve_list::<Brand, P, R, W>(player, capacity.places(), lines, output)
+    serve_list::<Brand, C, P, R, W>(player, capacity.places(), lines, output)
 }
 
 // A script over a priority channel of at most `B.limit` messages.
-fn serve_bag<B: Limit, Q: Kind<u32>, P: Player<R, W>, R: ByteSource, W: Write>(
+fn serve_bag<B: Limit, C: Size, Q: Kind<u64>, P: Player<R, W>, R: ByteSource, W: Write>(
     player: &mut P,
     capacity: usize,
     lines: &mut Lines<R>,
@@ -172,20 +150,20 @@ fn serve_bag<B: Limit, Q: Kind<u32>, P: Player<R, W>, R: ByteSource, W: Write>(
 ) -> Result<(), Fault>
     requires chosen { capacity ≡ B.limit }
     requires few { capacity ≤ 4096 }
-    ensures { PlaysFrom (P.plays player.old player.new) (channel_setting (Bag ℕ Q.above B.limit)) lines.old.number lines.old.left (W.contents output.old) (W.contents output.new) result }
+    ensures { PlaysFrom (P.plays player.old player.new) R.longest (channel_setting C.bits (Bag ℕ Q.above B.limit)) lines.old.number lines.old.left (W.contents output.old) (W.contents output.new) result }
 {
-    serve::<ChannelWords, Prioritized<Q, B>, P, R, W>(player, capacity, lines, output)
+    serve::<ChannelWords<C>, Prioritized<Q, B>, P, R, W>(player, capacity, lines, output)
 }
 
-fn serve_priority<C: Size, Q: Kind<u32>, P: Player<R, W>, R: ByteSource, W: Write>(
+fn serve_priority<C: Size, Q: Kind<u64>, P: Player<R, W>, R: ByteSource, W: Write>(
     player: &mut P,
     capacity: C,
     lines: &mut Lines<R>,
     output: &mut W,
 ) -> Result<(), Fault>
-    ensures { PlaysFrom (P.plays player.old player.new) (channel_setting (Bag ℕ Q.above (C.size capacity))) lines.old.number lines.old.left (W.contents output.old) (W.contents output.new) result }
+    ensures { PlaysFrom (P.plays player.old player.new) R.longest (channel_setting C.bits (Bag ℕ Q.above (C.size capacity))) lines.old.number lines.old.left (W.contents output.old) (W.contents output.new) result }
 {
-    serve_bag::<Brand, Q, P, R, W>(player, capacity.places(), lines, output)
+    serve_bag::<Brand, C, Q, P, R, W>(player, capacity.places(), lines, output)
 }
 
 // A script over a fair semaphore with a queue of `B.limit` places.
@@ -198,7 +176,7 @@ fn serve_queue<B: Limit, P: Player<R, W>, R: ByteSource, W: Write>(
 ) -> Result<(), Fault>
     requires chosen { places ≡ B.limit }
     requires few { places ≤ 4096 }
-    ensures { PlaysFrom (P.plays player.old player.new) (fair_setting B.limit permits) lines.old.number lines.old.left (W.contents output.old) (W.contents output.new) result }
+    ensures { PlaysFrom (P.plays player.old player.new) R.longest (fair_setting B.limit permits) lines.old.number lines.old.left (W.contents output.old) (W.contents output.new) result }
 {
     serve::<FairWords, Queued<B>, P, R, W>(player, (places, permits), lines, output)
 }
@@ -210,63 +188,73 @@ fn serve_fair<C: Size, P: Player<R, W>, R: ByteSource, W: Write>(
     lines: &mut Lines<R>,
     output: &mut W,
 ) -> Result<(), Fault>
-    ensures { PlaysFrom (P.plays player.old player.new) (fair_setting (C.size capacity) permits) lines.old.number lines.old.left (W.contents output.old) (W.contents output.new) result }
+    ensures { PlaysFrom (P.plays player.old player.new) R.longest (fair_setting (C.size capacity) permits) lines.old.number lines.old.left (W.contents output.old) (W.contents output.new) result }
 {
     serve_queue::<Brand, P, R, W>(player, capacity.places(), permits, lines, output)
 }
 
-// A script over a pipe of at most `N` bytes.
-fn serve_bytes<const N: usize, P: Player<R, W>, R: ByteSource, W: Write>(
+// A script over a pipe of at most `B.limit` bytes.
+fn serve_bytes<B: Limit, C: Size, P: Player<R, W>, R: ByteSource, W: Write>(
     player: &mut P,
+    places: usize,
     lines: &mut Lines<R>,
     output: &mut W,
 ) -> Result<(), Fault>
-    requires { N ≤ 8 }
-    ensures { PlaysFrom (P.plays player.old player.new) (pipe_setting N) lines.old.number lines.old.left (W.contents output.old) (W.contents output.new) result }
+    requires chosen { places ≡ B.limit }
+    requires few { places ≤ 4096 }
+    ensures { PlaysFrom (P.plays player.old player.new) R.longest (pipe_setting (min C.bytes 4096) B.limit) lines.old.number lines.old.left (W.contents output.old) (W.contents output.new) result }
 {
-    serve::<PipeWords, Ring<N>, P, R, W>(player, (), lines, output)
+    serve::<PipeWords<C, MOST>, Ring<B>, P, R, W>(player, places, lines, output)
 }
 
-fn serve_pipe<P: Player<R, W>, R: ByteSource, W: Write>(
+fn serve_pipe<C: Size, P: Player<R, W>, R: ByteSource, W: Write>(
     player: &mut P,
-    capacity: Capacity,
+    capacity: C,
     lines: &mut Lines<R>,
     output: &mut W,
 ) -> Result<(), Fault>
-    ensures { PlaysFrom (P.plays player.old player.new) (pipe_setting (places capacity)) lines.old.number lines.old.left (W.contents output.old) (W.contents output.new) result }
+    ensures { PlaysFrom (P.plays player.old player.new) R.longest (pipe_setting (min C.bytes 4096) (C.size capacity)) lines.old.number lines.old.left (W.contents output.old) (W.contents output.new) result }
 {
-    at_capacity!(capacity => at_places!(serve_bytes::<P, R, W>(player, lines, output)))
+    serve_bytes::<Brand, C, P, R, W>(player, capacity.places(), lines, output)
 }
 
-// A script over a watch of at most `N` counted receivers.
-fn serve_value<const N: usize, P: Player<R, W>, R: ByteSource, W: Write>(
+// A script over a watch of at most `B.limit` counted receivers.
+fn serve_value<B: Limit, C: Size, P: Player<R, W>, R: ByteSource, W: Write>(
     player: &mut P,
-    value: Option<u32>,
+    receivers: usize,
+    value: Option<u64>,
     lines: &mut Lines<R>,
     output: &mut W,
 ) -> Result<(), Fault>
-    requires some { 1 ≤ N }
-    requires few { N ≤ 8 }
-    ensures { PlaysFrom (P.plays player.old player.new) (watch_setting N value) lines.old.number lines.old.left (W.contents output.old) (W.contents output.new) result }
+    requires chosen { receivers ≡ B.limit }
+    requires some { 1 ≤ receivers }
+    requires few { receivers ≤ 4096 }
+    ensures { PlaysFrom (P.plays player.old player.new) R.longest (watch_setting C.bits B.limit value) lines.old.number lines.old.left (W.contents output.old) (W.contents output.new) result }
 {
-    serve::<WatchWords, Counted<N>, P, R, W>(player, value, lines, output)
+    serve::<WatchWords<C>, Counted<B>, P, R, W>(player, (receivers, value), lines, output)
 }
 
-fn serve_watch<P: Player<R, W>, R: ByteSource, W: Write>(
+fn serve_watch<C: Size, P: Player<R, W>, R: ByteSource, W: Write>(
     player: &mut P,
-    capacity: Capacity,
-    value: Option<u32>,
+    capacity: C,
+    value: Option<u64>,
     lines: &mut Lines<R>,
     output: &mut W,
 ) -> Result<(), Fault>
-    ensures { PlaysFrom (P.plays player.old player.new) (watch_setting (places capacity) value) lines.old.number lines.old.left (W.contents output.old) (W.contents output.new) result }
+    ensures { PlaysFrom (P.plays player.old player.new) R.longest (watch_setting C.bits (C.size capacity) value) lines.old.number lines.old.left (W.contents output.old) (W.contents output.new) result }
 {
-    at_capacity!(capacity => at_places!(serve_value::<P, R, W>(player, value, lines, output)))
+    serve_value::<Brand, C, P, R, W>(player, capacity.places(), value, lines, output)
 }
 
 // A script over this pub-sub channel, whose first message has this number. The log is a type parameter, and the machine
 // is handed in: with a log of a number of messages the checker meets its limit of steps at the call.
-fn serve_topic<L: LogStore<Message = u32> + Kept, P: Player<R, W>, R: ByteSource, W: Write>(
+fn serve_topic<
+    L: LogStore<Message = u64> + Kept,
+    C: Size,
+    P: Player<R, W>,
+    R: ByteSource,
+    W: Write,
+>(
     player: &mut P,
     machine: Topic<L>,
     first: u64,
@@ -276,14 +264,14 @@ fn serve_topic<L: LogStore<Message = u32> + Kept, P: Player<R, W>, R: ByteSource
     requires subscribers { L.places ≡ 4 }
     requires object { ⟦<Topic<L> as Machine>⟧.semantics.object machine ≡ new_object (a_new_topic first) }
     requires registrations { ⟦<Topic<L> as Machine>⟧.semantics.registrations machine ≡ no_lists }
-    ensures { PlaysFrom (P.plays player.old player.new) (pubsub_setting L.capacity first) lines.old.number lines.old.left (W.contents output.old) (W.contents output.new) result }
+    ensures { PlaysFrom (P.plays player.old player.new) R.longest (pubsub_setting C.bits L.capacity first) lines.old.number lines.old.left (W.contents output.old) (W.contents output.new) result }
 {
     let _ = first;
-    player.play::<PubSubWords, Topic<L>>(machine, lines, output)
+    player.play::<PubSubWords<C>, Topic<L>>(machine, lines, output)
 }
 
 // A script over a pub-sub channel of at most `B.limit` messages, the first of which has this number.
-fn serve_log<B: Limit, P: Player<R, W>, R: ByteSource, W: Write>(
+fn serve_log<B: Limit, C: Size, P: Player<R, W>, R: ByteSource, W: Write>(
     player: &mut P,
     capacity: usize,
     first: u64,
@@ -293,10 +281,10 @@ fn serve_log<B: Limit, P: Player<R, W>, R: ByteSource, W: Write>(
     requires chosen { capacity ≡ B.limit }
     requires some { 1 ≤ capacity }
     requires few { capacity ≤ 4096 }
-    ensures { PlaysFrom (P.plays player.old player.new) (pubsub_setting B.limit first) lines.old.number lines.old.left (W.contents output.old) (W.contents output.new) result }
+    ensures { PlaysFrom (P.plays player.old player.new) R.longest (pubsub_setting C.bits B.limit first) lines.old.number lines.old.left (W.contents output.old) (W.contents output.new) result }
 {
-    let log: LimitedLog<u32, B, MOST, 4> = LimitedLog::new_at(capacity, first);
-    serve_topic::<LimitedLog<u32, B, MOST, 4>, P, R, W>(player, topic(log), first, lines, output)
+    let log: LimitedLog<u64, B, MOST, 4> = LimitedLog::new_at(capacity, first);
+    serve_topic::<LimitedLog<u64, B, MOST, 4>, C, P, R, W>(player, topic(log), first, lines, output)
 }
 
 fn serve_pubsub<C: Size, P: Player<R, W>, R: ByteSource, W: Write>(
@@ -306,9 +294,9 @@ fn serve_pubsub<C: Size, P: Player<R, W>, R: ByteSource, W: Write>(
     lines: &mut Lines<R>,
     output: &mut W,
 ) -> Result<(), Fault>
-    ensures { PlaysFrom (P.plays player.old player.new) (pubsub_setting (C.size capacity) first) lines.old.number lines.old.left (W.contents output.old) (W.contents output.new) result }
+    ensures { PlaysFrom (P.plays player.old player.new) R.longest (pubsub_setting C.bits (C.size capacity) first) lines.old.number lines.old.left (W.contents output.old) (W.contents output.new) result }
 {
-    serve_log::<Brand, P, R, W>(player, capacity.places(), first, lines, output)
+    serve_log::<Brand, C, P, R, W>(player, capacity.places(), first, lines, output)
 }
 
 fn serve_zerocopy<C: Size, P: Player<R, W>, R: ByteSource, W: Write>(
@@ -317,9 +305,9 @@ fn serve_zerocopy<C: Size, P: Player<R, W>, R: ByteSource, W: Write>(
     lines: &mut Lines<R>,
     output: &mut W,
 ) -> Result<(), Fault>
-    ensures { PlaysFrom (P.plays player.old player.new) (zero_setting (C.size capacity)) lines.old.number lines.old.left (W.contents output.old) (W.contents output.new) result }
+    ensures { PlaysFrom (P.plays player.old player.new) R.longest (zero_setting C.bits (C.size capacity)) lines.old.number lines.old.left (W.contents output.old) (W.contents output.new) result }
 {
-    serve::<ZeroWords, Slotted, P, R, W>(player, capacity.places(), lines, output)
+    serve::<ZeroWords<C>, Slotted, P, R, W>(player, capacity.places(), lines, output)
 }
 
 // Makes the primitive that line 1 names, and plays the lines behind it.
@@ -329,7 +317,7 @@ fn serve_opening<C: Size, P: Player<R, W>, R: ByteSource, W: Write>(
     lines: &mut Lines<R>,
     output: &mut W,
 ) -> Result<(), Fault>
-    ensures { Plays (language C C.sized C.size) (P.plays player.old player.new) opening lines.old.number lines.old.left (W.contents output.old) (W.contents output.new) result }
+    ensures { Plays (language C C.sized C.size (min C.bytes 4096) C.bits R.longest) (P.plays player.old player.new) opening lines.old.number lines.old.left (W.contents output.old) (W.contents output.new) result }
 {
     match opening {
         OpeningOf::Channel(capacity) => serve_channel(player, capacity, lines, output),
@@ -340,7 +328,12 @@ fn serve_opening<C: Size, P: Player<R, W>, R: ByteSource, W: Write>(
             player, capacity, lines, output,
         ),
         OpeningOf::Signal => {
-            serve::<SignalWords, SignalRun<u32, u64, REQS, 1>, P, R, W>(player, (), lines, output)
+            serve::<SignalWords<C>, SignalRun<u64, u64, REQS, 1>, P, R, W>(
+                player,
+                (),
+                lines,
+                output,
+            )
         }
         OpeningOf::Greedy(permits) => {
             serve::<GreedyWords, GreedyRun<u64, REQS, 1>, P, R, W>(player, permits, lines, output)
@@ -349,15 +342,15 @@ fn serve_opening<C: Size, P: Player<R, W>, R: ByteSource, W: Write>(
         OpeningOf::Pipe(capacity) => serve_pipe(player, capacity, lines, output),
         OpeningOf::PubSub(capacity, first) => serve_pubsub(player, capacity, first, lines, output),
         OpeningOf::Once => {
-            serve::<OnceWords, OnceRun<u32, u64, REQS, 1>, P, R, W>(player, (), lines, output)
+            serve::<OnceWords<C>, OnceRun<u64, u64, REQS, 1>, P, R, W>(player, (), lines, output)
         }
         OpeningOf::Lazy(value) => {
-            serve::<LazyWords, LazyRun<u32, Given<u32>, u64, REQS, 1>, P, R, W>(
+            serve::<LazyWords, LazyRun<u64, Given<u64>, u64, REQS, 1>, P, R, W>(
                 player, value, lines, output,
             )
         }
         OpeningOf::Mutex(value, part) => {
-            serve::<MutexWords, MutexRun<(u32, u32), u32, Second, u64, REQS, 1>, P, R, W>(
+            serve::<MutexWords<C>, MutexRun<(u64, u64), u64, Second, u64, REQS, 1>, P, R, W>(
                 player,
                 (value, part),
                 lines,
@@ -396,7 +389,7 @@ pub fn play_lines<C: Size, T: Telling, R: ByteSource, W: Write>(
     output: &mut W,
 ) -> Result<(), Fault>
     requires { lines.old.number ≡ 0 }
-    ensures { PlaysScript (language C C.sized C.size) T.story lines.old.left (W.contents output.old) (W.contents output.new) result }
+    ensures { PlaysScript (language C C.sized C.size (min C.bytes 4096) C.bits R.longest) T.story lines.old.left (W.contents output.old) (W.contents output.new) result }
 {
     match open::<OpeningOf<C>, T, R, W>(telling, lines, output) {
         Ok(opening) => {
@@ -419,7 +412,7 @@ pub fn play_with<C: Size, P: Player<R, W>, R: ByteSource, W: Write>(
     output: &mut W,
 ) -> Result<(), Fault>
     requires { lines.old.number ≡ 0 }
-    ensures { PlaysBehind (language C C.sized C.size) replies_story (λ was now. P.plays player.old player.new) lines.old.left (W.contents output.old) (W.contents output.new) result }
+    ensures { PlaysBehind (language C C.sized C.size (min C.bytes 4096) C.bits R.longest) replies_story (λ was now. P.plays player.old player.new) lines.old.left (W.contents output.old) (W.contents output.new) result }
 {
     match open::<OpeningOf<C>, Replies, R, W>(&mut Replies {}, lines, output) {
         Ok(opening) => {

@@ -1,41 +1,53 @@
 //! The words of a pipe.
-ghost use Rattle.std.specs.Prelude.{◌≡◌, OnOk};
+ghost use Rattle.std.specs.Prelude.{◌≡◌, ◌≤◌, OnOk, min};
 ghost use Rattle.std.specs.Io.KnownBytes.{Appends};
 ghost use Rattle.esync_words.specs.Words.{row};
 ghost use Rattle.esync_script.specs.Pipe.{a_count, ready_text, tried_text};
 
+use crate::capacity::{MOST, Size};
 use crate::scripted::Scripted;
+use esync_base::extent::Chosen;
+use esync_base::limited::Limit;
+use esync_base::ring_buffer::LimitedRing;
 use esync_machine::requests::Requests;
 use esync_pipe::bytes::Bytes;
-use esync_pipe::pipe::machine::{PipeAsk, PipeCall, PipeHeard, PipeRows, PipeRun};
-use esync_pipe::pipe::{TryReadError, TryWriteError};
+use esync_pipe::pipe::machine::{PipeAsk, PipeCall, PipeHeard, PipeRowsOver};
+use esync_pipe::pipe::{PipeOver, TryReadError, TryWriteError};
 use esync_words::printing::print_bytes;
 use esync_words::vocabulary::{Place, REQS, Vocabulary};
 use esync_words::words::Words;
 use std::io::{self, Write};
+use std::marker::PhantomData;
 
-// The greatest number of bytes of a command or an answer.
-const PLACES: usize = 16;
-
-type Row = Bytes<PLACES>;
-
-// Returns the bytes that the last word writes.
-fn read_bytes(words: Words<'_>) -> Option<Row>
-    ensures { result ≡ row 16 words.entry }
+// The greatest number of bytes of a command: as many as the language has, and no more than a row has places.
+fn most<T: Size, const ROW: usize>() -> usize
+    ensures value { result ≡ min T.bytes ROW }
+    ensures few { result ≤ 4096 }
 {
-    Some(Bytes::from_slice(words.bytes()?.as_slice()))
+    let bytes = T::bytes();
+    if bytes < ROW { bytes } else { ROW }
 }
 
-// Returns how many bytes are asked for, if an answer has room for them.
-fn read_count(words: Words<'_>) -> Option<usize>
-    ensures { result ≡ a_count words.entry }
+// Returns the bytes that the last word writes, at most so many.
+fn read_bytes<const ROW: usize>(words: Words<'_>, most: usize) -> Option<Bytes<ROW>>
+    requires few { most ≤ 4096 }
+    requires row { most ≤ ROW }
+    ensures { result ≡ row most words.entry }
+{
+    Some(Bytes::from_slice(words.bytes(most)?.as_slice()))
+}
+
+// Returns how many bytes are asked for, at most so many.
+fn read_count(words: Words<'_>, most: usize) -> Option<usize>
+    requires { most ≤ 4096 }
+    ensures { result ≡ a_count most words.entry }
 {
     let count = words.number()? as usize;
-    (count <= PLACES).then_some(count)
+    (count <= most).then_some(count)
 }
 
 // Prints the bytes that a request hears.
-fn print_ready<W: Write>(bytes: &Row, output: &mut W) -> io::Result<()>
+fn print_ready<W: Write, const ROW: usize>(bytes: &Bytes<ROW>, output: &mut W) -> io::Result<()>
     ensures { OnOk result (Appends (W.contents output.old) (W.contents output.new) (ready_text bytes.now)) }
 {
     write!(output, "Ready(")?;
@@ -44,7 +56,10 @@ fn print_ready<W: Write>(bytes: &Row, output: &mut W) -> io::Result<()>
 }
 
 // Prints the bytes that a call answers at once, or that there are none.
-fn print_tried<W: Write>(tried: &Result<Row, TryReadError>, output: &mut W) -> io::Result<()>
+fn print_tried<W: Write, const ROW: usize>(
+    tried: &Result<Bytes<ROW>, TryReadError>,
+    output: &mut W,
+) -> io::Result<()>
     ensures { OnOk result (Appends (W.contents output.old) (W.contents output.new) (tried_text tried.now)) }
 {
     match tried {
@@ -57,48 +72,66 @@ fn print_tried<W: Write>(tried: &Result<Row, TryReadError>, output: &mut W) -> i
     }
 }
 
-/// The words of a pipe of bytes.
-pub struct PipeWords {}
+/// The words of a pipe of bytes. A command has at most as many bytes as `T` says, and as a row has places.
+pub struct PipeWords<T: Size, const ROW: usize> {
+    capacities: PhantomData<T>,
+}
 
-impl Vocabulary for PipeWords {
-    type Ask = PipeAsk<Row>;
+impl<T: Size, const ROW: usize> Vocabulary for PipeWords<T, ROW> {
+    type Ask = PipeAsk<Bytes<ROW>>;
 
-    type Call = PipeCall<Row>;
+    type Call = PipeCall<Bytes<ROW>>;
 
-    type Heard = PipeHeard<Row>;
+    type Heard = PipeHeard<Bytes<ROW>>;
 
+    ghost use Rattle.std.specs.Prelude.{min};
     ghost use Rattle.esync_script.specs.Pipe.{pipe_asks, pipe_calls, pipe_text};
 
-    ghost asks = { pipe_asks };
+    ghost asks = { pipe_asks (min T.bytes ROW) };
 
-    ghost calls = { pipe_calls };
+    ghost calls = { pipe_calls (min T.bytes ROW) };
 
     ghost text = { pipe_text };
 
-    fn ask(name: &str, words: Words<'_>) -> Option<PipeAsk<Row>> {
+    fn ask(name: &str, words: Words<'_>) -> Option<PipeAsk<Bytes<ROW>>> {
         match name {
-            "write" => Some(PipeAsk::Write(read_bytes(words)?)),
-            "write-all" => Some(PipeAsk::WriteAll(read_bytes(words)?)),
-            "read" => Some(PipeAsk::Read(read_count(words)?)),
-            "fill" => words.nothing().map(|_| PipeAsk::Fill),
+            "write" => Some(PipeAsk::Write(read_bytes(words, most::<T, ROW>())?)),
+            "write-all" => Some(PipeAsk::WriteAll(read_bytes(words, most::<T, ROW>())?)),
+            "read" => Some(PipeAsk::Read(read_count(words, most::<T, ROW>())?)),
+            "fill" => {
+                words.nothing()?;
+                Some(PipeAsk::Fill)
+            }
             _ => None,
         }
     }
 
-    fn call(name: &str, words: Words<'_>) -> Option<PipeCall<Row>> {
+    fn call(name: &str, words: Words<'_>) -> Option<PipeCall<Bytes<ROW>>> {
         match name {
-            "try-write" => Some(PipeCall::TryWrite(read_bytes(words)?)),
-            "try-read" => Some(PipeCall::TryRead(read_count(words)?)),
-            "try-fill" => words.nothing().map(|_| PipeCall::TryFill),
+            "try-write" => Some(PipeCall::TryWrite(read_bytes(words, most::<T, ROW>())?)),
+            "try-read" => Some(PipeCall::TryRead(read_count(words, most::<T, ROW>())?)),
+            "try-fill" => {
+                words.nothing()?;
+                Some(PipeCall::TryFill)
+            }
             "consume" => Some(PipeCall::Consume(words.number()? as usize)),
-            "clear" => words.nothing().map(|_| PipeCall::Clear),
-            "len" => words.nothing().map(|_| PipeCall::Len),
-            "free" => words.nothing().map(|_| PipeCall::FreeCapacity),
+            "clear" => {
+                words.nothing()?;
+                Some(PipeCall::Clear)
+            }
+            "len" => {
+                words.nothing()?;
+                Some(PipeCall::Len)
+            }
+            "free" => {
+                words.nothing()?;
+                Some(PipeCall::FreeCapacity)
+            }
             _ => None,
         }
     }
 
-    fn print<W: Write>(heard: &PipeHeard<Row>, output: &mut W) -> io::Result<()> {
+    fn print<W: Write>(heard: &PipeHeard<Bytes<ROW>>, output: &mut W) -> io::Result<()> {
         match heard {
             PipeHeard::Wrote(count) => write!(output, "Ready({count})"),
             PipeHeard::WroteAll => write!(output, "Ready"),
@@ -125,21 +158,23 @@ impl Vocabulary for PipeWords {
     }
 }
 
-/// A pipe of at most `N` bytes.
-pub type Ring<const N: usize> = PipeRun<u64, N, PLACES, REQS, 2>;
+/// A pipe of at most `B.limit` bytes.
+pub type Ring<B> = Requests<PipeRowsOver<LimitedRing<B, MOST>, u64, MOST>, REQS, 2>;
 
-impl<const N: usize> Scripted<PipeWords> for Ring<N> {
-    type First = ();
+impl<T: Size, B: Limit> Scripted<PipeWords<T, MOST>> for Ring<B> {
+    /// How many bytes there is room for.
+    type First = usize;
 
-    ghost use Rattle.std.specs.Prelude.{◌≤◌};
+    ghost use Rattle.std.specs.Prelude.{◌≡◌, ◌≤◌, min};
     ghost use Rattle.esync_script.specs.Pipe.{pipe_setting};
     ghost use Rattle.esync_script.specs.Setting.{BeginsAs};
 
-    ghost CanBegin = { λ first. N ≤ 8 };
+    ghost CanBegin = { λ places. (places ≡ B.limit) × (places ≤ 4096) };
 
-    ghost IsNew = { λ first m. BeginsAs (pipe_setting N) (Self.semantics.object m) (Self.semantics.registrations m) };
+    ghost IsNew = { λ places m. BeginsAs (pipe_setting (min T.bytes 4096) B.limit) (Self.semantics.object m) (Self.semantics.registrations m) };
 
-    fn begin(_first: ()) -> Self {
-        Requests::new(PipeRows::new())
+    fn begin(places: usize) -> Self {
+        let ring = LimitedRing::over(Chosen::new(places));
+        Requests::new(PipeRowsOver::from_state(PipeOver::over(ring)))
     }
 }

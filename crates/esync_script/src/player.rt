@@ -47,7 +47,7 @@ pub trait Player<R: ByteSource, W: Write> {
             + Registered<Waker = u64>
             + Drop,
         M::Reply: Parts<V::Heard> + Drop,
-        ensures { plays self.old self.new V.Ask V.Call V.Heard M.Reply M.semantics.meaning (says (command V.asks V.calls)) V.text M.Reply.answer M.Reply.wakes (M.semantics.object machine) (M.semantics.registrations machine) lines.old.number lines.old.left (W.contents output.old) (W.contents output.new) result };
+        ensures { plays self.old self.new V.Ask V.Call V.Heard M.Reply M.semantics.meaning (says R.longest (command V.asks V.calls)) V.text M.Reply.answer M.Reply.wakes (M.semantics.object machine) (M.semantics.registrations machine) lines.old.number lines.old.left (W.contents output.old) (W.contents output.new) result };
 }
 
 impl<T: Telling, R: ByteSource, W: Write> Player<R, W> for T {

@@ -4,6 +4,7 @@ ghost use Rattle.std.specs.Io.KnownBytes.{Appends};
 ghost use Rattle.esync_script.specs.PubSub.{a_new_topic, no_lists, read_text};
 ghost use Rattle.esync_script.specs.Setting.{new_object};
 
+use crate::capacity::Size;
 use esync_base::waitqueue::Wakes;
 use esync_log::log::LogStore;
 use esync_machine::requests::Requests;
@@ -14,29 +15,32 @@ use esync_words::printing::print_option;
 use esync_words::vocabulary::{Place, REQS, Vocabulary};
 use esync_words::words::Words;
 use std::io::{self, Write};
+use std::marker::PhantomData;
 
 /// The words of a pub-sub channel.
-pub struct PubSubWords {}
+pub struct PubSubWords<C: Size> {
+    capacities: PhantomData<C>,
+}
 
-impl Vocabulary for PubSubWords {
-    type Ask = PubSubAsk<u32>;
+impl<C: Size> Vocabulary for PubSubWords<C> {
+    type Ask = PubSubAsk<u64>;
 
-    type Call = PubSubCall<u32>;
+    type Call = PubSubCall<u64>;
 
-    type Heard = PubSubHeard<u32>;
+    type Heard = PubSubHeard<u64>;
 
     ghost use Rattle.esync_script.specs.PubSub.{pubsub_asks, pubsub_calls, pubsub_text};
 
-    ghost asks = { pubsub_asks };
+    ghost asks = { pubsub_asks C.bits };
 
-    ghost calls = { pubsub_calls };
+    ghost calls = { pubsub_calls C.bits };
 
     ghost text = { pubsub_text };
 
-    fn ask(name: &str, words: Words<'_>) -> Option<PubSubAsk<u32>> {
+    fn ask(name: &str, words: Words<'_>) -> Option<PubSubAsk<u64>> {
         match name {
             "publish" => {
-                let (p, value) = words.number_and_value()?;
+                let (p, value) = words.number_and_value(C::bits())?;
                 Some(PubSubAsk::Publish(p as usize, value))
             }
             "message" => Some(PubSubAsk::Message(words.number()? as usize)),
@@ -46,17 +50,17 @@ impl Vocabulary for PubSubWords {
         }
     }
 
-    fn call(name: &str, words: Words<'_>) -> Option<PubSubCall<u32>> {
+    fn call(name: &str, words: Words<'_>) -> Option<PubSubCall<u64>> {
         match name {
             "join" => Some(PubSubCall::Join(words.number()? as usize)),
             "leave" => Some(PubSubCall::Leave(words.number()? as usize)),
             "publisher" => Some(PubSubCall::Publisher(words.number()? as usize)),
             "retire" => Some(PubSubCall::Retire(words.number()? as usize)),
             "try-publish" => {
-                let (p, value) = words.number_and_value()?;
+                let (p, value) = words.number_and_value(C::bits())?;
                 Some(PubSubCall::TryPublish(p as usize, value))
             }
-            "immediate" => Some(PubSubCall::Immediate(words.value()?)),
+            "immediate" => Some(PubSubCall::Immediate(words.value(C::bits())?)),
             "next" => Some(PubSubCall::Next(words.number()? as usize)),
             "next-pure" => Some(PubSubCall::NextPure(words.number()? as usize)),
             "available" => Some(PubSubCall::Available(words.number()? as usize)),
@@ -67,7 +71,7 @@ impl Vocabulary for PubSubWords {
         }
     }
 
-    fn print<W: Write>(heard: &PubSubHeard<u32>, output: &mut W) -> io::Result<()> {
+    fn print<W: Write>(heard: &PubSubHeard<u64>, output: &mut W) -> io::Result<()> {
         match heard {
             PubSubHeard::Published(Ok(())) => write!(output, "Ready"),
             PubSubHeard::Published(Err(error)) => {
@@ -97,7 +101,7 @@ impl Vocabulary for PubSubWords {
             }
             PubSubHeard::Tried(Some(answer)) => print_read(answer, output),
             PubSubHeard::Tried(None) => write!(output, "None"),
-            PubSubHeard::TriedPure(found) => print_option(found.map(u64::from), output),
+            PubSubHeard::TriedPure(found) => print_option(*found, output),
             PubSubHeard::Unread(count) => write!(output, "{count}"),
             PubSubHeard::Number(number) => write!(output, "{number}"),
         }
@@ -113,7 +117,7 @@ impl Vocabulary for PubSubWords {
 }
 
 // Prints the text of a read.
-fn print_read<W: Write>(answer: &WaitResult<u32>, output: &mut W) -> io::Result<()>
+fn print_read<W: Write>(answer: &WaitResult<u64>, output: &mut W) -> io::Result<()>
     ensures { OnOk result (Appends (W.contents output.old) (W.contents output.new) (read_text answer.now)) }
 {
     match answer {
@@ -123,7 +127,7 @@ fn print_read<W: Write>(answer: &WaitResult<u32>, output: &mut W) -> io::Result<
 }
 
 // Prints the text of a poll that read.
-fn print_ready<W: Write>(answer: &WaitResult<u32>, output: &mut W) -> io::Result<()>
+fn print_ready<W: Write>(answer: &WaitResult<u64>, output: &mut W) -> io::Result<()>
     ensures { OnOk result (Appends (W.contents output.old) (W.contents output.new) (codes "Ready(" ++ read_text answer.now ++ codes ")")) }
 {
     write!(output, "Ready(")?;
@@ -137,7 +141,7 @@ pub type Topic<L> = Requests<Events<L, Wakes<u64, 4>, Wakes<u64, 4>, REQS>, REQS
 /// Returns a pub-sub channel over this log, which has no messages and no subscribers.
 ///
 /// A topic isn't `Scripted`: over an open log it can't be shown that the machine which `serve` makes fits in memory.
-pub fn topic<L: LogStore<Message = u32>>(log: L) -> Topic<L>
+pub fn topic<L: LogStore<Message = u64>>(log: L) -> Topic<L>
     requires messages { 1 ≤ L.capacity }
     requires subscribers { L.places ≡ 4 }
     requires empty { L.log log ≡ record { held = []; next = (L.log log).next; positions = replicate L.places None } }

@@ -56,7 +56,7 @@ where
     R: ByteSource,
     W: Write,
     requires { M.CanBegin first }
-    ensures { (object : M.semantics.meaning.Object) (registered : M.semantics.meaning.Registered) → ((m : M) → M.IsNew first m → (M.semantics.object m ≡ object) × (M.semantics.registrations m ≡ registered)) → P.plays player.old player.new V.Ask V.Call V.Heard M.Reply M.semantics.meaning (says (command V.asks V.calls)) V.text M.Reply.answer M.Reply.wakes object registered lines.old.number lines.old.left (W.contents output.old) (W.contents output.new) result }
+    ensures { (object : M.semantics.meaning.Object) (registered : M.semantics.meaning.Registered) → ((m : M) → M.IsNew first m → (M.semantics.object m ≡ object) × (M.semantics.registrations m ≡ registered)) → P.plays player.old player.new V.Ask V.Call V.Heard M.Reply M.semantics.meaning (says R.longest (command V.asks V.calls)) V.text M.Reply.answer M.Reply.wakes object registered lines.old.number lines.old.left (W.contents output.old) (W.contents output.new) result }
 {
     player.play::<V, M>(M::begin(first), lines, output)
 }

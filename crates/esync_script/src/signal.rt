@@ -1,4 +1,5 @@
 //! The words of a signal.
+use crate::capacity::Size;
 use crate::scripted::Scripted;
 use esync_cells::signal::SignalState;
 use esync_cells::signal::machine::{SignalCall, SignalHeard, SignalRun, Wait};
@@ -7,22 +8,25 @@ use esync_words::printing::print_option;
 use esync_words::vocabulary::{Place, REQS, Vocabulary};
 use esync_words::words::Words;
 use std::io::{self, Write};
+use std::marker::PhantomData;
 
 /// The words of a signal of values.
-pub struct SignalWords {}
+pub struct SignalWords<C: Size> {
+    capacities: PhantomData<C>,
+}
 
-impl Vocabulary for SignalWords {
+impl<C: Size> Vocabulary for SignalWords<C> {
     type Ask = Wait;
 
-    type Call = SignalCall<u32>;
+    type Call = SignalCall<u64>;
 
-    type Heard = SignalHeard<u32>;
+    type Heard = SignalHeard<u64>;
 
     ghost use Rattle.esync_script.specs.Signal.{signal_asks, signal_calls, signal_text};
 
     ghost asks = { signal_asks };
 
-    ghost calls = { signal_calls };
+    ghost calls = { signal_calls C.bits };
 
     ghost text = { signal_text };
 
@@ -33,9 +37,9 @@ impl Vocabulary for SignalWords {
         }
     }
 
-    fn call(name: &str, words: Words<'_>) -> Option<SignalCall<u32>> {
+    fn call(name: &str, words: Words<'_>) -> Option<SignalCall<u64>> {
         match name {
-            "signal" => Some(SignalCall::Signal(words.value()?)),
+            "signal" => Some(SignalCall::Signal(words.value(C::bits())?)),
             "reset" => words.nothing().map(|_| SignalCall::Reset),
             "try-take" => words.nothing().map(|_| SignalCall::TryTake),
             "signaled" => words.nothing().map(|_| SignalCall::Signaled),
@@ -43,10 +47,10 @@ impl Vocabulary for SignalWords {
         }
     }
 
-    fn print<W: Write>(heard: &SignalHeard<u32>, output: &mut W) -> io::Result<()> {
+    fn print<W: Write>(heard: &SignalHeard<u64>, output: &mut W) -> io::Result<()> {
         match heard {
             SignalHeard::Waited(value) => write!(output, "Ready({value})"),
-            SignalHeard::Taken(taken) => print_option(taken.map(u64::from), output),
+            SignalHeard::Taken(taken) => print_option(*taken, output),
             SignalHeard::Signaled(true) => write!(output, "true"),
             SignalHeard::Signaled(false) => write!(output, "false"),
         }
@@ -64,13 +68,13 @@ impl Vocabulary for SignalWords {
     }
 }
 
-impl Scripted<SignalWords> for SignalRun<u32, u64, REQS, 1> {
+impl<C: Size> Scripted<SignalWords<C>> for SignalRun<u64, u64, REQS, 1> {
     type First = ();
 
     ghost use Rattle.esync_script.specs.Setting.{BeginsAs};
     ghost use Rattle.esync_script.specs.Signal.{signal_setting};
 
-    ghost IsNew = { λ first m. BeginsAs (signal_setting) (Self.semantics.object m) (Self.semantics.registrations m) };
+    ghost IsNew = { λ first m. BeginsAs (signal_setting C.bits) (Self.semantics.object m) (Self.semantics.registrations m) };
 
     fn begin(_first: ()) -> Self {
         Requests::new(SignalState::new())

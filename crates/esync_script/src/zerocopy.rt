@@ -3,7 +3,7 @@ ghost use Rattle.std.specs.Prelude.{◌≡◌, ◌≤◌, OnOk, replicate};
 ghost use Rattle.std.specs.Io.KnownBytes.{Appends};
 ghost use Rattle.esync_script.specs.Zerocopy.{lent_text};
 
-use crate::capacity::MOST;
+use crate::capacity::{MOST, Size};
 use crate::scripted::Scripted;
 use arrayvec::ArrayVec;
 use esync_machine::requests::Requests;
@@ -12,9 +12,10 @@ use esync_words::words::Words;
 use esync_zerocopy::zerocopy_channel::machine::{Lent, ZeroCall, ZeroHeard};
 use esync_zerocopy::zerocopy_channel::{RowState, Side, SlotLent};
 use std::io::{self, Write};
+use std::marker::PhantomData;
 
 // Prints the number of a slot, and the value that a receiver reads there.
-fn print_lent<W: Write>(lent: &Lent<u32>, output: &mut W) -> io::Result<()>
+fn print_lent<W: Write>(lent: &Lent<u64>, output: &mut W) -> io::Result<()>
     ensures { OnOk result (Appends (W.contents output.old) (W.contents output.new) (lent_text lent.now)) }
 {
     match lent {
@@ -24,20 +25,22 @@ fn print_lent<W: Write>(lent: &Lent<u32>, output: &mut W) -> io::Result<()>
 }
 
 /// The words of a zero-copy channel.
-pub struct ZeroWords {}
+pub struct ZeroWords<C: Size> {
+    capacities: PhantomData<C>,
+}
 
-impl Vocabulary for ZeroWords {
+impl<C: Size> Vocabulary for ZeroWords<C> {
     type Ask = Side;
 
-    type Call = ZeroCall<u32>;
+    type Call = ZeroCall<u64>;
 
-    type Heard = ZeroHeard<u32>;
+    type Heard = ZeroHeard<u64>;
 
     ghost use Rattle.esync_script.specs.Zerocopy.{zero_asks, zero_calls, zero_text};
 
     ghost asks = { zero_asks };
 
-    ghost calls = { zero_calls };
+    ghost calls = { zero_calls C.bits };
 
     ghost text = { zero_text };
 
@@ -49,11 +52,11 @@ impl Vocabulary for ZeroWords {
         }
     }
 
-    fn call(name: &str, words: Words<'_>) -> Option<ZeroCall<u32>> {
+    fn call(name: &str, words: Words<'_>) -> Option<ZeroCall<u64>> {
         match name {
             "try-send" => words.nothing().map(|_| ZeroCall::Try(Side::Sender)),
             "try-receive" => words.nothing().map(|_| ZeroCall::Try(Side::Receiver)),
-            "write" => Some(ZeroCall::Write(words.value()?)),
+            "write" => Some(ZeroCall::Write(words.value(C::bits())?)),
             "done-send" => words.nothing().map(|_| ZeroCall::Done(Side::Sender)),
             "done-receive" => words.nothing().map(|_| ZeroCall::Done(Side::Receiver)),
             "end-send" => words.nothing().map(|_| ZeroCall::EndLoan(Side::Sender)),
@@ -66,7 +69,7 @@ impl Vocabulary for ZeroWords {
         }
     }
 
-    fn print<W: Write>(heard: &ZeroHeard<u32>, output: &mut W) -> io::Result<()> {
+    fn print<W: Write>(heard: &ZeroHeard<u64>, output: &mut W) -> io::Result<()> {
         match heard {
             ZeroHeard::Lends(lent) => {
                 write!(output, "Ready")?;
@@ -97,7 +100,7 @@ impl Vocabulary for ZeroWords {
 }
 
 // Returns so many values 0, in a row of `N` places.
-fn zeros<const N: usize>(count: usize) -> ArrayVec<u32, N>
+fn zeros<const N: usize>(count: usize) -> ArrayVec<u64, N>
     requires { count ≤ N }
     ensures { result.items ≡ replicate count 0 }
 {
@@ -107,9 +110,9 @@ fn zeros<const N: usize>(count: usize) -> ArrayVec<u32, N>
 }
 
 /// A zero-copy channel whose slots stand in the state itself.
-pub type Slotted = Requests<RowState<ArrayVec<u32, MOST>, u64>, REQS, 1>;
+pub type Slotted = Requests<RowState<ArrayVec<u64, MOST>, u64>, REQS, 1>;
 
-impl Scripted<ZeroWords> for Slotted {
+impl<C: Size> Scripted<ZeroWords<C>> for Slotted {
     /// The number of slots.
     type First = usize;
 
@@ -119,7 +122,7 @@ impl Scripted<ZeroWords> for Slotted {
 
     ghost CanBegin = { λ slots. (0 < slots) × (slots ≤ 4096) };
 
-    ghost IsNew = { λ slots m. BeginsAs (zero_setting slots) (Self.semantics.object m) (Self.semantics.registrations m) };
+    ghost IsNew = { λ slots m. BeginsAs (zero_setting C.bits slots) (Self.semantics.object m) (Self.semantics.registrations m) };
 
     fn begin(slots: usize) -> Self {
         Requests::new(RowState::new(zeros(slots)))

@@ -1,8 +1,10 @@
 //! Whether a shared form answers and wakes as the machine does.
 use crate::play::play;
 use esync_forms::form::{Door, Doors};
-use esync_script::play_text;
+use esync_script::capacity::Capacity;
+use esync_script::opening::play_lines;
 use esync_words::fault::Fault;
+use esync_words::lines::{Bounded, Lines};
 use esync_words::play::Replies;
 use std::alloc::Global;
 use std::fmt::{self, Display, Formatter};
@@ -35,16 +37,14 @@ impl Display for Found {
     }
 }
 
-/// Plays the script over the machine, and three times over the shared form, each time with another way first, and
-/// compares the replies.
+/// Plays the script of `syncrun` over the machine, and three times over the shared form, each time with another way
+/// first, and compares the replies.
 ///
 /// # Errors
 ///
 /// Returns the fault of the script if the machine doesn't come to its end.
 pub fn compare<R: Wait>(rt: &R, alloc: Global, script: &str) -> Result<Found, Fault> {
-    let mut machine = Vec::new(alloc);
-    play_text(&mut Replies {}, script, &mut machine)?;
-    let machine = text(machine)?;
+    let machine = text(replies(alloc, script)?)?;
     for first in [Door::Own, Door::Handle, Door::Dynamic] {
         let mut shared = Vec::new(alloc);
         play(rt, alloc, Doors::from(first), script, &mut shared)?;
@@ -54,6 +54,17 @@ pub fn compare<R: Wait>(rt: &R, alloc: Global, script: &str) -> Result<Found, Fa
         }
     }
     Ok(Found::Alike(machine.lines().count()))
+}
+
+// Returns the machine's replies.
+fn replies(alloc: Global, script: &str) -> Result<Vec<u8>, Fault> {
+    let mut lines = Lines::new(Bounded::<&[u8], Capacity>::of(script.as_bytes()));
+    let mut output = Vec::new(alloc);
+    match play_lines::<Capacity, Replies, _, Vec<u8>>(&mut Replies {}, &mut lines, &mut output) {
+        Ok(()) => Ok(output),
+        Err(Fault::InputOutput) => Err(Fault::OutOfMemory),
+        Err(fault) => Err(fault),
+    }
 }
 
 // Returns how many lines are alike before the first that differs.

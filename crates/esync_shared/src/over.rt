@@ -4,8 +4,7 @@ ghost use Rattle.std.specs.Prelude.{◌<◌, ◌≤◌, IfOk, length};
 use crate::play::{Script, Stage, serve};
 use bumpalo::Bump;
 use esync_base::deque::Deque;
-use esync_base::ring_buffer::ByteRing;
-use esync_base::store::{ByteStore, FixedStore};
+use esync_base::store::{FixedBytes, FixedStore};
 use esync_base::waitqueue::{Hand, TaskId, WakerList};
 use esync_cells::signal::Signal;
 use esync_cells::watch::{SharedWatch, Watch};
@@ -25,6 +24,7 @@ use esync_notes::Notes;
 use esync_permits::semaphore::machine::{PermitCall, PermitHeard};
 use esync_permits::semaphore::{Amount, FairState, GreedyState, PermitState, SharedSemaphore};
 use esync_pipe::pipe::{DynamicReader, DynamicWriter, SharedPipe};
+use esync_pipe::ring::Ring;
 use esync_priority::prio::{Kind, Max, Min, PrioQueue};
 use esync_pubsub::pubsub::{FixedLog, PubSubChannel, SharedPubSub};
 use esync_script::capacity::Capacity;
@@ -95,14 +95,14 @@ macro_rules! at_capacity {
 }
 
 // Plays the script over a channel that keeps its messages in this way.
-fn mailbox<S: FixedStore<Message = u32>, R: Wait, W: Write>(
+fn mailbox<S: FixedStore<Message = u64>, R: Wait, W: Write>(
     stage: Stage<'_, '_, R>,
     script: &mut Script<'_>,
     output: &mut W,
 ) -> Result<(), Fault> {
     let channel: SharedMailbox<S, u64, &Notes<'_, R>> = SharedMailbox::new(stage.notes);
     let form = Channel::new(&channel, stage.doors);
-    serve::<ChannelWords, _, R, W>(stage, form, script, output)
+    serve::<ChannelWords<Capacity>, _, R, W>(stage, form, script, output)
 }
 
 // Plays the script over a channel.
@@ -112,17 +112,17 @@ fn channel<R: Wait, W: Write>(
     script: &mut Script<'_>,
     output: &mut W,
 ) -> Result<(), Fault> {
-    at_capacity!(capacity, [mailbox::<Deque<u32,] N [>, R, W>(stage, script, output)])
+    at_capacity!(capacity, [mailbox::<Deque<u64,] N [>, R, W>(stage, script, output)])
 }
 
 // Plays the script over a priority channel of this kind.
-fn priority<K: Kind<u32>, R: Wait, W: Write>(
+fn priority<K: Kind<u64>, R: Wait, W: Write>(
     stage: Stage<'_, '_, R>,
     capacity: Capacity,
     script: &mut Script<'_>,
     output: &mut W,
 ) -> Result<(), Fault> {
-    at_capacity!(capacity, [mailbox::<PrioQueue<u32, K,] N [>, R, W>(stage, script, output)])
+    at_capacity!(capacity, [mailbox::<PrioQueue<u64, K,] N [>, R, W>(stage, script, output)])
 }
 
 // Plays the script over a signal.
@@ -131,9 +131,9 @@ fn signal<R: Wait, W: Write>(
     script: &mut Script<'_>,
     output: &mut W,
 ) -> Result<(), Fault> {
-    let signal: Signal<u32, u64, &Notes<'_, R>> = Signal::new(stage.notes);
+    let signal: Signal<u64, u64, &Notes<'_, R>> = Signal::new(stage.notes);
     let form = Signaling::new(&signal, stage.doors);
-    serve::<SignalWords, _, R, W>(stage, form, script, output)
+    serve::<SignalWords<Capacity>, _, R, W>(stage, form, script, output)
 }
 
 // Plays the script over a semaphore with this state, in these words.
@@ -190,18 +190,18 @@ fn fair<R: Wait, W: Write>(
 }
 
 // Plays the script over a pipe that is split anew for each call.
-fn split<B: ByteStore, R: Wait, W: Write>(
+fn split<B: FixedBytes, R: Wait, W: Write>(
     stage: Stage<'_, '_, R>,
     script: &mut Script<'_>,
     output: &mut W,
 ) -> Result<(), Fault> {
     let pipe: SharedPipe<B, u64, &Notes<'_, R>> = SharedPipe::new(stage.notes);
     let form = Split::new(pipe, stage.doors);
-    serve::<PipeWords, _, R, W>(stage, form, script, output)
+    serve::<PipeWords<Capacity, 16>, _, R, W>(stage, form, script, output)
 }
 
 // Plays the script over a pipe whose futures last.
-fn lasting<B: ByteStore, R: Wait, W: Write>(
+fn lasting<B: FixedBytes, R: Wait, W: Write>(
     stage: Stage<'_, '_, R>,
     script: &mut Script<'_>,
     output: &mut W,
@@ -213,11 +213,11 @@ fn lasting<B: ByteStore, R: Wait, W: Write>(
     let writer = DynamicWriter::new(lent);
     let reader = DynamicReader::new(stage.alloc, lent).map_err(|_| Fault::OutOfMemory)?;
     let form = Lasting::new(&pipe, &written, &writer, reader, stage.doors);
-    serve::<PipeWords, _, R, W>(stage, form, script, output)
+    serve::<PipeWords<Capacity, 16>, _, R, W>(stage, form, script, output)
 }
 
 // Plays the script over a pipe with this buffer: the first way says whether it is split anew or its futures last.
-fn bytes<B: ByteStore, R: Wait, W: Write>(
+fn bytes<B: FixedBytes, R: Wait, W: Write>(
     stage: Stage<'_, '_, R>,
     script: &mut Script<'_>,
     output: &mut W,
@@ -236,12 +236,12 @@ fn pipe<R: Wait, W: Write>(
     script: &mut Script<'_>,
     output: &mut W,
 ) -> Result<(), Fault> {
-    at_capacity!(capacity, [bytes::<ByteRing<] N [>, R, W>(stage, script, output)])
+    at_capacity!(capacity, [bytes::<Ring<] N [>, R, W>(stage, script, output)])
 }
 
 // Plays the script over this pub-sub channel, which has no subscribers and publishers.
 fn log<
-    G: FixedLog<Message = u32>,
+    G: FixedLog<Message = u64>,
     S: WakerList<Waker = u64>,
     P: WakerList<Waker = u64>,
     H: Hand<u64>,
@@ -255,7 +255,7 @@ fn log<
     output: &mut W,
 ) -> Result<(), Fault> {
     match PubSub::new(stage.alloc, channel, stage.doors) {
-        Ok(form) => serve::<PubSubWords, _, R, W>(stage, form, script, output),
+        Ok(form) => serve::<PubSubWords<Capacity>, _, R, W>(stage, form, script, output),
         Err(AllocError) => Err(Fault::OutOfMemory),
     }
 }
@@ -263,7 +263,7 @@ fn log<
 // A pub-sub channel of so many messages. It is spelled out, so that its size in bytes is known.
 macro_rules! topic {
     ($n:literal, $of:ident, $stage:ident, $script:ident, $output:ident) => {{
-        let channel: PubSubChannel<u32, u64, &Notes<'_, $of>, $n, 4, 4, 4> =
+        let channel: PubSubChannel<u64, u64, &Notes<'_, $of>, $n, 4, 4, 4> =
             PubSubChannel::new($stage.notes);
         log($stage, &channel, $script, $output)
     }};
@@ -290,30 +290,30 @@ fn once<R: Wait, W: Write>(
     output: &mut W,
 ) -> Result<(), Fault> {
     let form: Once<&Notes<'_, R>> = Once::new(stage.notes, stage.doors);
-    serve::<OnceWords, _, R, W>(stage, form, script, output)
+    serve::<OnceWords<Capacity>, _, R, W>(stage, form, script, output)
 }
 
 // Plays the script over a mutex.
 fn mutex<R: Wait, W: Write>(
     stage: Stage<'_, '_, R>,
-    value: u32,
-    part: u32,
+    value: u64,
+    part: u64,
     script: &mut Script<'_>,
     output: &mut W,
 ) -> Result<(), Fault> {
     let mutex: Mutex<Pair, u64, &Notes<'_, R>> = Mutex::new((value, part), stage.notes);
-    serve::<MutexWords, _, R, W>(stage, Guarded::new(&mutex), script, output)
+    serve::<MutexWords<Capacity>, _, R, W>(stage, Guarded::new(&mutex), script, output)
 }
 
 // Plays the script over this watch, which has no receivers.
 fn latest<L: WakerList<Waker = u64>, H: Hand<u64>, R: Wait, W: Write, const K: usize>(
     stage: Stage<'_, '_, R>,
-    watch: &SharedWatch<u32, L, H, K>,
+    watch: &SharedWatch<u64, L, H, K>,
     script: &mut Script<'_>,
     output: &mut W,
 ) -> Result<(), Fault> {
     match Watching::new(stage.alloc, watch, stage.doors) {
-        Ok(form) => serve::<WatchWords, _, R, W>(stage, form, script, output),
+        Ok(form) => serve::<WatchWords<Capacity>, _, R, W>(stage, form, script, output),
         Err(AllocError) => Err(Fault::OutOfMemory),
     }
 }
@@ -321,13 +321,13 @@ fn latest<L: WakerList<Waker = u64>, H: Hand<u64>, R: Wait, W: Write, const K: u
 // Plays the script over a watch with places for `N` receivers.
 fn value<const N: usize, R: Wait, W: Write>(
     stage: Stage<'_, '_, R>,
-    value: Option<u32>,
+    value: Option<u64>,
     script: &mut Script<'_>,
     output: &mut W,
 ) -> Result<(), Fault>
     requires { N ≤ 8 }
 {
-    let watch: Watch<u32, u64, &Notes<'_, R>, N, N> = match value {
+    let watch: Watch<u64, u64, &Notes<'_, R>, N, N> = match value {
         Some(value) => Watch::new_with(value, stage.notes),
         None => Watch::new(stage.notes),
     };
@@ -338,7 +338,7 @@ fn value<const N: usize, R: Wait, W: Write>(
 fn watch<R: Wait, W: Write>(
     stage: Stage<'_, '_, R>,
     capacity: Capacity,
-    first: Option<u32>,
+    first: Option<u64>,
     script: &mut Script<'_>,
     output: &mut W,
 ) -> Result<(), Fault> {
@@ -386,5 +386,5 @@ fn zerocopy<R: Wait, W: Write>(
     let mut channel = SlotChannel::new(slots, stage.notes);
     let (sender, receiver) = channel.split();
     let form = Zerocopy::new(sender, receiver, stage.doors);
-    serve::<ZeroWords, _, R, W>(stage, form, script, output)
+    serve::<ZeroWords<Capacity>, _, R, W>(stage, form, script, output)
 }

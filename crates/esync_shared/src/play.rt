@@ -5,7 +5,7 @@ use esync_machine::primitive::Command;
 use esync_notes::Notes;
 use esync_script::opening::Opening;
 use esync_words::fault::Fault;
-use esync_words::lines::LONGEST;
+use esync_words::lines::SHORT;
 use esync_words::play::Opens;
 use esync_words::printing::print_reply;
 use esync_words::vocabulary::{REQS, Vocabulary, read_command};
@@ -83,7 +83,7 @@ pub struct Stage<'n, 'r, R> {
 
 // Returns the words of a line, unless it has too many bytes.
 fn words_of(line: &str) -> Option<Words<'_>> {
-    (line.len() <= LONGEST).then_some(Words::of(line))
+    (line.len() <= SHORT).then_some(Words::of(line))
 }
 
 // Returns the command that a line says, if it says one.

@@ -1,6 +1,5 @@
 //! Why a line is no command: where in the line, and what would be one.
-use crate::language::{FIXED_OPENINGS, OPENINGS, REQUESTS, asks_of, calls_of, shape_of};
-use esync_words::lines::LONGEST;
+use crate::language::{Language, OPENINGS, REQUESTS, asks_of, calls_of, shape_of};
 use std::alloc::{AllocError, Global};
 use strsim::osa_distance;
 
@@ -18,36 +17,46 @@ const NEAR: usize = 2;
 /// Why this line of a script is no command. Line 1 has no primitive before it. `None` where nothing is known.
 pub fn reason_of(
     alloc: Global,
+    language: Language,
     primitive: Option<&str>,
     line: &[u8],
 ) -> Result<Option<Reason>, AllocError> {
-    if let Some((column, why)) = odd_byte(line) {
+    let longest = language.longest();
+    if let Some((column, why)) = odd_byte(line)
+        && column <= longest
+    {
         return Ok(Some(Reason {
             column,
             text: String::from_str(alloc, why)?,
+        }));
+    }
+    if line.len() > longest {
+        return Ok(Some(Reason {
+            column: longest.saturating_add(1),
+            text: format!(in alloc; "a line has at most {longest} bytes")?,
         }));
     }
     let Ok(line) = str::from_utf8(line) else {
         return Ok(None);
     };
     match primitive {
-        None => commanded(alloc, line, 1, "primitive", OPENINGS),
-        Some(primitive) => of_command(alloc, primitive, line),
+        None => commanded(alloc, language, line, 1, "primitive", OPENINGS),
+        Some(primitive) => of_command(alloc, language, primitive, line),
     }
 }
 
-/// Why these words are no primitive of a system or with a shared form, or nothing that this one is asked or called.
+/// Why these words are no primitive of a system, or nothing that this one is asked or called.
 pub fn reason_in_system(
     alloc: Global,
     primitive: Option<&str>,
     words: &str,
 ) -> Result<Option<Reason>, AllocError> {
     let Some(primitive) = primitive else {
-        return commanded(alloc, words, 1, "primitive", FIXED_OPENINGS);
+        return commanded(alloc, Language::Few, words, 1, "primitive", OPENINGS);
     };
     let kind = format!(in alloc; "request or call of {primitive}")?;
     let commands = format!(in alloc; "{} end:k {}", asks_of(primitive), calls_of(primitive))?;
-    commanded(alloc, words, 1, &kind, &commands)
+    commanded(alloc, Language::Few, words, 1, &kind, &commands)
 }
 
 // The column of the first byte that no command has at its place, and why.
@@ -62,7 +71,6 @@ fn odd_byte(line: &[u8]) -> Option<(usize, &'static str)> {
             b' ' if before == b' ' => "a space too many: words stand one space apart",
             0..=31 | 127 => "a control character",
             128..=255 => "a byte that isn't ASCII",
-            _ if place == LONGEST => "a line has at most 256 bytes",
             _ => continue,
         };
         return Some((place.saturating_add(1), why));
@@ -73,10 +81,15 @@ fn odd_byte(line: &[u8]) -> Option<(usize, &'static str)> {
     None
 }
 
-fn of_command(alloc: Global, primitive: &str, line: &str) -> Result<Option<Reason>, AllocError> {
+fn of_command(
+    alloc: Global,
+    language: Language,
+    primitive: &str,
+    line: &str,
+) -> Result<Option<Reason>, AllocError> {
     let (name, rest) = line.split_once(' ').unwrap_or((line, ""));
     if name != "start" {
-        return of_call(alloc, primitive, name, line);
+        return of_call(alloc, language, primitive, name, line);
     }
     let asks = asks_of(primitive);
     if asks.is_empty() {
@@ -84,17 +97,18 @@ fn of_command(alloc: Global, primitive: &str, line: &str) -> Result<Option<Reaso
         return Ok(Some(Reason { column: 1, text }));
     }
     let (number, ask) = rest.split_once(' ').unwrap_or((rest, ""));
-    if let Some(why) = odd_word(b'k', number) {
-        return told(alloc, 7, number, why);
+    if let Some(why) = odd_word(alloc, language, b'k', number)? {
+        return told(alloc, 7, number, &why);
     }
     let kind = format!(in alloc; "request of {primitive}")?;
     let column = number.len().saturating_add(8);
-    commanded(alloc, ask, column, &kind, asks)
+    commanded(alloc, language, ask, column, &kind, asks)
 }
 
 // Why a line that doesn't begin with `start` is no command.
 fn of_call(
     alloc: Global,
+    language: Language,
     primitive: &str,
     name: &str,
     line: &str,
@@ -103,7 +117,7 @@ fn of_call(
     if shape_of(&calls, name).is_none()
         && let Some(shape) = shape_of(asks_of(primitive), name)
     {
-        let ask = sample_of(alloc, name, line, shape)?;
+        let ask = sample_of(alloc, language, name, line, shape)?;
         let text = format!(in alloc; "{name} is asked by a request, as start 0 {ask}")?;
         return Ok(Some(Reason { column: 1, text }));
     }
@@ -112,13 +126,19 @@ fn of_call(
         let named = format!(in alloc; "{calls} {}", asks_of(primitive))?;
         return unknown(alloc, name, 1, &kind, &named);
     }
-    commanded(alloc, line, 1, &kind, &calls)
+    commanded(alloc, language, line, 1, &kind, &calls)
 }
 
 // This line, where it is a name with the words that its letters ask for. Else the name, with a letter for each word but a number.
-fn sample_of(alloc: Global, name: &str, line: &str, shape: &str) -> Result<String, AllocError> {
+fn sample_of(
+    alloc: Global,
+    language: Language,
+    name: &str,
+    line: &str,
+    shape: &str,
+) -> Result<String, AllocError> {
     let (_, words) = line.split_once(' ').unwrap_or((line, ""));
-    if shaped(alloc, name, words, 1, shape)?.is_none() {
+    if shaped(alloc, language, name, words, 1, shape)?.is_none() {
         return String::from_str(alloc, line);
     }
     let mut sample = String::from_str(alloc, name)?;
@@ -132,6 +152,7 @@ fn sample_of(alloc: Global, name: &str, line: &str, shape: &str) -> Result<Strin
 // Why the text that begins at this column is none of the commands.
 fn commanded(
     alloc: Global,
+    language: Language,
     text: &str,
     column: usize,
     kind: &str,
@@ -142,7 +163,7 @@ fn commanded(
         return unknown(alloc, name, column, kind, commands);
     };
     let behind = column.saturating_add(name.len()).saturating_add(1);
-    shaped(alloc, name, rest, behind, shape)
+    shaped(alloc, language, name, rest, behind, shape)
 }
 
 // That no command has this name, with the one that is nearest to it.
@@ -201,6 +222,7 @@ fn near(letters: usize) -> usize {
 // Why the words behind a name, from this column on, aren't those that its letters ask for.
 fn shaped(
     alloc: Global,
+    language: Language,
     name: &str,
     words: &str,
     column: usize,
@@ -216,8 +238,8 @@ fn shaped(
             return told(alloc, column, name, "a word is missing behind it");
         };
         let (word, rest) = split_word(words);
-        if let Some(why) = odd_word(letter.to_ascii_lowercase(), word) {
-            return told(alloc, column, word, why);
+        if let Some(why) = odd_word(alloc, language, letter.to_ascii_lowercase(), word)? {
+            return told(alloc, column, word, &why);
         }
         column = column.saturating_add(word.len()).saturating_add(1);
         left = rest;
@@ -246,41 +268,54 @@ fn told(alloc: Global, column: usize, word: &str, why: &str) -> Result<Option<Re
 }
 
 // Why a word isn't what its letter asks for, if it isn't.
-fn odd_word(letter: u8, word: &str) -> Option<&'static str> {
+fn odd_word(
+    alloc: Global,
+    language: Language,
+    letter: u8,
+    word: &str,
+) -> Result<Option<String>, AllocError> {
+    let most = language.bytes();
     if letter == b'b' {
-        return (!is_bytes(word)).then_some(
-            "bytes are numbers below 256, at most 16, with a comma between, or - for none",
-        );
+        if is_bytes(word, most) {
+            return Ok(None);
+        }
+        let why = format!(in alloc;
+            "bytes are numbers below 256, at most {most}, with a comma between, or - for none"
+        )?;
+        return Ok(Some(why));
     }
     if word.is_empty() {
-        return Some("a number is missing");
+        return Ok(Some(String::from_str(alloc, "a number is missing")?));
     }
     if !is_number(word) {
-        return Some("no number");
+        return Ok(Some(String::from_str(alloc, "no number")?));
     }
-    match (letter, word.parse::<u64>()) {
-        (b'v', Ok(value)) if value > 4_294_967_295 => {
-            Some("too large: a value is at most 4294967295")
+    let greatest = language.greatest();
+    let why = match (letter, word.parse::<u64>()) {
+        (b'v', Ok(value)) if value > greatest => {
+            format!(in alloc; "too large: a value is at most {greatest}")?
         }
-        (b'n', Ok(count)) if count > 16 => Some("too large: at most 16 bytes"),
-        (b'c', Ok(places)) if !(1..=4096).contains(&places) => {
-            Some("another capacity: it is 1 to 4096")
+        (b'n', Ok(count)) if count > most as u64 => {
+            format!(in alloc; "too large: at most {most} bytes")?
         }
-        (b'd', Ok(places)) if !matches!(places, 1 | 2 | 3 | 4 | 8) => {
-            Some("another capacity: it is 1, 2, 3, 4 or 8")
+        (b'c', Ok(places)) if !language.has_capacity(places) => {
+            format!(in alloc; "another capacity: it is {}", language.capacities())?
         }
-        (b'1', Ok(places)) if places != 1 => Some("another capacity: it is 1"),
-        (_, Ok(_)) => None,
-        (_, Err(_)) => Some("too large: a number is at most 18446744073709551615"),
-    }
+        (b'1', Ok(places)) if places != 1 => {
+            String::from_str(alloc, "another capacity: it is 1")?
+        }
+        (_, Ok(_)) => return Ok(None),
+        (_, Err(_)) => { format!(in alloc; "too large: a number is at most {}", u64::MAX)? }
+    };
+    Ok(Some(why))
 }
 
 fn is_number(word: &str) -> bool {
     !word.is_empty() && word.bytes().all(|byte| byte.is_ascii_digit())
 }
 
-// The word is a list of bytes.
-fn is_bytes(word: &str) -> bool {
+// The word is a list of bytes, at most so many.
+fn is_bytes(word: &str, most: usize) -> bool {
     if word == "-" {
         return true;
     }
@@ -288,7 +323,7 @@ fn is_bytes(word: &str) -> bool {
     for number in word.split(',') {
         let is_byte = is_number(number) && matches!(number.parse::<u64>(), Ok(0..=255));
         count = count.saturating_add(1);
-        if !is_byte || count > 16 {
+        if !is_byte || count > most {
             return false;
         }
     }

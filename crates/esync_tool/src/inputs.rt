@@ -1,6 +1,7 @@
 //! Inputs by their names, and what is said of one that was not gone through to its end.
 use crate::Streams;
 use crate::bad_line::{Reason, reason_of};
+use crate::language::Language;
 use crate::printable::Printable;
 use crate::source::Keeping;
 use crate::stopped::Stopped;
@@ -196,7 +197,7 @@ pub fn with_reason<R: Drop>(
         return Err(Stopped::Fault(fault));
     };
     let primitive = if number == 1 { None } else { kept.primitive() };
-    match reason_of(alloc, primitive, &line)? {
+    match reason_of(alloc, Language::Script, primitive, &line)? {
         Some(reason) => Err(Stopped::BadLine(number, reason)),
         None => Err(Stopped::Fault(fault)),
     }
@@ -204,11 +205,11 @@ pub fn with_reason<R: Drop>(
 
 /// Why a text was not gone through, with the reason why a line is no command. What stands behind a command of a recorded run isn't
 /// looked at.
-pub fn reasoned(alloc: Global, stopped: Stopped, text: &str, is_recorded: bool) -> Stopped {
+pub fn reasoned(alloc: Global, stopped: Stopped, text: &str, language: Language) -> Stopped {
     let Stopped::Fault(Fault::NotACommand(number)) = stopped else {
         return stopped;
     };
-    match reason_in(alloc, number, text, is_recorded) {
+    match reason_in(alloc, number, text, language) {
         Ok(Some(reason)) => Stopped::BadLine(number, reason),
         Ok(None) => Stopped::Fault(Fault::NotACommand(number)),
         Err(_) => Stopped::Fault(Fault::OutOfMemory),
@@ -219,18 +220,18 @@ fn reason_in(
     alloc: Global,
     number: u64,
     text: &str,
-    is_recorded: bool,
+    language: Language,
 ) -> Result<Option<Reason>, std::alloc::AllocError> {
     let mut lines = text.split('\n');
     let first = lines.next().unwrap_or("");
     let (name, _) = first.split_once(' ').unwrap_or((first, ""));
     if number <= 1 {
-        return reason_of(alloc, None, first.as_bytes());
+        return reason_of(alloc, language, None, first.as_bytes());
     }
     let line = lines.nth((number - 2) as usize).unwrap_or("");
     let command = match line.split_once(" => ") {
-        Some((command, _)) if is_recorded => command,
+        Some((command, _)) if matches!(language, Language::Recorded) => command,
         _ => line,
     };
-    reason_of(alloc, Some(name), command.as_bytes())
+    reason_of(alloc, language, Some(name), command.as_bytes())
 }

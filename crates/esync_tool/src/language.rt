@@ -2,24 +2,75 @@
 //!
 //! A command is written as its name and, behind a colon, a letter for each word that follows:
 //!
-//! | Letter | The word is |
-//! |---|---|
-//! | `k` | a number, at most 2^64 - 1 |
-//! | `v` | a value, at most 2^32 - 1 |
-//! | `n` | a number of bytes, at most 16 |
-//! | `b` | bytes, as `1,2,255`, or `-` |
-//! | `c` | a capacity: 1 to 4096 |
-//! | `d` | a capacity: 1, 2, 3, 4 or 8 |
-//! | `1` | the capacity 1 |
-//! | `K`, `V` | as `k` or `v`, and may be missing |
+//! | Letter | The word is | In a [`Language`] of few numbers |
+//! |---|---|---|
+//! | `k` | a number, at most 2^64 - 1 | |
+//! | `v` | a value, at most 2^64 - 1 | at most 2^32 - 1 |
+//! | `n` | a number of bytes, at most 4096 | at most 16 |
+//! | `b` | bytes, at most 4096, as `1,2,255`, or `-` | at most 16 |
+//! | `c` | a capacity: 1 to 4096 | 1, 2, 3, 4 or 8 |
+//! | `1` | the capacity 1 | |
+//! | `K`, `V` | as `k` or `v`, and may be missing | |
+
+use esync_script::capacity::{AnyCapacity, Capacity, Size};
+use esync_words::lines::LineLimit;
+
+/// What is written in these words.
+#[derive(Clone, Copy)]
+pub enum Language {
+    /// A script that is played over the machine of its primitive.
+    Script,
+    /// A recorded run: a script with a reply behind each command.
+    Recorded,
+    /// A script over a shared form, or a system. Its numbers are those of `syncrun`.
+    Few,
+}
+
+impl Language {
+    /// How many bytes a line has at most.
+    pub fn longest(self) -> usize {
+        match self {
+            Language::Script | Language::Recorded => AnyCapacity::longest(),
+            Language::Few => Capacity::longest(),
+        }
+    }
+
+    /// How many bytes a command of a pipe has at most.
+    pub fn bytes(self) -> usize {
+        match self {
+            Language::Script | Language::Recorded => AnyCapacity::bytes(),
+            Language::Few => Capacity::bytes(),
+        }
+    }
+
+    /// The greatest value.
+    pub fn greatest(self) -> u64 {
+        match self {
+            Language::Script | Language::Recorded => u64::MAX,
+            Language::Few => u64::from(u32::MAX),
+        }
+    }
+
+    /// Whether line 1 can say this capacity.
+    pub fn has_capacity(self, places: u64) -> bool {
+        match self {
+            Language::Script | Language::Recorded => AnyCapacity::of(places).is_some(),
+            Language::Few => Capacity::of(places).is_some(),
+        }
+    }
+
+    /// The capacities that line 1 can say.
+    pub fn capacities(self) -> &'static str {
+        match self {
+            Language::Script | Language::Recorded => "1 to 4096",
+            Language::Few => "1, 2, 3, 4 or 8",
+        }
+    }
+}
 
 /// The primitives that line 1 may name.
 pub const OPENINGS: &str =
-    "channel:c max:c min:c pubsub:cK signal:1 greedy:1k fair:ck pipe:d once:1 lazy:1v zerocopy:c mutex:1vv watch:dV";
-
-/// The primitives that a system, or line 1 of a script over a shared form, may name.
-pub const FIXED_OPENINGS: &str =
-    "channel:d max:d min:d pubsub:dK signal:1 greedy:1k fair:dk pipe:d once:1 lazy:1v zerocopy:d mutex:1vv watch:dV";
+    "channel:c max:c min:c pubsub:cK signal:1 greedy:1k fair:ck pipe:c once:1 lazy:1v zerocopy:c mutex:1vv watch:cV";
 
 /// The commands that each primitive has, but for `start`, whose first word is the number of the request.
 pub const REQUESTS: &str = "poll:kk end:k";

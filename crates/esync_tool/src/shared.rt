@@ -1,5 +1,5 @@
 //! Scripts over the shared forms of their primitives.
-use crate::bad_line::{Reason, reason_in_system, reason_of};
+use crate::bad_line::Reason;
 use crate::inputs::first_line;
 use crate::stopped::Stopped;
 use esync_forms::form::{Door, Doors};
@@ -49,17 +49,8 @@ fn is_shared(alloc: Global, text: &str) -> Result<(), Stopped> {
             let text = format!(in alloc; "{number}: a shared pubsub begins at message 0")?;
             (before.saturating_add(1), text)
         }
-        Some(_) => return Ok(()),
-        None => {
-            // (a line 1 that no script can have is told of when the script is played)
-            if reason_of(alloc, None, line.as_bytes())?.is_some() {
-                return Ok(());
-            }
-            return match reason_in_system(alloc, None, line)? {
-                Some(reason) => Err(Stopped::BadLine(1, reason)),
-                None => Ok(()),
-            };
-        }
+        // (a line 1 that names none is told of when the script is played)
+        _ => return Ok(()),
     };
     Err(Stopped::BadLine(1, Reason { column, text }))
 }

@@ -4,7 +4,7 @@ use std::io::{self, ErrorKind, Read};
 use std::mem;
 
 // How many bytes are kept at least: a script is read in pieces of 8 KB, and a line is judged before the next piece is read.
-const ENOUGH: usize = 16_384;
+const ENOUGH: usize = 32_768;
 
 // How many bytes of line 1 are kept.
 const LINE: usize = 256;

@@ -4,6 +4,7 @@ use crate::by_line::ByLine;
 use crate::explored::{Form, explore};
 use crate::inputs::{Readable, hint, reasoned, status, with_reason};
 use crate::judged::{check, check_as_json, unjudged_as_json};
+use crate::language::Language;
 use crate::printable::Printable;
 use crate::shared::{compared, played};
 use crate::source::Keeping;
@@ -214,12 +215,13 @@ enum Work {
 }
 
 impl Work {
-    // Each file is a recorded run, whose lines have replies.
-    fn is_recorded(self) -> bool {
-        matches!(
-            self,
-            Work::Check | Work::CheckWithReasons | Work::CheckAsJson
-        )
+    // What each file is written in.
+    fn language(self) -> Language {
+        match self {
+            Work::Check | Work::CheckWithReasons | Work::CheckAsJson => Language::Recorded,
+            Work::Draw | Work::Ends(_) => Language::Script,
+            Work::Shared | Work::Compare | Work::Explore(_, _) => Language::Few,
+        }
     }
 
     // Each file has a line of JSON.
@@ -371,8 +373,8 @@ where
         Work::Explore(form, limit) => explore(alloc, name, text, form, limit, progress, told),
     };
     // (what is told is kept in memory, so that a write that fails has none)
-    let is_recorded = what.is_recorded();
-    let holds = holds.map_err(|stopped| reasoned(alloc, stopped.of_memory(), text, is_recorded));
+    let language = what.language();
+    let holds = holds.map_err(|stopped| reasoned(alloc, stopped.of_memory(), text, language));
     readable.outcome(holds)
 }
 

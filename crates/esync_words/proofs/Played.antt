@@ -32,22 +32,22 @@ reads_more text [] mid h n = (λ e. n (h ∙ e), ap first_line h, ap other_lines
 reads_more text (l ∷ ls) mid h n = (h.0, h.1, reads_more (other_lines text) ls mid h.2 n)
 
 -- a line that was read whole
-pub read_whole : (text : List ℕ) (s : Source) → IsRead 256 text true s → length s.line ≤ 256 → (s.line ≡ first_line text) × (s.left ≡ Some (other_lines text))
-read_whole text s h l = elim (true_or_false (nat_lt 256 (length (first_line text)))) [
-  | inl e ↦ absurd (let m : 256 < length s.line = h.2 (grind (arith, nat_tests)) in omega arith)
+pub read_whole : (most : ℕ) (text : List ℕ) (s : Source) → IsRead most text true s → length s.line ≤ most → (s.line ≡ first_line text) × (s.left ≡ Some (other_lines text))
+read_whole most text s h l = elim (true_or_false (nat_lt most (length (first_line text)))) [
+  | inl e ↦ absurd (let m : most < length s.line = h.2 (grind (arith, nat_tests)) in omega arith)
   | inr e ↦ h.1 (grind (arith, nat_tests))
 ]
 
 -- a text says what its words say
-pub says_words : {C : Type 0} (said : List ℕ → List (List ℕ) → Option C) (line : List ℕ) → IsUtf8 line → length line ≤ 256 → says said line ≡ named said (words_of line)
-says_words said line u l = (let e : nat_lt 256 (length line) ≡ false = grind (arith, nat_tests) in rw (e, is_utf8-from_IsUtf8 line u) refl)
+pub says_words : {C : Type 0} (most : ℕ) (said : List ℕ → List (List ℕ) → Option C) (line : List ℕ) → IsUtf8 line → length line ≤ most → says most said line ≡ named said (words_of line)
+says_words most said line u l = (let e : nat_lt most (length line) ≡ false = grind (arith, nat_tests) in rw (e, is_utf8-from_IsUtf8 line u) refl)
 
 -- what isn't readable says nothing
-pub says_nothing : {C : Type 0} (said : List ℕ → List (List ℕ) → Option C) (text : List ℕ) (s : Source) → IsRead 256 text true s → (IsUtf8 s.line → 256 < length s.line) → says said (first_line text) ≡ None
-says_nothing said text s h n = elim (true_or_false (nat_lt 256 (length (first_line text)))) [
+pub says_nothing : {C : Type 0} (most : ℕ) (said : List ℕ → List (List ℕ) → Option C) (text : List ℕ) (s : Source) → IsRead most text true s → (IsUtf8 s.line → most < length s.line) → says most said (first_line text) ≡ None
+says_nothing most said text s h n = elim (true_or_false (nat_lt most (length (first_line text)))) [
   | inl e ↦ rw e refl
   | inr e ↦ (let w = h.1 (grind (arith, nat_tests)) in elim (true_or_false (is_utf8 (first_line text))) [
-    | inl u ↦ absurd (let m : 256 < length s.line = n (IsUtf8-from_is_utf8 s.line (rw w.0 u)) in let k = ap length w.0 in grind (arith, nat_tests))
+    | inl u ↦ absurd (let m : most < length s.line = n (IsUtf8-from_is_utf8 s.line (rw w.0 u)) in let k = ap length w.0 in grind (arith, nat_tests))
     | inr u ↦ rw (e, u) refl
   ])
 ]
@@ -114,22 +114,22 @@ module _ {S C A W : Type 0} (X : Semantics S C A W) (command : List ℕ → Opti
   noted_more was [] (b ∷ as') c a e = absurd cc
   noted_more was (d ∷ cs) [] c a e = absurd cc
 
-  read_more : (left rest : Option (List ℕ)) (ls : List (List ℕ)) (s : Source) → IfSome left (λ text. (r : List ℕ) × (rest ≡ Some r) × Reads text ls r) → IfSome rest (λ text. IsRead 256 text true s) → length s.line ≤ 256 → IfSome left (λ text. (r : List ℕ) × (s.left ≡ Some r) × Reads text (ls ++ s.line ∷ []) r)
-  read_more None rest ls s h i l = tt
-  read_more (Some text) rest ls s h i l =
-      let j : IsRead 256 h.0 true s = subst (λ o. IfSome o (λ text. IsRead 256 text true s)) h.1 i in
-      let w = read_whole h.0 s j l in
+  read_more : (most : ℕ) (left rest : Option (List ℕ)) (ls : List (List ℕ)) (s : Source) → IfSome left (λ text. (r : List ℕ) × (rest ≡ Some r) × Reads text ls r) → IfSome rest (λ text. IsRead most text true s) → length s.line ≤ most → IfSome left (λ text. (r : List ℕ) × (s.left ≡ Some r) × Reads text (ls ++ s.line ∷ []) r)
+  read_more most None rest ls s h i l = tt
+  read_more most (Some text) rest ls s h i l =
+      let j : IsRead most h.0 true s = subst (λ o. IfSome o (λ text. IsRead most text true s)) h.1 i in
+      let w = read_whole most h.0 s j l in
       (other_lines h.0, w.1, rw w.0 (reads_more text ls h.0 h.2 j.0))
 
   -- another line was read, and is a command, which the machine has answered
-  pub more_so_far : (was is then : T.Notes) (old mid now : S) (n : ℕ) (left : Option (List ℕ)) (number : ℕ) (rest before after written : Option (List ℕ)) (s : Source) (line : List ℕ) (c : C) (a : A) → SoFar was is old mid n left number rest before after → s.number ≡ next_number number → IfSome rest (λ text. IsRead 256 text true s) → line ≡ s.line → length line ≤ 256 → command line ≡ Some c → Turn X mid c a now → Appends after written (T.tells is s.number line c a) → then ≡ T.next_notes is c a → SoFar was then old now n left s.number s.left before written
-  more_so_far was is then old mid now n left number rest before after written s line c a f k i e l is_said turn p m = record {
+  pub more_so_far : (most : ℕ) (was is then : T.Notes) (old mid now : S) (n : ℕ) (left : Option (List ℕ)) (number : ℕ) (rest before after written : Option (List ℕ)) (s : Source) (line : List ℕ) (c : C) (a : A) → SoFar was is old mid n left number rest before after → s.number ≡ next_number number → IfSome rest (λ text. IsRead most text true s) → line ≡ s.line → length line ≤ most → command line ≡ Some c → Turn X mid c a now → Appends after written (T.tells is s.number line c a) → then ≡ T.next_notes is c a → SoFar was then old now n left s.number s.left before written
+  more_so_far most was is then old mid now n left number rest before after written s line c a f k i e l is_said turn p m = record {
     lines = f.lines ++ line ∷ [];
     commands = f.commands ++ c ∷ [];
     replies = f.replies ++ a ∷ [];
     said = said_more f.lines f.commands line c f.said is_said;
     history = longer f.history turn;
-    read = rw e (read_more left rest f.lines s f.read i (rw e at l));
+    read = rw e (read_more most left rest f.lines s f.read i (rw e at l));
     numbered = k ∙ rw f.numbered (sym (line_number-more n f.lines line));
     printed = rw (told_more was n f.lines f.commands f.replies line c a f.said (same_length f.history), ← f.numbered, ← k, ← f.remembered) (appends_more before after written _ _ f.printed p);
     remembered = m ∙ rw (noted_more was f.commands f.replies c a (same_length f.history), ← f.remembered) refl;
@@ -168,8 +168,8 @@ module _ {S C A W : Type 0} (X : Semantics S C A W) (command : List ℕ → Opti
   }
 
   -- the last reply was told in part, or not at all
-  pub ends_untold : OwedAreIdle X → (was is then : T.Notes) (old mid now : S) (n : ℕ) (left : Option (List ℕ)) (number : ℕ) (rest before after written : Option (List ℕ)) (s : Source) (line : List ℕ) (c : C) (a : A) (fault : Fault) → SoFar was is old mid n left number rest before after → IfSome rest (λ text. IsRead 256 text true s) → line ≡ s.line → length line ≤ 256 → command line ≡ Some c → Turn X mid c a now → (IsJudged (Err fault) → ⊥) → Played X.meaning command T was then (X.object old) (X.registrations old) n left before written (Err fault)
-  ends_untold law was is then old mid now n left number rest before after written s line c a fault f i e l is_said turn u = record {
+  pub ends_untold : OwedAreIdle X → (most : ℕ) (was is then : T.Notes) (old mid now : S) (n : ℕ) (left : Option (List ℕ)) (number : ℕ) (rest before after written : Option (List ℕ)) (s : Source) (line : List ℕ) (c : C) (a : A) (fault : Fault) → SoFar was is old mid n left number rest before after → IfSome rest (λ text. IsRead most text true s) → line ≡ s.line → length line ≤ most → command line ≡ Some c → Turn X mid c a now → (IsJudged (Err fault) → ⊥) → Played X.meaning command T was then (X.object old) (X.registrations old) n left before written (Err fault)
+  ends_untold law most was is then old mid now n left number rest before after written s line c a fault f i e l is_said turn u = record {
     lines = f.lines ++ line ∷ [];
     commands = f.commands ++ c ∷ [];
     replies = f.replies ++ a ∷ [];
@@ -177,51 +177,51 @@ module _ {S C A W : Type 0} (X : Semantics S C A W) (command : List ℕ → Opti
     registered2 = X.registrations now;
     said = said_more f.lines f.commands line c f.said is_said;
     run = good_run_of law (longer f.history turn);
-    read = ended n left s.left (f.lines ++ line ∷ []) (Err fault) (rw e (read_more left rest f.lines s f.read i (rw e at l))) (λ r g. ends_unjudged X.meaning command T _ r fault u);
+    read = ended n left s.left (f.lines ++ line ∷ []) (Err fault) (rw e (read_more most left rest f.lines s f.read i (rw e at l))) (λ r g. ends_unjudged X.meaning command T _ r fault u);
     printed = λ j. absurd (u j);
     remembered = λ j. absurd (u j);
   }
 
 -- What is left of a script is this, and a line was read of it, or none.
-module _ {C : Type 0} (said : List ℕ → List (List ℕ) → Option C) (s : Source) where
-  pub at_end : (left : Option (List ℕ)) (b : Bool) → IfSome left (λ text. IsRead 256 text b s) → b ≡ false → (r : List ℕ) → left ≡ Some r → r ≡ []
+module _ {C : Type 0} (most : ℕ) (said : List ℕ → List (List ℕ) → Option C) (s : Source) where
+  pub at_end : (left : Option (List ℕ)) (b : Bool) → IfSome left (λ text. IsRead most text b s) → b ≡ false → (r : List ℕ) → left ≡ Some r → r ≡ []
   at_end left true h n r e = absurd cc
-  at_end left false h n r e = subst (λ o. IfSome o (λ text. IsRead 256 text false s)) e h
+  at_end left false h n r e = subst (λ o. IfSome o (λ text. IsRead most text false s)) e h
 
-  pub is_there : (left : Option (List ℕ)) (b : Bool) → IfSome left (λ text. IsRead 256 text b s) → b ≡ true → IfSome left (λ text. IsRead 256 text true s)
+  pub is_there : (left : Option (List ℕ)) (b : Bool) → IfSome left (λ text. IsRead most text b s) → b ≡ true → IfSome left (λ text. IsRead most text true s)
   is_there left true h n = h
   is_there left false h n = absurd cc
 
-  read_of : (left : Option (List ℕ)) (b : Bool) → IfSome left (λ text. IsRead 256 text b s) → b ≡ true → (r : List ℕ) → left ≡ Some r → IsRead 256 r true s
-  read_of left b h n r e = subst (λ o. IfSome o (λ text. IsRead 256 text true s)) e (is_there left b h n)
+  read_of : (left : Option (List ℕ)) (b : Bool) → IfSome left (λ text. IsRead most text b s) → b ≡ true → (r : List ℕ) → left ≡ Some r → IsRead most r true s
+  read_of left b h n r e = subst (λ o. IfSome o (λ text. IsRead most text true s)) e (is_there left b h n)
 
-  pub unreadable : (left : Option (List ℕ)) (b : Bool) → IfSome left (λ text. IsRead 256 text b s) → b ≡ true → (IsUtf8 s.line → 256 < length s.line) → (r : List ℕ) → left ≡ Some r → (r ≡ [] → ⊥) × (says said (first_line r) ≡ None)
-  unreadable left b h n u r e = (let j = read_of left b h n r e in (j.0, says_nothing said r s j u))
+  pub unreadable : (left : Option (List ℕ)) (b : Bool) → IfSome left (λ text. IsRead most text b s) → b ≡ true → (IsUtf8 s.line → most < length s.line) → (r : List ℕ) → left ≡ Some r → (r ≡ [] → ⊥) × (says most said (first_line r) ≡ None)
+  unreadable left b h n u r e = (let j = read_of left b h n r e in (j.0, says_nothing most said r s j u))
 
-  pub unsaid : (left : Option (List ℕ)) (b : Bool) → IfSome left (λ text. IsRead 256 text b s) → b ≡ true → (line : List ℕ) → line ≡ s.line → IsUtf8 line → length line ≤ 256 → named said (words_of line) ≡ None → (r : List ℕ) → left ≡ Some r → (r ≡ [] → ⊥) × (says said (first_line r) ≡ None)
+  pub unsaid : (left : Option (List ℕ)) (b : Bool) → IfSome left (λ text. IsRead most text b s) → b ≡ true → (line : List ℕ) → line ≡ s.line → IsUtf8 line → length line ≤ most → named said (words_of line) ≡ None → (r : List ℕ) → left ≡ Some r → (r ≡ [] → ⊥) × (says most said (first_line r) ≡ None)
   unsaid left b h n line f u l e r g =
       let j = read_of left b h n r g in
-      let w = read_whole r s j (rw f at l) in
-      (j.0, rw (← w.0, ← f) (says_words said line u l ∙ e))
+      let w = read_whole most r s j (rw f at l) in
+      (j.0, rw (← w.0, ← f) (says_words most said line u l ∙ e))
 
   -- line 1 was read, or there is none
-  pub no_line : (left : Option (List ℕ)) (b : Bool) → IfSome left (λ text. IsRead 256 text b s) → b ≡ false → IfSome left (λ all. (all ≡ []) ⊎ (says said (first_line all) ≡ None))
+  pub no_line : (left : Option (List ℕ)) (b : Bool) → IfSome left (λ text. IsRead most text b s) → b ≡ false → IfSome left (λ all. (all ≡ []) ⊎ (says most said (first_line all) ≡ None))
   no_line None b h n = tt
   no_line (Some text) b h n = inl (at_end (Some text) b h n text refl)
 
-  pub bad_line : (left : Option (List ℕ)) (b : Bool) → IfSome left (λ text. IsRead 256 text b s) → b ≡ true → (IsUtf8 s.line → 256 < length s.line) → IfSome left (λ all. (all ≡ []) ⊎ (says said (first_line all) ≡ None))
+  pub bad_line : (left : Option (List ℕ)) (b : Bool) → IfSome left (λ text. IsRead most text b s) → b ≡ true → (IsUtf8 s.line → most < length s.line) → IfSome left (λ all. (all ≡ []) ⊎ (says most said (first_line all) ≡ None))
   bad_line None b h n u = tt
   bad_line (Some text) b h n u = inr (unreadable (Some text) b h n u text refl).1
 
-  pub unsaid_line : (left : Option (List ℕ)) (b : Bool) → IfSome left (λ text. IsRead 256 text b s) → b ≡ true → (line : List ℕ) → line ≡ s.line → IsUtf8 line → length line ≤ 256 → named said (words_of line) ≡ None → IfSome left (λ all. (all ≡ []) ⊎ (says said (first_line all) ≡ None))
+  pub unsaid_line : (left : Option (List ℕ)) (b : Bool) → IfSome left (λ text. IsRead most text b s) → b ≡ true → (line : List ℕ) → line ≡ s.line → IsUtf8 line → length line ≤ most → named said (words_of line) ≡ None → IfSome left (λ all. (all ≡ []) ⊎ (says most said (first_line all) ≡ None))
   unsaid_line None b h n line f u l e = tt
   unsaid_line (Some text) b h n line f u l e = inr (unsaid (Some text) b h n line f u l e text refl).1
 
-  pub good_line : (left : Option (List ℕ)) (b : Bool) → IfSome left (λ text. IsRead 256 text b s) → b ≡ true → (line : List ℕ) → line ≡ s.line → length line ≤ 256 → IfSome left (λ all. (all ≡ [] → ⊥) × (line ≡ first_line all) × (s.left ≡ Some (other_lines all)))
+  pub good_line : (left : Option (List ℕ)) (b : Bool) → IfSome left (λ text. IsRead most text b s) → b ≡ true → (line : List ℕ) → line ≡ s.line → length line ≤ most → IfSome left (λ all. (all ≡ [] → ⊥) × (line ≡ first_line all) × (s.left ≡ Some (other_lines all)))
   good_line None b h n line f l = tt
   good_line (Some text) b h n line f l =
       let j = read_of (Some text) b h n text refl in
-      let w = read_whole text s j (rw f at l) in
+      let w = read_whole most text s j (rw f at l) in
       (j.0, f ∙ w.0, w.1)
 
 -- what a `?` hands on

@@ -6,17 +6,17 @@ use Rattle.esync_machine.specs.declared.primitive.Command.TheVariants.{Start, Po
 use Rattle.esync_words.specs.Words.{words_of, first_number, behind, and_then, one, two, is_text}
 use Rattle.std.specs.Option.{option_map}
 
--- a text of at most 256 bytes
-abbrev pub is_readable : List ℕ → Bool
-is_readable line = if nat_lt 256 (length line) then false else is_utf8 line
+-- a text of at most so many bytes
+abbrev pub is_readable : ℕ → List ℕ → Bool
+is_readable longest line = if nat_lt longest (length line) then false else is_utf8 line
 
 abbrev pub named : {C : Type 0} → (List ℕ → List (List ℕ) → Option C) → List (List ℕ) → Option C
 named said [] = None
 named said (name ∷ words) = said name words
 
--- what a line says, if `said` reads a name with the words behind it
-abbrev pub says : {C : Type 0} → (List ℕ → List (List ℕ) → Option C) → List ℕ → Option C
-says said line = if is_readable line then named said (words_of line) else None
+-- what a line of at most so many bytes says, if `said` reads a name with the words behind it
+abbrev pub says : {C : Type 0} → ℕ → (List ℕ → List (List ℕ) → Option C) → List ℕ → Option C
+says longest said line = if is_readable longest line then named said (words_of line) else None
 
 -- A command of a primitive whose asks and calls are read by these two functions.
 module _ {Ask Calls : Type 0} (asks : List ℕ → List (List ℕ) → Option Ask) (calls : List ℕ → List (List ℕ) → Option Calls) where

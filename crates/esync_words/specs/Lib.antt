@@ -1,3 +1,4 @@
+pub mod Bits
 pub mod Fault
 pub mod Lines
 pub mod LinesLaws

@@ -66,9 +66,9 @@ one k ws = only (first_number k ws) (behind ws)
 abbrev pub two : ℕ → ℕ → List (List ℕ) → Option (ℕ × ℕ)
 two j k ws = and_then (first_number j ws) (λ m. and_then (one k (behind ws)) (λ n. Some (m, n)))
 
--- a number of 64 bits and two of 32
-abbrev pub number_and_values : List (List ℕ) → Option (ℕ × ℕ × ℕ)
-number_and_values ws = and_then (first_number 64 ws) (λ r. and_then (first_number 32 (behind ws)) (λ v. and_then (one 32 (behind (behind ws))) (λ x. Some (r, v, x))))
+-- a number of 64 bits and two of k
+abbrev pub number_and_values : ℕ → List (List ℕ) → Option (ℕ × ℕ × ℕ)
+number_and_values k ws = and_then (first_number 64 ws) (λ r. and_then (first_number k (behind ws)) (λ v. and_then (one k (behind (behind ws))) (λ x. Some (r, v, x))))
 
 -- two texts are equal
 abbrev pub is_text : List ℕ → List ℕ → Bool

@@ -2,6 +2,7 @@
 #![tactic(auto)]
 
 pub mod beside;
+pub mod bits;
 pub mod copied;
 pub mod diagram;
 pub mod explain;

@@ -209,9 +209,9 @@ pub fn open<O: Opens, T: Telling, R: ByteSource, W: Write>(
     output: &mut W,
 ) -> Result<O, Fault>
     requires { lines.old.number ≡ 0 }
-    ensures ok { IfOk result (λ opening. Opened (says O.opens) T.story opening (T.noted telling.new) lines.old.left lines.new.left (W.contents output.old) (W.contents output.new)) }
+    ensures ok { IfOk result (λ opening. Opened (says R.longest O.opens) T.story opening (T.noted telling.new) lines.old.left lines.new.left (W.contents output.old) (W.contents output.new)) }
     ensures number { lines.new.number ≡ 1 }
-    ensures err { IfErr result (λ fault. IsJudged (Err fault) → NotOpened (says O.opens) fault lines.old.left (W.contents output.old) (W.contents output.new)) }
+    ensures err { IfErr result (λ fault. IsJudged (Err fault) → NotOpened (says R.longest O.opens) fault lines.old.left (W.contents output.old) (W.contents output.new)) }
 {
     if !lines.read(output)? {
         return Err(lines.not_a_command());
@@ -243,7 +243,7 @@ where
     T: Telling,
     R: ByteSource,
     W: Write,
-    ensures played { Played M.semantics.meaning (says (command V.asks V.calls)) (transcript_of T.story V.text M.Reply.answer M.Reply.wakes) (T.noted telling.old) (T.noted telling.new) (M.semantics.object machine.old) (M.semantics.registrations machine.old) lines.old.number lines.old.left (W.contents output.old) (W.contents output.new) result }
+    ensures played { Played M.semantics.meaning (says R.longest (command V.asks V.calls)) (transcript_of T.story V.text M.Reply.answer M.Reply.wakes) (T.noted telling.old) (T.noted telling.new) (M.semantics.object machine.old) (M.semantics.registrations machine.old) lines.old.number lines.old.left (W.contents output.old) (W.contents output.new) result }
     ensures stopped { (number : ℕ) → result ≡ Err (Fault.NotACommand number) → lines.new.number ≡ number }
 {
     for _ in 0..u64::MAX {

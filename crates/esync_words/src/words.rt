@@ -1,14 +1,15 @@
 //! The words of a line, and numbers.
-ghost use Rattle.std.specs.Prelude.{◌≡◌, ℕ, ◌∷◌, [], MatchOption, IsTrue, ◌↔◌};
+ghost use Rattle.std.specs.Prelude.{◌≡◌, ℕ, ◌∷◌, [], MatchOption, IsTrue, ◌↔◌, ◌≤◌};
 ghost use Rattle.std.specs.Option.{option_map};
 ghost use Rattle.esync_words.specs.Words.{words_of, parts_of, number, numbers, at_most, bytes_of, first_number, behind, nothing, one, two, row, and_then, number_and_values};
 ghost use Rattle.esync_words.specs.Perhaps.{perhaps, one_or_two};
 
+use crate::bits::Bits;
 use arrayvec::ArrayVec;
 use std::marker::Model;
 
 /// The greatest number of bytes that a word can write.
-pub const BYTES: usize = 16;
+pub const BYTES: usize = 4096;
 
 const PLUS: char = '+';
 
@@ -61,12 +62,12 @@ impl<'a> Words<'a> {
         read_number(self.word()?)
     }
 
-    // Takes the next word, and returns the value that it writes, if it writes one.
-    fn next_value(&mut self) -> Option<u32>
-        ensures number { result ≡ first_number 32 self.old }
+    // Takes the next word, and returns the value of so many bits that it writes, if it writes one.
+    fn next_value(&mut self, bits: Bits) -> Option<u64>
+        ensures number { result ≡ first_number bits self.old }
         ensures rest { self.new ≡ behind self.old }
     {
-        read_value(self.word()?)
+        read_value(self.word()?, bits)
     }
 
     // Returns whether no word is left.
@@ -91,11 +92,12 @@ impl<'a> Words<'a> {
         self.is_over().then_some(number)
     }
 
-    /// Returns the value that the last word writes. Returns `None` if it writes none, or more words are left.
-    pub fn value(mut self) -> Option<u32>
-        ensures { result ≡ one 32 self.entry }
+    /// Returns the value of so many bits that the last word writes. Returns `None` if it writes none, or more words are
+    /// left.
+    pub fn value(mut self, bits: Bits) -> Option<u64>
+        ensures { result ≡ one bits self.entry }
     {
-        let value = self.next_value()?;
+        let value = self.next_value(bits)?;
         self.is_over().then_some(value)
     }
 
@@ -109,35 +111,22 @@ impl<'a> Words<'a> {
     }
 
     /// Returns the number and the value that the last two words write, if they are the last and write these.
-    pub fn number_and_value(mut self) -> Option<(u64, u32)>
-        ensures { result ≡ two 64 32 self.entry }
+    pub fn number_and_value(mut self, bits: Bits) -> Option<(u64, u64)>
+        ensures { result ≡ two 64 bits self.entry }
     {
         let number = self.next_number()?;
-        let value = self.value()?;
+        let value = self.value(bits)?;
         Some((number, value))
     }
 
     // Returns the value that the last word writes, if there is a word.
-    fn value_if_any(mut self) -> Option<Option<u32>>
-        ensures { result ≡ perhaps 32 self.entry }
+    fn value_if_any(mut self, bits: Bits) -> Option<Option<u64>>
+        ensures { result ≡ perhaps bits self.entry }
     {
         match self.word() {
             Some(word) => {
-                let value = read_value(word)?;
+                let value = read_value(word, bits)?;
                 self.is_over().then_some(Some(value))
-            }
-            None => Some(None),
-        }
-    }
-
-    // Returns the number that the last word writes, if there is a word.
-    fn number_if_any(mut self) -> Option<Option<u64>>
-        ensures { result ≡ perhaps 64 self.entry }
-    {
-        match self.word() {
-            Some(word) => {
-                let number = read_number(word)?;
-                self.is_over().then_some(Some(number))
             }
             None => Some(None),
         }
@@ -148,34 +137,36 @@ impl<'a> Words<'a> {
         ensures { result ≡ one_or_two 64 64 self.entry }
     {
         let first = self.next_number()?;
-        let if_any = self.number_if_any()?;
+        let if_any = self.value_if_any(Bits::long())?;
         Some((first, if_any))
     }
 
     /// Returns a number, and a value if there is a word for it.
-    pub fn number_and_value_if_any(mut self) -> Option<(u64, Option<u32>)>
-        ensures { result ≡ one_or_two 64 32 self.entry }
+    pub fn number_and_value_if_any(mut self, bits: Bits) -> Option<(u64, Option<u64>)>
+        ensures { result ≡ one_or_two 64 bits self.entry }
     {
         let number = self.next_number()?;
-        let if_any = self.value_if_any()?;
+        let if_any = self.value_if_any(bits)?;
         Some((number, if_any))
     }
 
     /// Returns the number and the two values that the last three words write, if they are the last and write these.
-    pub fn number_and_two_values(mut self) -> Option<(u64, u32, u32)>
-        ensures { result ≡ number_and_values self.entry }
+    pub fn number_and_two_values(mut self, bits: Bits) -> Option<(u64, u64, u64)>
+        ensures { result ≡ number_and_values bits self.entry }
     {
         let number = self.next_number()?;
-        let first = self.next_value()?;
-        let second = self.value()?;
+        let first = self.next_value(bits)?;
+        let second = self.value(bits)?;
         Some((number, first, second))
     }
 
-    /// Returns the bytes that the last word writes: numbers below 256 with commas between them, or a dash for no bytes.
-    pub fn bytes(mut self) -> Option<ArrayVec<u8, BYTES>>
-        ensures { option_map (λ bytes. bytes.items) result ≡ row 16 self.entry }
+    /// Returns the bytes that the last word writes, at most so many: numbers below 256 with commas between them, or a
+    /// dash for no bytes.
+    pub fn bytes(mut self, most: usize) -> Option<ArrayVec<u8, BYTES>>
+        requires { most ≤ BYTES }
+        ensures { option_map (λ bytes. bytes.items) result ≡ row most self.entry }
     {
-        let bytes = read_bytes(self.word()?)?;
+        let bytes = read_bytes(self.word()?, most)?;
         self.is_over().then_some(bytes)
     }
 }
@@ -191,10 +182,11 @@ fn read_number(word: &str) -> Option<u64>
     word.parse().ok()
 }
 
-fn read_value(word: &str) -> Option<u32>
-    ensures { result ≡ number 32 word.now }
+// Returns the value of so many bits that the digits write.
+fn read_value(word: &str, bits: Bits) -> Option<u64>
+    ensures { result ≡ number bits word.now }
 {
-    u32::try_from(read_number(word)?).ok()
+    bits.value(read_number(word)?)
 }
 
 fn read_byte(word: &str) -> Option<u8>
@@ -204,22 +196,24 @@ fn read_byte(word: &str) -> Option<u8>
 }
 
 // Returns the bytes that the word writes, unless they are too many.
-fn read_bytes(word: &str) -> Option<ArrayVec<u8, BYTES>>
-    ensures { option_map (λ bytes. bytes.items) result ≡ bytes_of 16 word.now }
+fn read_bytes(word: &str, most: usize) -> Option<ArrayVec<u8, BYTES>>
+    requires { most ≤ BYTES }
+    ensures { option_map (λ bytes. bytes.items) result ≡ bytes_of most word.now }
 {
     match word {
         "-" => Some(ArrayVec::new()),
-        _ => read_list(word),
+        _ => read_list(word, most),
     }
 }
 
 // Returns the bytes between the commas.
-fn read_list(word: &str) -> Option<ArrayVec<u8, BYTES>>
-    ensures { option_map (λ bytes. bytes.items) result ≡ and_then (numbers 8 (parts_of 44 word.now)) (at_most 16) }
+fn read_list(word: &str, most: usize) -> Option<ArrayVec<u8, BYTES>>
+    requires { most ≤ BYTES }
+    ensures { option_map (λ bytes. bytes.items) result ≡ and_then (numbers 8 (parts_of 44 word.now)) (at_most most) }
 {
     let mut bytes = ArrayVec::new();
     let mut rest = word;
-    while !bytes.is_full() {
+    while bytes.len() < most {
         let Some((part, behind)) = rest.split_once(',') else {
             bytes.push(read_byte(rest)?);
             return Some(bytes);

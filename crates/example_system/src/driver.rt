@@ -21,19 +21,19 @@ use esync_systems::pair::{Pair, PairAsk, PairCommand};
 use esync_systems::plan::{InOrder, Plan};
 use std::alloc::{AllocError, Global};
 
-type Readings = ChannelRun<u32, TaskId, 1, 8, 1>;
+type Readings = ChannelRun<u64, TaskId, 1, 8, 1>;
 
-type Settings = MutexRun<(u32, u32), u32, Second, TaskId, 8, 1>;
+type Settings = MutexRun<(u64, u64), u64, Second, TaskId, 8, 1>;
 
 type Driver = Pair<Readings, Settings>;
 
 type DriverAct = Act<
-    PairAsk<ChannelAsk<u32>, Lock>,
-    PairCommand<ChannelCommand<u32, TaskId>, MutexCommand<(u32, u32), u32, TaskId>>,
+    PairAsk<ChannelAsk<u64>, Lock>,
+    PairCommand<ChannelCommand<u64, TaskId>, MutexCommand<(u64, u64), u64, TaskId>>,
 >;
 
 // The requests of the channel have the even numbers, and those of the mutex the odd ones.
-fn send(r: u8, reading: u32) -> DriverAct {
+fn send(r: u8, reading: u64) -> DriverAct {
     Act::Await(2 * r as usize, PairAsk::AskLeft(ChannelAsk::Send(reading)))
 }
 

@@ -30,19 +30,19 @@ use std::io;
 mod driver;
 mod receiver;
 
-type Mutex = MutexRun<(u32, u32), u32, Second, TaskId, 3, 1>;
+type Mutex = MutexRun<(u64, u64), u64, Second, TaskId, 3, 1>;
 
 type Forks = Several<Mutex, 3>;
 
-type Channel = ChannelRun<u32, TaskId, 1, 8, 1>;
+type Channel = ChannelRun<u64, TaskId, 1, 8, 1>;
 
-type LockCommand = MutexCommand<(u32, u32), u32, TaskId>;
+type LockCommand = MutexCommand<(u64, u64), u64, TaskId>;
 
 type LockAct = Act<PairAsk<Lock, Lock>, PairCommand<LockCommand, LockCommand>>;
 
 type ForkAct = Act<Lock, PartCommand<LockCommand>>;
 
-type ChannelAct = Act<ChannelAsk<u32>, ChannelCommand<u32, TaskId>>;
+type ChannelAct = Act<ChannelAsk<u64>, ChannelCommand<u64, TaskId>>;
 
 // The requests of the left mutex have the even numbers, and those of the right one the odd ones.
 fn lock_left(r: u8) -> LockAct {

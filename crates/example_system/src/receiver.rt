@@ -18,7 +18,7 @@ use esync_systems::explore::{Verdict, explore_determined};
 use esync_systems::plan::{Plan, Thinks};
 use std::alloc::{AllocError, Global};
 
-type Heard = Reply<Answer<ChannelHeard<u32>>, TaskId, 1>;
+type Heard = Reply<Answer<ChannelHeard<u64>>, TaskId, 1>;
 
 #[derive(Drop)]
 struct UntilZero;
@@ -44,7 +44,7 @@ impl Thinks<Heard> for UntilZero {
 }
 
 // A task that sends two messages, and one that receives.
-fn tasks(alloc: Global, last: u32) -> Result<Vec<Vec<ChannelAct>>, AllocError> {
+fn tasks(alloc: Global, last: u64) -> Result<Vec<Vec<ChannelAct>>, AllocError> {
     let sends = vec![in alloc;
         Act::Await(0, ChannelAsk::Send(7)),
         Act::Await(0, ChannelAsk::Send(last)),
@@ -73,7 +73,7 @@ fn explore_receiver(
 }
 
 /// Tells what is true of every schedule, if the last of two messages is this.
-pub fn explore(alloc: Global, last: u32) -> Result<Verdict, NewError> {
+pub fn explore(alloc: Global, last: u64) -> Result<Verdict, NewError> {
     explore_receiver(
         alloc,
         Requests::new(ChannelState::new()),
@@ -82,7 +82,7 @@ pub fn explore(alloc: Global, last: u32) -> Result<Verdict, NewError> {
 }
 
 /// Runs the two tasks on an executor, and returns how they end.
-pub fn run(alloc: Global, last: u32) -> Result<Outcome, NewError> {
+pub fn run(alloc: Global, last: u64) -> Result<Outcome, NewError> {
     let tasks = tasks(alloc, last)?;
     let plan = Plan {
         program: &tasks,

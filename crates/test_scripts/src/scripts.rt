@@ -2,6 +2,7 @@ use esync_base::waitqueue::Wakes;
 use esync_channel::channel::machine::ChannelHeard;
 use esync_machine::primitive::Answer;
 use esync_notes::same;
+use esync_script::capacity::Capacity;
 use esync_script::channel::ChannelWords;
 use esync_script::script;
 use esync_words::fault::Fault;
@@ -79,9 +80,9 @@ fn prints_several_wakers_in_order(rt: HostRuntime) -> Result<(), Fail> {
     wakes.push(9);
     wakes.push(0);
     wakes.push(9);
-    let answer = Answer::Gives(ChannelHeard::<u32>::Ready);
+    let answer = Answer::Gives(ChannelHeard::<u64>::Ready);
     let mut text = Vec::new(rt.alloc());
-    print_reply::<ChannelWords, _>(&answer, wakes.as_slice(), &mut text)?;
+    print_reply::<ChannelWords<Capacity>, _>(&answer, wakes.as_slice(), &mut text)?;
     same!(rt; str::from_utf8(&text)?, "Ready | 9 0 9\n");
     Ok(())
 }
@@ -89,7 +90,7 @@ fn prints_several_wakers_in_order(rt: HostRuntime) -> Result<(), Fail> {
 #[test]
 fn want_of_memory_is_no_answer(rt: HostRuntime) {
     let mut text = Vec::new(rt.alloc());
-    let printed = print_answer::<ChannelWords, _>(&Answer::NoMemory, &mut text);
+    let printed = print_answer::<ChannelWords<Capacity>, _>(&Answer::NoMemory, &mut text);
     same!(rt; printed, Err(Fault::OutOfMemory));
     same!(rt; text.len(), 0);
 }

@@ -16,16 +16,16 @@ use esync_systems::pair::{Pair, PairAsk, PairCommand};
 use esync_systems::plan::Plan;
 use std::alloc::{AllocError, Global};
 
-type Channel = ChannelRun<u32, TaskId, 1, 4, 1>;
+type Channel = ChannelRun<u64, TaskId, 1, 4, 1>;
 
-type Urgent = PriorityRun<u32, TaskId, Max, 1, 4, 1>;
+type Urgent = PriorityRun<u64, TaskId, Max, 1, 4, 1>;
 
-type OneCommand = ChannelCommand<u32, TaskId>;
+type OneCommand = ChannelCommand<u64, TaskId>;
 
-type OneAct = Act<ChannelAsk<u32>, OneCommand>;
+type OneAct = Act<ChannelAsk<u64>, OneCommand>;
 
 type ServiceAct = Act<
-    PairAsk<ChannelAsk<u32>, ChannelAsk<u32>>,
+    PairAsk<ChannelAsk<u64>, ChannelAsk<u64>>,
     PairCommand<OneCommand, OneCommand>,
 >;
 
@@ -77,18 +77,18 @@ fn consume_urgent(
     explore(alloc, &URGENT, channel, &Plan::in_order(&tasks, &[]), limit)
 }
 
-fn ask(r: u8, ask: ChannelAsk<u32>) -> ServiceAct {
+fn ask(r: u8, ask: ChannelAsk<u64>) -> ServiceAct {
     Act::Await(2 * r as usize, PairAsk::AskLeft(ask))
 }
 
-fn answer(r: u8, ask: ChannelAsk<u32>) -> ServiceAct {
+fn answer(r: u8, ask: ChannelAsk<u64>) -> ServiceAct {
     Act::Await(2 * r as usize + 1, PairAsk::AskRight(ask))
 }
 
 // A client that sends a request, and then takes an answer, at this number.
 fn client(alloc: Global, r: u8) -> Result<Vec<ServiceAct>, AllocError> {
     Ok(vec![in alloc;
-        ask(r, ChannelAsk::Send(r as u32)),
+        ask(r, ChannelAsk::Send(r as u64)),
         answer(r, ChannelAsk::Receive),
     ]?)
 }

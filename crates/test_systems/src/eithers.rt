@@ -11,20 +11,20 @@ use esync_machine::run::run;
 use esync_systems::either::Either;
 use std::alloc::{AllocError, Global};
 
-type Mutex = Guarded<(u32, u32), u32, Second, TaskId>;
+type Mutex = Guarded<(u64, u64), u64, Second, TaskId>;
 
-type Channel = ChannelState<u32, TaskId, 1>;
+type Channel = ChannelState<u64, TaskId, 1>;
 
 type Object = Requests<Either<Mutex, Channel>, 4, 1>;
 
-type ObjectAsk = Either<Lock, ChannelAsk<u32>>;
+type ObjectAsk = Either<Lock, ChannelAsk<u64>>;
 
-type ObjectCall = Either<MutexCall<(u32, u32), u32>, ChannelCall<u32>>;
+type ObjectCall = Either<MutexCall<(u64, u64), u64>, ChannelCall<u64>>;
 
-type ObjectAnswer = Answer<Either<MutexHeard<(u32, u32), u32>, ChannelHeard<u32>>>;
+type ObjectAnswer = Answer<Either<MutexHeard<(u64, u64), u64>, ChannelHeard<u64>>>;
 
 // One of three types.
-type Nested = Requests<Either<Mutex, Either<Channel, ChannelState<u32, TaskId, 2>>>, 4, 1>;
+type Nested = Requests<Either<Mutex, Either<Channel, ChannelState<u64, TaskId, 2>>>, 4, 1>;
 
 fn mutex() -> Object {
     Requests::new(Either::Left(Guarded::new((0, 0), Second {})))

@@ -15,12 +15,12 @@ use esync_systems::pair::{Pair, PairAsk, PairCommand};
 use esync_systems::plan::Plan;
 use std::alloc::{AllocError, Global};
 
-type Mutex = MutexRun<(u32, u32), u32, Second, TaskId, 4, 1>;
+type Mutex = MutexRun<(u64, u64), u64, Second, TaskId, 4, 1>;
 
 // A mutex with room for one request.
-type Narrow = MutexRun<(u32, u32), u32, Second, TaskId, 1, 1>;
+type Narrow = MutexRun<(u64, u64), u64, Second, TaskId, 1, 1>;
 
-type OneCommand = MutexCommand<(u32, u32), u32, TaskId>;
+type OneCommand = MutexCommand<(u64, u64), u64, TaskId>;
 
 type OneAct = Act<Lock, OneCommand>;
 

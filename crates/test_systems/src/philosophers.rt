@@ -14,9 +14,9 @@ use esync_systems::plan::Plan;
 use esync_systems::several::{PartCommand, Several};
 use std::alloc::{AllocError, Global};
 
-type Fork = MutexRun<(u32, u32), u32, Second, TaskId, 3, 1>;
+type Fork = MutexRun<(u64, u64), u64, Second, TaskId, 3, 1>;
 
-type ForkAct = Act<Lock, PartCommand<MutexCommand<(u32, u32), u32, TaskId>>>;
+type ForkAct = Act<Lock, PartCommand<MutexCommand<(u64, u64), u64, TaskId>>>;
 
 fn fork() -> Fork {
     Requests::new(Guarded::new((0, 0), Second {}))

@@ -13,9 +13,9 @@ use esync_systems::explore::{Verdict, explore_determined};
 use esync_systems::plan::Plan;
 use std::alloc::{AllocError, Global};
 
-type Signal = SignalRun<u32, TaskId, 4, 1>;
+type Signal = SignalRun<u64, TaskId, 4, 1>;
 
-type SignalAct = Act<Wait, SignalCommand<u32, TaskId>>;
+type SignalAct = Act<Wait, SignalCommand<u64, TaskId>>;
 
 const SIGNAL: ComparesRequests<SignalStates> = ComparesRequests {
     states: SignalStates {},
@@ -26,7 +26,7 @@ fn signal() -> Signal {
 }
 
 // So many tasks that wait for a value, and one that puts so many.
-fn waiters(alloc: Global, count: usize, values: u32) -> Result<Vec<Vec<SignalAct>>, AllocError> {
+fn waiters(alloc: Global, count: usize, values: u64) -> Result<Vec<Vec<SignalAct>>, AllocError> {
     let mut tasks = Vec::new(alloc);
     let mut producer = Vec::new(alloc);
     for r in 0..count {
@@ -39,7 +39,7 @@ fn waiters(alloc: Global, count: usize, values: u32) -> Result<Vec<Vec<SignalAct
     Ok(tasks)
 }
 
-fn wait(alloc: Global, count: usize, values: u32, limit: usize) -> Result<Verdict, NewError> {
+fn wait(alloc: Global, count: usize, values: u64, limit: usize) -> Result<Verdict, NewError> {
     let tasks = waiters(alloc, count, values)?;
     let plan = Plan::in_order(&tasks, &[]);
     explore_determined(alloc, &SIGNAL, signal(), &plan, limit)

@@ -14,7 +14,7 @@ use esync_zerocopy::zerocopy_channel::machine::{ZeroCall, ZeroCommand, ZeroRun};
 use esync_zerocopy::zerocopy_channel::{ChannelState, Side};
 use std::alloc::{AllocError, Global};
 
-type SlotAct = Act<Side, ZeroCommand<u32, TaskId>>;
+type SlotAct = Act<Side, ZeroCommand<u64, TaskId>>;
 
 const SLOTS: ComparesRequests<ZeroStates> = ComparesRequests {
     states: ZeroStates {},
@@ -46,11 +46,11 @@ fn two_tasks(alloc: Global, receives: &[SlotAct]) -> Result<Vec<Vec<SlotAct>>, A
 }
 
 // Explores the two tasks over slots with these values.
-fn explore_slots(alloc: Global, slots: &[u32], receives: &[SlotAct]) -> Result<Verdict, NewError>
+fn explore_slots(alloc: Global, slots: &[u64], receives: &[SlotAct]) -> Result<Verdict, NewError>
     requires { 0 < length slots.now }
 {
     let slots = Vec::from_slice(alloc, slots)?;
-    let channel: ZeroRun<u32, TaskId, 2, 1> = Requests::new(ChannelState::new(slots));
+    let channel: ZeroRun<u64, TaskId, 2, 1> = Requests::new(ChannelState::new(slots));
     let tasks = two_tasks(alloc, receives)?;
     explore_determined(alloc, &SLOTS, channel, &Plan::in_order(&tasks, &[]), 1000)
 }

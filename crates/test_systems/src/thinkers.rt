@@ -17,11 +17,11 @@ use esync_systems::explore::{Verdict, explore_determined};
 use esync_systems::plan::{InOrder, Loop, Loops, Plan, Thinks};
 use std::alloc::{AllocError, Global};
 
-type Channel = ChannelRun<u32, TaskId, 2, 4, 1>;
+type Channel = ChannelRun<u64, TaskId, 2, 4, 1>;
 
-type Heard = Reply<Answer<ChannelHeard<u32>>, TaskId, 1>;
+type Heard = Reply<Answer<ChannelHeard<u64>>, TaskId, 1>;
 
-type OneAct = Act<ChannelAsk<u32>, ChannelCommand<u32, TaskId>>;
+type OneAct = Act<ChannelAsk<u64>, ChannelCommand<u64, TaskId>>;
 
 const CHANNEL: ComparesRequests<ChannelStates> = ComparesRequests {
     states: ChannelStates {},
@@ -76,7 +76,7 @@ impl Thinks<Heard> for UntilFull {
 }
 
 // A task that sends two messages, and one that receives one.
-fn two_messages(alloc: Global, last: u32) -> Result<Vec<Vec<OneAct>>, AllocError> {
+fn two_messages(alloc: Global, last: u64) -> Result<Vec<Vec<OneAct>>, AllocError> {
     let sends = vec![in alloc;
         Act::Await(0, ChannelAsk::Send(5)),
         Act::Await(0, ChannelAsk::Send(last)),

@@ -16,11 +16,11 @@ use esync_systems::plan::Plan;
 use std::alloc::{AllocError, Global};
 
 // A channel of one message, with places for two subscribers and one publisher.
-type Topic = PubSubRun<u32, TaskId, 1, 2, 1, 2, 3, 2>;
+type Topic = PubSubRun<u64, TaskId, 1, 2, 1, 2, 3, 2>;
 
-type TopicCommand = PubSubCommand<u32, TaskId>;
+type TopicCommand = PubSubCommand<u64, TaskId>;
 
-type TopicAct = Act<PubSubAsk<u32>, TopicCommand>;
+type TopicAct = Act<PubSubAsk<u64>, TopicCommand>;
 
 const TOPICS: ComparesRequests<PubSubStates> = ComparesRequests {
     states: PubSubStates {},

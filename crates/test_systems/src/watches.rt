@@ -18,14 +18,14 @@ use std::hash::FoldHasher;
 #[derive(Clone, Copy, Debug)]
 struct Nothing {}
 
-impl Change<u32> for Nothing {
+impl Change<u64> for Nothing {
     ghost use Rattle.std.specs.Prelude.{false, refl};
 
     ghost changed = { λ c v. v };
 
     ghost tells = { λ c v. false };
 
-    fn apply(&self, _value: &mut Option<u32>) -> bool {
+    fn apply(&self, _value: &mut Option<u64>) -> bool {
         false
     }
 
@@ -36,12 +36,12 @@ impl Change<u32> for Nothing {
 #[derive(Clone, Copy, Debug)]
 struct Any {}
 
-impl Judge<u32> for Any {
+impl Judge<u64> for Any {
     ghost use Rattle.std.specs.Prelude.{true};
 
     ghost passes = { λ c v. true };
 
-    fn holds(&self, _value: &u32) -> bool {
+    fn holds(&self, _value: &u64) -> bool {
         true
     }
 }
@@ -58,17 +58,17 @@ impl ComparesTests<Any> for AnyTests {
     fn mark(&self, _test: &Any, _hasher: &mut FoldHasher) {}
 }
 
-type Watch = WatchRun<u32, TaskId, Nothing, Any, 2, 2, 4, 2>;
+type Watch = WatchRun<u64, TaskId, Nothing, Any, 2, 2, 4, 2>;
 
 type AnySize = Requests<SizedWatch<Nothing, Any>, 4, 8>;
 
-type WatchAct = Act<Await<Any>, WatchCommand<u32, TaskId, Nothing, Any>>;
+type WatchAct = Act<Await<Any>, WatchCommand<u64, TaskId, Nothing, Any>>;
 
 const WATCH: ComparesRequests<WatchStates<AnyTests>> = ComparesRequests {
     states: WatchStates { tests: AnyTests {} },
 };
 
-fn call(call: WatchCall<u32, Nothing, Any>) -> WatchAct {
+fn call(call: WatchCall<u64, Nothing, Any>) -> WatchAct {
     Act::Call(Command::Call(call))
 }
 

@@ -8,7 +8,7 @@ use critical_section as _;
 use embassy_sync::blocking_mutex::raw::{CriticalSectionRawMutex, NoopRawMutex};
 use recorder::channel::Channel;
 use recorder::once_lock::OnceLock;
-use recorder::pipe::Pipe;
+use recorder::pipe::{Pipe, TryWriteError};
 use recorder::priority_channel::{Max, PriorityChannel};
 use recorder::pubsub::PubSubChannel;
 use recorder::semaphore::{GreedySemaphore, Semaphore};
@@ -70,16 +70,26 @@ fn a_capacity_that_no_run_has() {
     let text = "channel 4097\n# stopped at a capacity of 4097, where 1 to 4096 can be recorded\n";
     expect_stop(&channel.run(), Stop::Capacity(4097), text);
     keep("stop_at_a_capacity", &channel.run());
-    let pipe: Pipe<NoopRawMutex, 5> = Pipe::new();
-    assert_eq!(pipe.try_write(&[1]), Ok(1));
-    let text = "pipe 5\n# stopped at a capacity of 5, where one of [1, 2, 3, 4, 8] can be recorded\n";
-    expect_stop(&pipe.run(), Stop::FewCapacities(5), text);
-    keep("stop_at_one_of_few", &pipe.run());
+    let watch: Watch<NoopRawMutex, u8, 4097> = Watch::new();
+    watch.sender().send(1);
+    let text = "watch 4097\n# stopped at a capacity of 4097, where 1 to 4096 can be recorded\n";
+    expect_stop(&watch.run(), Stop::Capacity(4097), text);
     let pubsub: PubSubChannel<NoopRawMutex, u8, 2, 2, 1> = PubSubChannel::new();
     pubsub.clear();
     let text = "pubsub 2\n# stopped at 2 subscribers and 1 publishers, where 4 of each can be recorded\n";
     expect_stop(&pubsub.run(), Stop::Handles { subscribers: 2, publishers: 1 }, text);
     keep("stop_at_handles", &pubsub.run());
+}
+
+#[test]
+fn a_pipe_of_the_greatest_capacity() {
+    let pipe: Pipe<NoopRawMutex, 4096> = Pipe::new();
+    let row: Vec<u8> = (0..4096).map(|place: usize| place as u8).collect();
+    let mut read = vec![0; 5000];
+    assert_eq!((pipe.try_write(&row), pipe.try_write(&row)), (Ok(4096), Err(TryWriteError::Full)));
+    assert_eq!((pipe.try_read(&mut read), &read[..4096]), (Ok(4096), &row[..]));
+    assert_eq!(pipe.run().stop, None);
+    keep("each_pipe_of_4096_bytes", &pipe.run());
 }
 
 #[test]
@@ -101,19 +111,19 @@ fn messages_of_64_bits() {
     let channel: Channel<NoopRawMutex, u64, 2> = Channel::new();
     assert_eq!((channel.try_send(u32::MAX.into()), channel.try_send(1 << 40)), (Ok(()), Ok(())));
     assert_eq!((channel.try_receive(), channel.try_receive()), (Ok(u32::MAX.into()), Ok(1 << 40)));
-    assert_eq!((channel.try_send(1 << 40), channel.try_send(7)), (Ok(()), Ok(())));
+    assert_eq!((channel.try_send(1 << 40), channel.try_send(u64::MAX)), (Ok(()), Ok(())));
     let run = channel.run();
     let text = "\
 channel 2
-try-send 4294901760 => Ok | -
-try-send 4294901761 => Ok | -
-try-receive => Ok(4294901760) | -
-try-receive => Ok(4294901761) | -
-try-send 4294901761 => Ok | -
-try-send 7 => Ok | -
+try-send 4294967295 => Ok | -
+try-send 1099511627776 => Ok | -
+try-receive => Ok(4294967295) | -
+try-receive => Ok(1099511627776) | -
+try-send 1099511627776 => Ok | -
+try-send 18446744073709486080 => Ok | -
 ";
     assert_eq!((run.text.as_str(), &run.stop), (text, &None));
-    assert_eq!(run.legend, [(4294901760, "4294967295".to_string()), (4294901761, "1099511627776".to_string())]);
+    assert_eq!(run.legend, [(18446744073709486080, "18446744073709551615".to_string())]);
     keep("each_channel_of_64_bits", &run);
 }
 
@@ -127,11 +137,11 @@ fn messages_of_64_bits_with_a_sign() {
     assert!(watch.try_get() == Some(i64::MIN));
     let text = "\
 watch 1
-send 4294901760 => Ok | -
-send 2147483647 => Ok | -
-send 4294901761 => Ok | -
-send 4294901760 => Ok | -
-try-get => Some(4294901760) | -
+send 0 => Ok | -
+send 9223372036854775807 => Ok | -
+send 18446744073709486080 => Ok | -
+send 0 => Ok | -
+try-get => Some(0) | -
 ";
     assert_eq!(watch.run().text, text);
     keep("each_watch_of_64_bits", &watch.run());
@@ -144,20 +154,20 @@ fn more_messages_than_numbers_that_are_given() {
         signal.signal(u64::MAX - number);
     }
     assert_eq!(signal.run().stop, None);
-    signal.signal(1 << 32);
-    assert_eq!(signal.run().stop, Some(Stop::Message(1 << 32)));
+    signal.signal(u64::MAX - 65_535);
+    assert_eq!(signal.run().stop, Some(Stop::Message(i128::from(u64::MAX) - 65_535)));
 }
 
 #[test]
-fn a_message_of_a_priority_channel_above_the_greatest_number() {
-    let channel: PriorityChannel<NoopRawMutex, u64, Max, 2> = PriorityChannel::new();
-    assert_eq!((channel.try_send(u32::MAX.into()), channel.try_send(1 << 32)), (Ok(()), Ok(())));
+fn a_message_of_a_priority_channel_below_all_numbers() {
+    let channel: PriorityChannel<NoopRawMutex, i64, Max, 2> = PriorityChannel::named(|number| Name::number(*number));
+    assert_eq!((channel.try_send(i64::MAX), channel.try_send(-1)), (Ok(()), Ok(())));
     let text = "\
 max 2
-try-send 4294967295 => Ok | -
-# stopped at a message with the number 4294967296, which isn't in 0..=4294967295
+try-send 9223372036854775807 => Ok | -
+# stopped at a message with the number -1, which isn't in 0..=18446744073709551615
 ";
-    expect_stop(&channel.run(), Stop::Message(1 << 32), text);
+    expect_stop(&channel.run(), Stop::Message(-1), text);
     keep("stop_at_a_message", &channel.run());
 }
 
@@ -180,15 +190,14 @@ fn numbers_beside_texts() {
 #[test]
 fn a_row_that_is_too_long() {
     let pipe: Pipe<NoopRawMutex, 8> = Pipe::new();
-    // (of a call that writes what goes in, the first sixteen bytes say all)
-    assert_eq!(pipe.try_write(&[7; 40]), Ok(8));
-    drop(pipe.write_all(&[7; 17]));
-    let text = "\
-pipe 8
-try-write 7,7,7,7,7,7,7,7,7,7,7,7,7,7,7,7 => Ok(8) | -
-# stopped at 17 bytes in a call, where 16 can be recorded
-";
-    expect_stop(&pipe.run(), Stop::Bytes(17), text);
+    // (of a call that writes what goes in, the first 4096 bytes say all)
+    assert_eq!(pipe.try_write(&[7; 5000]), Ok(8));
+    drop(pipe.write_all(&[7; 4097]));
+    let row = ["7"; 4096].join(",");
+    let text = format!(
+        "pipe 8\ntry-write {row} => Ok(8) | -\n# stopped at 4097 bytes in a call, where 4096 can be recorded\n"
+    );
+    expect_stop(&pipe.run(), Stop::Bytes(4097), &text);
     keep("stop_at_a_row", &pipe.run());
 }
 
@@ -276,14 +285,16 @@ fn what_is_saved() {
     let folder = std::path::Path::new(env!("CARGO_TARGET_TMPDIR")).join("saved");
     let signal: Signal<NoopRawMutex, u8> = Signal::new();
     signal.signal(1);
-    let pipe: Pipe<NoopRawMutex, 9> = Pipe::new();
+    let pipe: Pipe<NoopRawMutex, 5000> = Pipe::new();
     pipe.clear();
     let word: Signal<NoopRawMutex, Word> = Signal::new();
     word.signal(Word::No(3));
-    let Err(Unsaved::Stopped(stopped)) = recorder::save(&folder) else { panic!("a pipe of 9 bytes stops a recording") };
+    let Err(Unsaved::Stopped(stopped)) = recorder::save(&folder) else {
+        panic!("a pipe of 5000 bytes stops a recording")
+    };
     let stopped: Vec<Run> = stopped.into_iter().filter(|run| run.name == pipe.run().name).collect();
     let reason = format!("{:?}", Unsaved::Stopped(stopped));
-    assert!(reason.ends_with("stopped at a capacity of 9, where one of [1, 2, 3, 4, 8] can be recorded"), "{reason}");
+    assert!(reason.ends_with("stopped at a capacity of 5000, where 1 to 4096 can be recorded"), "{reason}");
     let run = signal.run();
     assert!(run.name.starts_with("signal-limits-"), "{}", run.name);
     let saved = std::fs::read_to_string(folder.join(&run.name).with_extension("run")).unwrap();

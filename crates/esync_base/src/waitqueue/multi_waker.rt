@@ -2,7 +2,7 @@
 ghost use Rattle.std.specs.Prelude.{◌≡◌, ◌↔◌, ◌+◌, ◌≤◌, ◌++◌, [], length, IsTrue, slice_get};
 ghost use Rattle.esync_base.specs.Registration.{among, registered, displaced};
 
-use super::{WakerList, Wakes};
+use super::{FixedList, WakerList, Wakes};
 use crate::kept::Kept;
 use std::alloc::AllocError;
 use std::fmt;
@@ -40,12 +40,22 @@ impl<L: WakerList + fmt::Debug> fmt::Debug for WakerRegistrations<L> {
     }
 }
 
-impl<L: WakerList> WakerRegistrations<L> {
+impl<L: FixedList> WakerRegistrations<L> {
     /// Returns a list without a waker.
     pub fn new() -> Self
         ensures { result ≡ [] }
     {
         WakerRegistrations { wakers: L::new() }
+    }
+}
+
+impl<L: WakerList> WakerRegistrations<L> {
+    /// Returns this list, in which no waker may be.
+    pub fn over(wakers: L) -> Self
+        requires { L.wakers wakers ≡ [] }
+        ensures { result ≡ [] }
+    {
+        WakerRegistrations { wakers }
     }
 
     /// Registers a waker. If an equal waker is registered, nothing changes. If the list is full, all its wakers are
@@ -60,7 +70,7 @@ impl<L: WakerList> WakerRegistrations<L> {
         if self.has(waker) {
             return;
         }
-        if self.wakers.len() == L::room() {
+        if self.wakers.len() == self.wakers.room() {
             self.wake(wakes);
         }
         self.wakers.push(waker);
@@ -82,6 +92,13 @@ impl<L: WakerList> WakerRegistrations<L> {
         if len > 0 {
             self.wakers.clear();
         }
+    }
+
+    /// Returns how many wakers there is room for.
+    pub fn room(&self) -> usize
+        ensures { result ≡ L.room }
+    {
+        self.wakers.room()
     }
 
     /// Returns whether no waker is registered.

@@ -13,7 +13,7 @@ ghost use Rattle.esync_cells.specs.WatchNews.{TellsOnce};
 
 use super::{Change, Exhausted, Judge, WatchOver};
 use esync_base::kept::Kept;
-use esync_base::waitqueue::{Context, Poll, Registered, WakerList, Wakes};
+use esync_base::waitqueue::{Context, FixedList, Poll, Registered, WakerList, Wakes};
 use esync_machine::names::Names;
 use esync_machine::primitive::{Answer, Command, Primitive, Reach, Turn};
 use esync_machine::requests::Requests;
@@ -176,6 +176,38 @@ impl<T: Copy, L: WakerList, C: Drop, J: Drop, const NAMES: usize> Kept
 
 impl<
     T: Clone + Drop,
+    L: FixedList,
+    C: Change<T> + Drop,
+    J: Judge<T> + Drop,
+    const NAMES: usize,
+> Watched<T, L, C, J, NAMES> {
+    /// Returns a watch without receivers and without a value, at version 0.
+    pub fn new() -> Self
+        ensures state { result.state ≡ fresh None 0 }
+        ensures receivers { result.receivers ≡ replicate NAMES None }
+    {
+        Watched::with_state(WatchOver::new())
+    }
+
+    /// Returns a watch without receivers, with the value at version 0, which is news to no receiver.
+    pub fn new_with(value: T) -> Self
+        ensures state { result.state ≡ fresh (Some value) 0 }
+        ensures receivers { result.receivers ≡ replicate NAMES None }
+    {
+        Watched::with_state(WatchOver::new_with(value))
+    }
+
+    /// Returns a watch without receivers and without a value, at the version.
+    pub fn new_at(version: u64) -> Self
+        ensures state { result.state ≡ fresh None version }
+        ensures receivers { result.receivers ≡ replicate NAMES None }
+    {
+        Watched::with_state(WatchOver::new_at(version))
+    }
+}
+
+impl<
+    T: Clone + Drop,
     L: WakerList,
     C: Change<T> + Drop,
     J: Judge<T> + Drop,
@@ -212,28 +244,14 @@ impl<
         h < NAMES && self.receivers.get(h).is_none()
     }
 
-    /// Returns a watch without receivers and without a value, at version 0.
-    pub fn new() -> Self
-        ensures state { result.state ≡ fresh None 0 }
+    /// Returns a watch without receivers over this list, in which no waker may be, and with the value at the version, if
+    /// one is given.
+    pub fn over(list: L, value: Option<T>, version: u64) -> Self
+        requires { L.wakers list ≡ [] }
+        ensures state { result.state ≡ fresh value version }
         ensures receivers { result.receivers ≡ replicate NAMES None }
     {
-        Watched::with_state(WatchOver::new())
-    }
-
-    /// Returns a watch without receivers, with the value at version 0, which is news to no receiver.
-    pub fn new_with(value: T) -> Self
-        ensures state { result.state ≡ fresh (Some value) 0 }
-        ensures receivers { result.receivers ≡ replicate NAMES None }
-    {
-        Watched::with_state(WatchOver::new_with(value))
-    }
-
-    /// Returns a watch without receivers and without a value, at the version.
-    pub fn new_at(version: u64) -> Self
-        ensures state { result.state ≡ fresh None version }
-        ensures receivers { result.receivers ≡ replicate NAMES None }
-    {
-        Watched::with_state(WatchOver::new_at(version))
+        Watched::with_state(WatchOver::over(list, value, version))
     }
 
     /// Returns the watch's state by reference: the latest value, its version, and the registered wakers.

@@ -9,7 +9,7 @@ use super::{
 };
 use esync_base::shared::Shared;
 use esync_base::step;
-use esync_base::waitqueue::{Context, Hand, Poll, WakerList, Wakes};
+use esync_base::waitqueue::{Context, FixedList, Hand, Poll, WakerList, Wakes};
 use std::alloc::AllocError;
 use std::sync::Wait;
 
@@ -151,7 +151,7 @@ pub struct SharedWatch<T, L: WakerList, H, const K: usize> {
     ghost small: { K < 65536 },
 }
 
-impl<T: Clone + Drop, L: WakerList, H: Hand<L::Waker>, const K: usize> SharedWatch<T, L, H, K> {
+impl<T: Clone + Drop, L: FixedList, H: Hand<L::Waker>, const K: usize> SharedWatch<T, L, H, K> {
     /// Returns a watch without a value, at version 0.
     ///
     /// A call hands out at most `K` wakers. So the list of wakers has to fit in `K`, and `K` has to be below 65536. A
@@ -174,7 +174,9 @@ impl<T: Clone + Drop, L: WakerList, H: Hand<L::Waker>, const K: usize> SharedWat
             inner: Shared::new(WatchOver::new_with(value), hand),
         }
     }
+}
 
+impl<T: Clone + Drop, L: WakerList, H: Hand<L::Waker>, const K: usize> SharedWatch<T, L, H, K> {
     /// Returns a sender.
     pub fn sender(&self) -> Snd<'_, Self> {
         Snd::new(self)

@@ -3,7 +3,7 @@ ghost use Rattle.std.specs.Prelude.{ℕ, ◌≡◌, ◌≤◌, IfOk, OnErr, leng
 ghost use Rattle.esync_pipe.specs.Polls.{IfReady, KeepsCopy};
 
 use super::{SharedPipe, TryReadError, TryWriteError};
-use esync_base::store::ByteStore;
+use esync_base::store::FixedBytes;
 use esync_base::waitqueue::{Context, Hand, Poll, TaskId};
 use std::alloc::{AllocError, Global};
 use std::marker::Model;
@@ -38,7 +38,7 @@ pub trait DynamicPipe {
     fn consume(&self, amt: usize);
 }
 
-impl<R: ByteStore, H: Hand<TaskId>> DynamicPipe for SharedPipe<R, TaskId, H> {
+impl<R: FixedBytes, H: Hand<TaskId>> DynamicPipe for SharedPipe<R, TaskId, H> {
     ghost places = { λ _. R.capacity };
 
     fn capacity(&self) -> usize {

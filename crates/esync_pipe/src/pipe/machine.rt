@@ -9,9 +9,9 @@ ghost use Rattle.esync_pipe.specs.Pipe.{slots_after_read, wakes_of_read};
 
 use super::{PipeOver, TryReadError, TryWriteError, WriteAllRequest};
 use crate::bytes::Bytes;
+use crate::ring::Ring;
 use esync_base::kept::Kept;
-use esync_base::ring_buffer::ByteRing;
-use esync_base::store::ByteStore;
+use esync_base::store::{ByteStore, FixedBytes};
 use esync_base::waitqueue::{Context, Poll, Registered, Wakes};
 use esync_machine::primitive::{Answer, Command, Primitive, Reach, Turn};
 use esync_machine::requests::Requests;
@@ -237,7 +237,7 @@ fn turn<R: ByteStore, W: Copy + Eq, const L: usize, const K: usize>(
 }
 
 /// The state of a pipe of at most `N` bytes as its machine has it.
-pub type PipeRows<W, const N: usize, const L: usize> = PipeRowsOver<ByteRing<N>, W, L>;
+pub type PipeRows<W, const N: usize, const L: usize> = PipeRowsOver<Ring<N>, W, L>;
 
 /// The state of a pipe as its machine has it. Commands and answers carry rows of at most `L` bytes. `L` is at least the
 /// pipe's capacity, so that an answer has room for all bytes in the pipe.
@@ -278,7 +278,7 @@ impl<R: ByteStore, W: Copy + Eq, const L: usize> Registered for PipeRowsOver<R, 
     }
 }
 
-impl<R: ByteStore, W: Copy + Eq, const L: usize> PipeRowsOver<R, W, L> {
+impl<R: FixedBytes, W: Copy + Eq, const L: usize> PipeRowsOver<R, W, L> {
     /// Returns an empty pipe without a registered waker, with rows of at most `L` bytes.
     ///
     /// `L` has to be at least the pipe's capacity. A caller compares the two numbers of the type, as by `N <= L`.
@@ -291,7 +291,9 @@ impl<R: ByteStore, W: Copy + Eq, const L: usize> PipeRowsOver<R, W, L> {
     {
         PipeRowsOver::from_state(PipeOver::new())
     }
+}
 
+impl<R: ByteStore, W: Copy + Eq, const L: usize> PipeRowsOver<R, W, L> {
     /// Returns a pipe with this state, its bytes and its wakers, and with rows of at most `L` bytes. So a run can begin
     /// at any state.
     ///

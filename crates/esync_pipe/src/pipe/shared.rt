@@ -5,10 +5,10 @@ ghost use Rattle.esync_pipe.specs.Polls.{IfReady, KeepsCopy, LeavesBytes};
 ghost use Rattle.esync_pipe.specs.Room.{WakesFit};
 
 use super::{PipeOver, TryReadError, TryWriteError, WriteAllRequest, waker_of};
-use esync_base::ring_buffer::ByteRing;
+use crate::ring::Ring;
 use esync_base::shared::Shared;
 use esync_base::step;
-use esync_base::store::ByteStore;
+use esync_base::store::{ByteStore, FixedBytes};
 use esync_base::waitqueue::{Context, Hand, Poll, Wakes};
 use std::marker::Model;
 use std::sync::MutexGuard;
@@ -32,13 +32,15 @@ impl<R: ByteStore> Model for CopiedIn<R> {
     ghost invariant = { λ a. length (R.ring a.bytes).items ≤ R.capacity - (R.ring a.bytes).front };
 }
 
-impl<R: ByteStore> CopiedIn<R> {
+impl<R: FixedBytes> CopiedIn<R> {
     fn new() -> Self
         ensures { length result ≡ 0 }
     {
         CopiedIn { bytes: R::new() }
     }
+}
 
+impl<R: ByteStore> CopiedIn<R> {
     // The bytes of the copy that weren't consumed.
     fn filled(&self) -> &[u8]
         ensures { result.now ≡ self.now }
@@ -139,7 +141,7 @@ impl<R: ByteStore, W: Copy + Eq> PipeOver<R, W> {
 }
 
 /// A pipe of at most `N` bytes.
-pub type Pipe<W, H, const N: usize> = SharedPipe<ByteRing<N>, W, H>;
+pub type Pipe<W, H, const N: usize> = SharedPipe<Ring<N>, W, H>;
 
 /// A pipe that tasks on several threads share by reference, with backpressure.
 ///
@@ -150,7 +152,7 @@ pub struct SharedPipe<R: ByteStore, W, H> {
     inner: Shared<PipeOver<R, W>, W, H>,
 }
 
-impl<R: ByteStore, W: Copy + Eq, H: Hand<W>> SharedPipe<R, W, H> {
+impl<R: FixedBytes, W: Copy + Eq, H: Hand<W>> SharedPipe<R, W, H> {
     /// Returns an empty pipe without a registered waker.
     pub fn new(hand: H) -> Self {
         SharedPipe {
@@ -166,6 +168,15 @@ impl<R: ByteStore, W: Copy + Eq, H: Hand<W>> SharedPipe<R, W, H> {
         (PipeReader::new(pipe), PipeWriter { pipe })
     }
 
+    /// Returns how many bytes the pipe has room for in all. Takes no lock.
+    pub fn capacity(&self) -> usize
+        ensures { result ≡ R.capacity }
+    {
+        R::places()
+    }
+}
+
+impl<R: ByteStore, W: Copy + Eq, H: Hand<W>> SharedPipe<R, W, H> {
     /// Returns a future that writes some of the bytes when there is room.
     pub fn write<'a>(&'a self, from: &'a [u8]) -> WriteFuture<'a, R, W, H>
         ensures { result ≡ from.now }
@@ -285,13 +296,6 @@ impl<R: ByteStore, W: Copy + Eq, H: Hand<W>> SharedPipe<R, W, H> {
         step!(self, |state, wakes| state.clear(&mut wakes))
     }
 
-    /// Returns how many bytes the pipe has room for in all. Takes no lock.
-    pub fn capacity(&self) -> usize
-        ensures { result ≡ R.capacity }
-    {
-        R::capacity()
-    }
-
     /// Returns how many bytes are in the pipe now.
     pub fn len(&self) -> usize
         ensures { result ≤ R.capacity }
@@ -318,7 +322,7 @@ impl<R: ByteStore, W: Copy + Eq, H: Hand<W>> SharedPipe<R, W, H> {
 }
 
 /// The end of a pipe of at most `N` bytes that writes.
-pub type Writer<'p, W, H, const N: usize> = PipeWriter<'p, ByteRing<N>, W, H>;
+pub type Writer<'p, W, H, const N: usize> = PipeWriter<'p, Ring<N>, W, H>;
 
 /// The end of a pipe that writes.
 #[derive_where(Clone, Copy)]
@@ -344,7 +348,7 @@ impl<'p, R: ByteStore, W: Copy + Eq, H: Hand<W>> PipeWriter<'p, R, W, H> {
 }
 
 /// The end of a pipe of at most `N` bytes that reads.
-pub type Reader<'p, W, H, const N: usize> = PipeReader<'p, ByteRing<N>, W, H>;
+pub type Reader<'p, W, H, const N: usize> = PipeReader<'p, Ring<N>, W, H>;
 
 /// The end of a pipe that reads. It keeps a copy of the bytes that it filled until they are consumed.
 #[derive(Drop)]
@@ -364,7 +368,7 @@ impl<'p, R: ByteStore, W, H> Model for PipeReader<'p, R, W, H> {
     ghost view = { λ a. a.row };
 }
 
-impl<'p, R: ByteStore, W: Copy + Eq, H: Hand<W>> PipeReader<'p, R, W, H> {
+impl<'p, R: FixedBytes, W: Copy + Eq, H: Hand<W>> PipeReader<'p, R, W, H> {
     fn new(pipe: &'p SharedPipe<R, W, H>) -> Self
         ensures { length result ≡ 0 }
     {
@@ -373,7 +377,9 @@ impl<'p, R: ByteStore, W: Copy + Eq, H: Hand<W>> PipeReader<'p, R, W, H> {
             row: CopiedIn::new(),
         }
     }
+}
 
+impl<'p, R: ByteStore, W: Copy + Eq, H: Hand<W>> PipeReader<'p, R, W, H> {
     /// Takes the oldest bytes out into the slice, as many as there are and as it has room for, and returns how many. If
     /// the pipe was full, wakes the task that is registered for room. An error means that the pipe is empty. The
     /// reader's copy is empty afterwards.

@@ -14,7 +14,7 @@ ghost use Rattle.esync_pubsub.specs.Steps.{most_wakes};
 ghost use Rattle.esync_pubsub.specs.PubSubRules.{topic_of, is_free, is_subscriber, is_publisher, is_of_subscriber, is_of_publisher, leaves, place_at, names_it, departed, Where, WithLog, Comes, Counts, TriesPublish, AtOnce, Tries, TriesPure, Calls, Polls, room_hands, immediate_of, immediate_hands, call_hands, reach, rest_of, publish_of, read_of, pure_of, stream_of, publish_hands, read_hands, pure_hands, stream_hands, poll_hands, pubsub_rules, pubsub_wakings, PollsPublish, PollsMessage, PollsPure, PollsStream, PollsLog};
 
 use super::{Error, Exhausted, PubSubOver, PublishRequest, SubId, TryPublishError, WaitResult};
-use esync_base::waitqueue::{Context, Poll, Registered, WakerList, Wakes};
+use esync_base::waitqueue::{Context, FixedList, Poll, Registered, WakerList, Wakes};
 use esync_log::log::{FixedLog, LogStore};
 use esync_machine::names::Names;
 use esync_machine::primitive::{Answer, Command, Primitive, Reach, Turn};
@@ -692,7 +692,7 @@ impl<G: LogStore, S: WakerList, P: WakerList<Waker = S::Waker>, const NAMES: usi
     }
 }
 
-impl<G: FixedLog, S: WakerList, P: WakerList<Waker = S::Waker>, const NAMES: usize> Events<
+impl<G: FixedLog, S: FixedList, P: FixedList<Waker = S::Waker>, const NAMES: usize> Events<
     G,
     S,
     P,
@@ -710,7 +710,7 @@ impl<G: FixedLog, S: WakerList, P: WakerList<Waker = S::Waker>, const NAMES: usi
     }
 }
 
-impl<G: LogStore, S: WakerList, P: WakerList<Waker = S::Waker>, const NAMES: usize> Events<
+impl<G: LogStore, S: FixedList, P: FixedList<Waker = S::Waker>, const NAMES: usize> Events<
     G,
     S,
     P,
@@ -730,7 +730,14 @@ impl<G: LogStore, S: WakerList, P: WakerList<Waker = S::Waker>, const NAMES: usi
             tables,
         }
     }
+}
 
+impl<G: LogStore, S: WakerList, P: WakerList<Waker = S::Waker>, const NAMES: usize> Events<
+    G,
+    S,
+    P,
+    NAMES,
+> {
     /// Returns the channel, whose subscribers have places.
     pub fn state(&self) -> &PubSubOver<G, S, P>
         ensures { result.now ≡ self.now.state }

@@ -10,7 +10,7 @@ use super::{
 };
 use esync_base::shared::Shared;
 use esync_base::step;
-use esync_base::waitqueue::{Context, Hand, Poll, WakerList, Wakes};
+use esync_base::waitqueue::{Context, FixedList, Hand, Poll, WakerList, Wakes};
 use esync_log::log::{FixedLog, Log};
 use std::alloc::AllocError;
 use std::sync::Wait;
@@ -142,8 +142,8 @@ pub struct SharedPubSub<
 
 impl<
     G: FixedLog,
-    S: WakerList,
-    P: WakerList<Waker = S::Waker>,
+    S: FixedList,
+    P: FixedList<Waker = S::Waker>,
     H: Hand<S::Waker>,
     const K: usize,
 > SharedPubSub<G, S, P, H, K> {
@@ -162,7 +162,15 @@ impl<
             inner: Shared::new(PubSubOver::new(), hand),
         }
     }
+}
 
+impl<
+    G: FixedLog,
+    S: WakerList,
+    P: WakerList<Waker = S::Waker>,
+    H: Hand<S::Waker>,
+    const K: usize,
+> SharedPubSub<G, S, P, H, K> {
     /// Adds a subscriber, which reads the messages that are published from now on.
     ///
     /// # Errors

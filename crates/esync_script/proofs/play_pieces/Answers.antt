@@ -1,5 +1,5 @@
 use Rattle.std.proofs.Common.{◌≡◌, ◌⊎◌, ℕ, List, inl, inr, subst, sym, T}
-use Rattle.std.specs.Prelude.{Option, Result, Ok, Err, IsOk, OnOk, IfErr}
+use Rattle.std.specs.Prelude.{Option, min, Result, Ok, Err, IsOk, OnOk, IfErr}
 use Rattle.esync_words.specs.declared.fault.Fault.{Fault}
 use Rattle.esync_words.specs.declared.fault.Fault.TheVariants.{InputOutput}
 use Rattle.esync_words.specs.Played.{IsJudged}
@@ -20,5 +20,5 @@ judged Q before after (Err fault) outcome ok err p j = elim err [
 
 pub returns : goal.returns
 returns g c j =
-    judged (λ b a outcome. PlaysScript (language _ g.C.Size.sized g.C.Size.size) g.T.Telling.story (g.R.Read.remaining c.args.input) b a outcome) _ _ _ _
+    judged (λ b a outcome. PlaysScript (language _ g.C.Size.sized g.C.Size.size (min g.C.Size.bytes 4096) g.C.Size.bits g.C.LineLimit.longest) g.T.Telling.story (g.R.Read.remaining c.args.input) b a outcome) _ _ _ _
     c.finish.ensures.ok c.finish.ensures.err c.play_read-outcome.ensures j

@@ -1,9 +1,9 @@
 //! Futures of a shared pipe that are polled once more, a copied end, what a read forgets, and threads.
-use esync_base::ring_buffer::ByteRing;
 use esync_base::store::ByteStore;
 use esync_base::waitqueue::{Context, Hand, Poll};
 use esync_notes::{Notes, holds, same};
 use esync_pipe::pipe::{FillBufFuture, Pipe, Reader, SharedPipe, Writer};
+use esync_pipe::ring::Ring;
 use std::process::Abort;
 use std::sync::Wait;
 use std::thread;
@@ -76,7 +76,7 @@ fn a_read_forgets_what_was_filled(rt: HostRuntime) {
 // A poll of a future that fills.
 fn fill_polls<R: Wait + Abort>(
     rt: &R,
-    fill: &mut FillBufFuture<'_, '_, ByteRing<3>, u64, Hears<'_, R>>,
+    fill: &mut FillBufFuture<'_, '_, Ring<3>, u64, Hears<'_, R>>,
     answer: Poll<()>,
 ) {
     holds!(*rt; fill.poll(&Context::from_waker(1)) == answer);

@@ -36,14 +36,15 @@ impl Dice {
         self.below(limit as u64) as usize
     }
 
-    /// Returns a message.
-    pub fn message(&mut self) -> u8 {
-        self.below(5) as u8
+    /// Returns a message: a small number, or one of more than 32 bits.
+    pub fn message(&mut self) -> u64 {
+        [0, 1, 2, 1 << 32, 1 << 63][self.place(5)]
     }
 
-    /// Returns up to three bytes.
-    pub fn bytes(&mut self) -> Vec<u8> {
-        (0..self.below(4)).map(|_| self.message()).collect()
+    /// Returns some bytes for a pipe of this capacity: up to three, or up to three quarters of a large one.
+    pub fn bytes(&mut self, capacity: usize) -> Vec<u8> {
+        let most = (capacity * 3 / 4).max(3);
+        (0..self.place(most + 1)).map(|_| self.below(5) as u8).collect()
     }
 
     /// Returns whether a coin shows heads.

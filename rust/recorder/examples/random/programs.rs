@@ -22,7 +22,7 @@ use crate::executor::within;
 pub type Program = fn(&mut Dice) -> Run;
 
 /// The programs. Each one plays with several capacities.
-pub const PROGRAMS: [Program; 29] = [
+pub const PROGRAMS: [Program; 34] = [
     channel::<1>,
     channel::<2>,
     channel::<3>,
@@ -35,8 +35,11 @@ pub const PROGRAMS: [Program; 29] = [
     pipe::<1>,
     pipe::<2>,
     pipe::<3>,
+    pipe::<300>,
     pipe_ends::<1>,
     pipe_ends::<3>,
+    pipe_ends::<5>,
+    pipe_ends::<200>,
     signal,
     mutex,
     greedy,
@@ -46,6 +49,8 @@ pub const PROGRAMS: [Program; 29] = [
     fair::<7>,
     watch::<1>,
     watch::<2>,
+    watch::<5>,
+    watch::<64>,
     pubsub::<1>,
     pubsub::<2>,
     pubsub::<5>,
@@ -60,7 +65,7 @@ fn steps(dice: &mut Dice) -> u64 {
 }
 
 fn channel<const N: usize>(dice: &mut Dice) -> Run {
-    let channel: Channel<NoopRawMutex, u8, N> = Channel::new();
+    let channel: Channel<NoopRawMutex, u64, N> = Channel::new();
     let mut futures = Futures::new();
     for _ in 0..steps(dice) {
         let message = dice.message();
@@ -85,7 +90,7 @@ fn channel<const N: usize>(dice: &mut Dice) -> Run {
 }
 
 fn priority<K: Kind, const N: usize>(dice: &mut Dice) -> Run {
-    let channel: PriorityChannel<NoopRawMutex, u8, K, N> = PriorityChannel::new();
+    let channel: PriorityChannel<NoopRawMutex, u64, K, N> = PriorityChannel::new();
     let mut futures = Futures::new();
     let clears = dice.coin();
     for _ in 0..steps(dice) {
@@ -116,7 +121,7 @@ fn pipe<const N: usize>(dice: &mut Dice) -> Run {
         return pipe::<1>(dice);
     }
     let pipe: Pipe<NoopRawMutex, N> = Pipe::new();
-    let rows: Vec<Vec<u8>> = (0..steps(dice)).map(|_| dice.bytes()).collect();
+    let rows: Vec<Vec<u8>> = (0..steps(dice)).map(|_| dice.bytes(N)).collect();
     let mut futures = Futures::new();
     for row in &rows {
         match dice.below(11) {
@@ -125,7 +130,7 @@ fn pipe<const N: usize>(dice: &mut Dice) -> Run {
                 async { _ = write.await }
             }),
             1 => futures.add(|| pipe.write_all(row)),
-            2 => futures.add(|| async { _ = pipe.read(&mut [0; 2]).await }),
+            2 => futures.add(|| async { _ = pipe.read(&mut vec![0; N / 2 + 1]).await }),
             3 | 4 => _ = pipe.try_write(row),
             5 => _ = pipe.try_read(&mut vec![0; row.len()]),
             6 => pipe.clear(),
@@ -143,7 +148,7 @@ fn pipe_ends<const N: usize>(dice: &mut Dice) -> Run {
         return pipe_ends::<1>(dice);
     }
     let mut pipe: Pipe<NoopRawMutex, N> = Pipe::new();
-    let rows: Vec<Vec<u8>> = (0..steps(dice)).map(|_| dice.bytes()).collect();
+    let rows: Vec<Vec<u8>> = (0..steps(dice)).map(|_| dice.bytes(N)).collect();
     {
         let (reader, writer) = pipe.split();
         let (mut reader, mut shown) = (Some(reader), 0);
@@ -192,13 +197,13 @@ async fn read<const N: usize>(
     let mut reader = reader?;
     match fills {
         true => _ = within(polls, reader.fill_buf()).await,
-        false => _ = within(polls, reader.read(&mut [0; 2])).await,
+        false => _ = within(polls, reader.read(&mut vec![0; N / 2 + 1])).await,
     }
     Some(reader)
 }
 
 fn signal(dice: &mut Dice) -> Run {
-    let signal: Signal<NoopRawMutex, u8> = Signal::new();
+    let signal: Signal<NoopRawMutex, u64> = Signal::new();
     let mut futures = Futures::new();
     for _ in 0..steps(dice) {
         match dice.below(9) {
@@ -220,12 +225,12 @@ fn signal(dice: &mut Dice) -> Run {
 /// A guard, mapped or not.
 #[allow(dead_code)]
 enum Guard<'a> {
-    Whole(MutexGuard<'a, NoopRawMutex, [u8; 2]>),
-    Part(MappedMutexGuard<'a, NoopRawMutex, u8>),
+    Whole(MutexGuard<'a, NoopRawMutex, [u64; 2]>),
+    Part(MappedMutexGuard<'a, NoopRawMutex, u64>),
 }
 
 fn mutex(dice: &mut Dice) -> Run {
-    let mutex: Mutex<NoopRawMutex, [u8; 2]> = Mutex::new([1, 2]);
+    let mutex: Mutex<NoopRawMutex, [u64; 2]> = Mutex::new([1, 2]);
     let mut futures = Futures::new();
     let mut held = None;
     for _ in 0..steps(dice) {
@@ -299,10 +304,10 @@ fn permits<S: Semaphore + Recorded>(semaphore: &S, dice: &mut Dice, keeps: Keeps
 
 /// What a watch's receiver waits for, in so many polls at most. The receiver comes back.
 async fn watch_for<const N: usize>(
-    mut receiver: watch::Receiver<'_, NoopRawMutex, u8, N>,
+    mut receiver: watch::Receiver<'_, NoopRawMutex, u64, N>,
     polls: usize,
     what: u64,
-) -> watch::Receiver<'_, NoopRawMutex, u8, N> {
+) -> watch::Receiver<'_, NoopRawMutex, u64, N> {
     match what {
         0 => _ = within(polls, receiver.get()).await,
         1 => _ = within(polls, receiver.changed()).await,
@@ -313,10 +318,10 @@ async fn watch_for<const N: usize>(
 }
 
 fn watch<const N: usize>(dice: &mut Dice) -> Run {
-    let watch: Watch<NoopRawMutex, u8, N> = if dice.coin() { Watch::new() } else { Watch::new_with(dice.message()) };
+    let watch: Watch<NoopRawMutex, u64, N> = if dice.coin() { Watch::new() } else { Watch::new_with(dice.message()) };
     let (sender, mut anonymous) = (watch.sender(), watch.anon_receiver());
     let mut futures = Futures::new();
-    let mut receivers: Vec<watch::Receiver<'_, NoopRawMutex, u8, N>> = Vec::new();
+    let mut receivers: Vec<watch::Receiver<'_, NoopRawMutex, u64, N>> = Vec::new();
     for _ in 0..steps(dice) {
         let message = dice.message();
         match dice.below(15) {
@@ -340,8 +345,8 @@ fn watch<const N: usize>(dice: &mut Dice) -> Run {
     watch.run()
 }
 
-type Channels<const N: usize> = PubSubChannel<NoopRawMutex, u8, N, 4, 4>;
-type Subscriber<'a, const N: usize> = pubsub::Subscriber<'a, NoopRawMutex, u8, N, 4, 4>;
+type Channels<const N: usize> = PubSubChannel<NoopRawMutex, u64, N, 4, 4>;
+type Subscriber<'a, const N: usize> = pubsub::Subscriber<'a, NoopRawMutex, u64, N, 4, 4>;
 
 /// Waits for a message in so many polls at most. The subscriber comes back.
 async fn read_next<const N: usize>(
@@ -397,11 +402,11 @@ fn pubsub<const N: usize>(dice: &mut Dice) -> Run {
     channel.run()
 }
 
-type Sender<'a> = zerocopy_channel::Sender<'a, NoopRawMutex, u8>;
-type Receiver<'a> = zerocopy_channel::Receiver<'a, NoopRawMutex, u8>;
+type Sender<'a> = zerocopy_channel::Sender<'a, NoopRawMutex, u64>;
+type Receiver<'a> = zerocopy_channel::Receiver<'a, NoopRawMutex, u64>;
 
 /// Sends in so many polls at most. The sender comes back.
-async fn send(mut sender: Sender<'_>, polls: usize, message: u8) -> (Option<Sender<'_>>, Option<Receiver<'_>>) {
+async fn send(mut sender: Sender<'_>, polls: usize, message: u64) -> (Option<Sender<'_>>, Option<Receiver<'_>>) {
     if let Some(slot) = within(polls, sender.send()).await {
         *slot = message;
         sender.send_done();
@@ -447,7 +452,7 @@ fn zerocopy(dice: &mut Dice) -> Run {
     channel.run()
 }
 
-fn try_send(sender: &mut Sender<'_>, message: u8) {
+fn try_send(sender: &mut Sender<'_>, message: u64) {
     if let Some(slot) = sender.try_send() {
         *slot = message;
         sender.send_done();
@@ -461,7 +466,7 @@ fn try_receive(receiver: &mut Receiver<'_>) {
 }
 
 fn once(dice: &mut Dice) -> Run {
-    let mut lock: OnceLock<u8> = OnceLock::new();
+    let mut lock: OnceLock<u64> = OnceLock::new();
     for _ in 0..3 {
         let mut futures = Futures::new();
         for _ in 0..steps(dice) / 3 {

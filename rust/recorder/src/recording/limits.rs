@@ -3,28 +3,24 @@ use std::fmt;
 
 /// The greatest capacity of a primitive.
 pub const GREATEST_CAPACITY: usize = 4096;
-/// The capacities that a pipe and a watch can have.
-pub const FEW_CAPACITIES: [usize; 5] = [1, 2, 3, 4, 8];
 /// How many numbers there are for requests with guards and releasers, and for each kind of handle.
 pub const NUMBERS: usize = 16;
 /// How many bytes a call of a pipe can name.
-pub const ROW: usize = 16;
+pub const ROW: usize = 4096;
 // A longer buffer of a pipe is named by its first bytes: no more than these can go in or out.
-const _: () = assert!(FEW_CAPACITIES[FEW_CAPACITIES.len() - 1] <= ROW);
+const _: () = assert!(GREATEST_CAPACITY <= ROW);
 /// How many subscribers, and how many publishers, a channel for them has.
 pub const HANDLES: usize = 4;
 /// The greatest number of a message.
-pub const GREATEST_MESSAGE: i128 = u32::MAX as i128;
+pub const GREATEST_MESSAGE: i128 = u64::MAX as i128;
 /// The numbers from here on up to the greatest but one are given: to messages whose own number is none below these.
-pub const FIRST_GIVEN: u32 = u32::MAX - 65_535;
+pub const FIRST_GIVEN: u64 = u64::MAX - 65_535;
 
 /// Why a recording stopped. The calls behind it are made, and aren't recorded.
 #[derive(Clone, Debug, PartialEq, Eq)]
 pub enum Stop {
     /// The primitive has a capacity that no run can have.
     Capacity(usize),
-    /// The pipe or the watch has a capacity that no run of it can have.
-    FewCapacities(usize),
     /// The channel has other numbers of subscribers and publishers than a run's.
     Handles {
         /// How many subscribers it can have.
@@ -57,9 +53,6 @@ impl fmt::Display for Stop {
             Stop::Capacity(capacity) => {
                 write!(f, "a capacity of {capacity}, where 1 to {GREATEST_CAPACITY} can be recorded")
             }
-            Stop::FewCapacities(capacity) => {
-                write!(f, "a capacity of {capacity}, where one of {FEW_CAPACITIES:?} can be recorded")
-            }
             Stop::Handles { subscribers, publishers } => {
                 write!(
                     f,
@@ -87,14 +80,6 @@ pub fn capacity(capacity: usize) -> Result<(), Stop> {
     match (1..=GREATEST_CAPACITY).contains(&capacity) {
         true => Ok(()),
         false => Err(Stop::Capacity(capacity)),
-    }
-}
-
-/// Finds whether a run of a pipe or a watch can have this capacity.
-pub fn one_of_few(capacity: usize) -> Result<(), Stop> {
-    match FEW_CAPACITIES.contains(&capacity) {
-        true => Ok(()),
-        false => Err(Stop::FewCapacities(capacity)),
     }
 }
 

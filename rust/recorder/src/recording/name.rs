@@ -31,7 +31,8 @@ impl Name {
     }
 }
 
-/// A message that has a name. Numbers that have a sign go by their number plus 2^31, so that their order stays.
+/// A message that has a name. Numbers that have a sign go by their number plus 2^31, and those of 64 bits by theirs plus
+/// 2^63, so that their order stays.
 pub trait Named {
     /// Returns what a run calls the message.
     fn name(&self) -> Name;
@@ -48,7 +49,8 @@ macro_rules! numbered {
 }
 
 numbered!(0 => u8, u16, u32, u64, usize, bool);
-numbered!(1 << 31 => i8, i16, i32, i64, isize);
+numbered!(1 << 31 => i8, i16, i32);
+numbered!(1 << 63 => i64, isize);
 
 impl Named for () {
     fn name(&self) -> Name {
@@ -72,9 +74,9 @@ impl<T: Named + ?Sized> Named for &T {
 
 /// The numbers of a run's messages.
 pub struct Names {
-    texts: BTreeMap<String, u32>,
+    texts: BTreeMap<String, u64>,
     // Of messages whose own number no run can say.
-    given: BTreeMap<i128, u32>,
+    given: BTreeMap<i128, u64>,
     has_numbers: bool,
     has_order: bool,
 }
@@ -86,7 +88,7 @@ impl Names {
     }
 
     /// Returns the number of the message that is called so.
-    pub fn number(&mut self, name: &Name) -> Result<u32, Stop> {
+    pub fn number(&mut self, name: &Name) -> Result<u64, Stop> {
         match &name.0 {
             Kind::Number(number) => self.own_number(*number),
             Kind::Text(text) => self.number_of_text(text),
@@ -94,7 +96,7 @@ impl Names {
     }
 
     /// Returns each number that isn't a message's own, with what it stands for, in order.
-    pub fn legend(&self) -> Vec<(u32, String)> {
+    pub fn legend(&self) -> Vec<(u64, String)> {
         let texts = self.texts.iter().map(|(text, number)| (*number, text.clone()));
         let given = self.given.iter().map(|(own, number)| (*number, own.to_string()));
         let mut legend: Vec<_> = texts.chain(given).collect();
@@ -102,7 +104,7 @@ impl Names {
         legend
     }
 
-    fn own_number(&mut self, number: i128) -> Result<u32, Stop> {
+    fn own_number(&mut self, number: i128) -> Result<u64, Stop> {
         if self.has_order {
             limits::message(number)?;
         }
@@ -110,30 +112,30 @@ impl Names {
         if !self.texts.is_empty() {
             return Err(Stop::MixedNames);
         }
-        match u32::try_from(number) {
+        match u64::try_from(number) {
             Ok(own) if self.has_order || own < FIRST_GIVEN => Ok(own),
             _ => self.given_number(number),
         }
     }
 
-    fn given_number(&mut self, number: i128) -> Result<u32, Stop> {
-        let next = FIRST_GIVEN + self.given.len() as u32;
+    fn given_number(&mut self, number: i128) -> Result<u64, Stop> {
+        let next = FIRST_GIVEN + self.given.len() as u64;
         match self.given.get(&number) {
             Some(given) => Ok(*given),
             // (the greatest number has none above it)
-            None if next == u32::MAX => Err(Stop::Message(number)),
+            None if next == u64::MAX => Err(Stop::Message(number)),
             None => Ok(*self.given.entry(number).or_insert(next)),
         }
     }
 
-    fn number_of_text(&mut self, text: &str) -> Result<u32, Stop> {
+    fn number_of_text(&mut self, text: &str) -> Result<u64, Stop> {
         if self.has_order {
             return Err(Stop::NoOrder);
         }
         if self.has_numbers {
             return Err(Stop::MixedNames);
         }
-        let next = u32::try_from(self.texts.len()).map_err(|_| Stop::Message(self.texts.len() as i128))?;
+        let next = self.texts.len() as u64;
         Ok(*self.texts.entry(text.to_string()).or_insert(next))
     }
 }
@@ -175,7 +177,7 @@ impl Phrase {
         self
     }
 
-    /// Appends what has to be added to one message's number, modulo 2^32, for another's.
+    /// Appends what has to be added to one message's number, modulo 2^64, for another's.
     pub fn change(mut self, from: Name, to: Name) -> Self {
         self.0.push(Piece::Change(from, to));
         self

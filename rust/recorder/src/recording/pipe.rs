@@ -115,7 +115,7 @@ impl<M: RawMutex, const N: usize> Recorded for Pipe<M, N> {
 }
 
 fn head<const N: usize>() -> Head {
-    Head::of_few_capacities("pipe", N)
+    Head::of_capacity("pipe", N)
 }
 
 /// The end of a [`Pipe`] that writes.

@@ -19,7 +19,7 @@ pub struct Run {
     /// The run, as `esync check` reads it. Where the recording stopped, the last line says why.
     pub text: String,
     /// Each message's number that isn't its own, with the text or the own number that it stands for, in order.
-    pub legend: Vec<(u32, String)>,
+    pub legend: Vec<(u64, String)>,
     /// Why the recording stopped, if it did.
     pub stop: Option<Stop>,
 }

@@ -33,11 +33,6 @@ impl Head {
         Head { limit: super::limits::capacity(capacity), ..Self::new(kind, capacity) }
     }
 
-    /// Returns the head of a pipe or a watch of this capacity.
-    pub fn of_few_capacities(kind: &'static str, capacity: usize) -> Self {
-        Head { limit: super::limits::one_of_few(capacity), ..Self::new(kind, capacity) }
-    }
-
     fn written(&self, names: &mut Names) -> Result<String, Stop> {
         let rest = self.rest.written(names)?;
         Ok(format!("{} {rest}", self.kind))

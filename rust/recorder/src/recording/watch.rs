@@ -54,7 +54,7 @@ impl<M: RawMutex, T: Clone, const N: usize> Watch<M, T, N> {
                 Some(value) => phrase(format_args!("{N} ")).message((self.naming)(&value)),
                 None => phrase(N),
             };
-            Head { rest, ..Head::of_few_capacities("watch", N) }
+            Head { rest, ..Head::of_capacity("watch", N) }
         })
     }
 

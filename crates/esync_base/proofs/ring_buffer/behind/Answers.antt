@@ -3,7 +3,7 @@ use Rattle.esync_base.proofs.Places.{slot-is}
 use Rattle.esync_base.proofs.ring_buffer.behind.Goals as goal
 
 pub returns-then-count-before_end : goal.returns-then-count-before_end
-returns-then-count-before_end g c = elim (slot-is g.row.N c.args.place c.args.count c.requires.place (omega arith)) [ inl e ↦ omega arith | inr e ↦ omega arith ]
+returns-then-count-before_end c = elim (slot-is c.args.n c.args.place c.args.count c.requires.place (omega arith)) [ inl e ↦ omega arith | inr e ↦ omega arith ]
 
 pub returns-else-count-before_end : goal.returns-else-count-before_end
-returns-else-count-before_end g c = elim (slot-is g.row.N c.args.place c.args.count c.requires.place (omega arith)) [ inl e ↦ omega arith | inr e ↦ omega arith ]
+returns-else-count-before_end c = elim (slot-is c.args.n c.args.place c.args.count c.requires.place (omega arith)) [ inl e ↦ omega arith | inr e ↦ omega arith ]

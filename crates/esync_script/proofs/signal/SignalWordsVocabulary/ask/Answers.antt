@@ -3,4 +3,4 @@ use Rattle.esync_words.specs.WordsLaws.{not_text}
 use Rattle.esync_script.proofs.signal.SignalWordsVocabulary.ask.Goals as goal
 
 pub returns-in_default : goal.returns-in_default
-returns-in_default c = rw (not_text _ _ c.in_default.not-wait) refl
+returns-in_default g c = rw (not_text _ _ c.in_default.not-wait) refl

@@ -3,4 +3,4 @@ use Rattle.esync_words.specs.WordsLaws.{not_text}
 use Rattle.esync_script.proofs.zerocopy.ZeroWordsVocabulary.call.Goals as goal
 
 pub returns-in_default : goal.returns-in_default
-returns-in_default c = rw (not_text _ _ c.in_default.not-text, not_text _ _ c.in_default.not-text-2, not_text _ _ c.in_default.not-write, not_text _ _ c.in_default.not-text-3, not_text _ _ c.in_default.not-text-4, not_text _ _ c.in_default.not-text-5, not_text _ _ c.in_default.not-text-6, not_text _ _ c.in_default.not-text-7, not_text _ _ c.in_default.not-text-8, not_text _ _ c.in_default.not-len, not_text _ _ c.in_default.not-free) refl
+returns-in_default g c = rw (not_text _ _ c.in_default.not-text, not_text _ _ c.in_default.not-text-2, not_text _ _ c.in_default.not-write, not_text _ _ c.in_default.not-text-3, not_text _ _ c.in_default.not-text-4, not_text _ _ c.in_default.not-text-5, not_text _ _ c.in_default.not-text-6, not_text _ _ c.in_default.not-text-7, not_text _ _ c.in_default.not-text-8, not_text _ _ c.in_default.not-len, not_text _ _ c.in_default.not-free) refl

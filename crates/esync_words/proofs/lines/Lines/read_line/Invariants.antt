@@ -1,4 +1,4 @@
-use Rattle.std.proofs.Common.{◌≡◌, ◌-◌, false, length}
+use Rattle.std.proofs.Common.{◌≡◌, ◌+◌, ◌-◌, false, length}
 use Rattle.std.specs.Io.KnownBytes.{Consumes}
 use Rattle.esync_words.specs.Lines.{first_line}
 use Rattle.esync_words.proofs.lines.Lines.read_line.Given as goal
@@ -12,4 +12,4 @@ invariant-loop-self g l = record {
 }
 
 abbrev pub decreases-loop-self : goal.decreases-loop-self
-decreases-loop-self g l = 257 - length l.self-inside.line.items
+decreases-loop-self g l = g.R.ByteSource.longest + 1 - length l.self-inside.line.items
