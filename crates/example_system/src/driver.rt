@@ -85,10 +85,24 @@ fn driver() -> Driver {
     }
 }
 
+// Runs tasks on the executor for up to 100 turns, and returns how they end.
+fn run_tasks<M: Awaits<Waker = TaskId> + Drop>(
+    alloc: Global,
+    machine: M,
+    tasks: Vec<Vec<Act<M::Ask, M::Command>>>,
+) -> Result<Outcome, NewError>
+where
+    M::Ask: Drop,
+    M::Command: Drop,
+    M::Reply: Drop,
+{
+    let mut executor = Executor::new(alloc, machine, tasks)?;
+    Ok(executor.run(100))
+}
+
 /// Runs the three tasks on the executor, and returns how they end.
 pub fn run(alloc: Global, holds: bool) -> Result<Outcome, NewError> {
-    let mut executor = Executor::new(alloc, driver(), tasks(alloc, holds)?)?;
-    Ok(executor.run(100))
+    run_tasks(alloc, driver(), tasks(alloc, holds)?)
 }
 
 // What a step of a channel or of a mutex answers and leaves is determined, so what is found holds of every schedule.
