@@ -1,6 +1,7 @@
 -- What a command does to a table, from what it does with the place at its number.
 use Rattle.std.proofs.Common.{◌≡◌, ℕ, Bool, true, false, List, [], Option, Some, None, ◌⊎◌, inl, inr, refl, sym, ap, ◌∙◌, subst}
-use Rattle.std.specs.Prelude.{slice_get, slice_set, IfSome}
+use Rattle.std.specs.Prelude.{slice_get, slice_set, IfSome, length, take, drop, ◌++◌, ◌≤◌}
+use Rattle.std.proofs.lemmas.List.{take_at, length-take-le}
 use Rattle.esync_base.specs.Registration.{IsAmong}
 use Rattle.esync_base.specs.ListedLaws.{same_or_not, true_or_false}
 use Rattle.esync_machine.specs.Numbers.{at_number, swept, IsTied, AllPairs}
@@ -16,6 +17,7 @@ use Rattle.esync_machine.specs.Object.{AllowsAt, AllowsReach, found, poll_of, en
 use Rattle.esync_machine.specs.Wakings.{Wakings, IsHanded, nothing, polled, called, handed_at}
 use Rattle.esync_machine.specs.IdleLaws.{polls_is}
 use Rattle.esync_machine.specs.Served.{Turned, Served}
+use Rattle.esync_machine.specs.FreeLaws.{same_places}
 
 -- a command on a number may find anything
 pub finds_any : {Held : Type 0} (o : Reach) (r : ℕ) (p : Option Held) → o ≡ Number r → Finds o p
@@ -221,3 +223,11 @@ module _ {Ask Held C A W S : Type 0} (R : Rules Ask Held C A) (core : S → R.Co
           (λ u v k l e f n. tied.1 u v k l (swept_at (ended_by R (core s) c) q u k e).0 (swept_at (ended_by R (core s) c) q v l f).0 n),
         );
       }
+
+  -- what is shown of a command and the first n places of a row
+  pub served_first : (s s2 : S) (q new : List (Option Held)) (n : ℕ) (c : Command Ask W C) (a : Answer A) (wakes : List W) → n ≤ length q
+      → Served R core T registrations Fits Apart Owes same s (take n q) c a wakes s2 new
+      → Served R core T registrations Fits Apart Owes same s (take n q) c a wakes s2 (take n (new ++ drop n q))
+  served_first s s2 q new n c a wakes whole served =
+      let places : length new ≡ n = same_places R W (record { core = core s; requests = take n q }) (record { core = core s2; requests = new }) c a served.allowed ∙ length-take-le n q whole in
+      subst (λ p. Served R core T registrations Fits Apart Owes same s (take n q) c a wakes s2 p) (sym (take_at new (drop n q) n places)) served

@@ -73,24 +73,43 @@ module _ {C : Type 0} where
     setting (Watch c value) = watch_setting k (size c) value
     setting (Zerocopy c) = zero_setting k (size c)
 
--- What line 1 can say, the setting of each primitive that it names, and the greatest number of bytes of a line.
+  -- How many requests the primitive has at a time, where n is the language's number. Those of a pipe have rows of bytes,
+  -- and there are 16.
+  abbrev pub numbers : ℕ → OpeningOf C → ℕ
+  numbers n (Channel c) = n
+  numbers n (Max c) = n
+  numbers n (Min c) = n
+  numbers n Signal = n
+  numbers n (Greedy permits) = n
+  numbers n (Fair c permits) = n
+  numbers n (Pipe c) = 16
+  numbers n (PubSub c first) = n
+  numbers n Once = n
+  numbers n (Lazy v) = n
+  numbers n (Mutex v x) = n
+  numbers n (Watch c value) = n
+  numbers n (Zerocopy c) = n
+
+-- What line 1 can say, the setting of each primitive that it names, the greatest number of bytes of a line, and how many
+-- requests a primitive has at a time.
 pub record Language : Type 1 where
   pub Opening : Type 0
   pub opening : List ℕ → List (List ℕ) → Option Opening
   pub setting : Opening → Setting
   pub longest : ℕ
+  pub requests : Opening → ℕ
 
 -- the language whose capacities are of the type C: `sized` reads a number as one, `size` is its number of places
-abbrev pub language : (C : Type 0) → (ℕ → Option C) → (C → ℕ) → (bytes bits longest : ℕ) → Language
-language C sized size bytes bits longest = record { Opening = OpeningOf C; opening = opening sized bits; setting = setting size bytes bits; longest = longest }
+abbrev pub language : (C : Type 0) → (ℕ → Option C) → (C → ℕ) → (bytes bits longest requests : ℕ) → Language
+language C sized size bytes bits longest requests = record { Opening = OpeningOf C; opening = opening sized bits; setting = setting size bytes bits; longest = longest; requests = numbers requests }
 
 -- the language of `syncrun`
 abbrev pub scripts : Language
-scripts = language Capacity capacity places 16 32 256
+scripts = language Capacity capacity places 16 32 256 16
 
 -- the language of recorded runs, and of every script but those of `syncrun`
 abbrev pub runs : Language
-runs = language ℕ any_capacity (λ c. c) 4096 64 16640
+runs = language ℕ any_capacity (λ c. c) 4096 64 16640 64
 
 -- Behind lines that were played, the foot is written. The script's outcome is theirs, unless a write or memory failed.
 abbrev pub Closes : List ℕ → Option (List ℕ) → Option (List ℕ) → Result (Unit {0}) Fault → Result (Unit {0}) Fault → Type 0
@@ -99,7 +118,7 @@ Closes foot before after played outcome = IsJudged outcome → (outcome ≡ play
 -- The statement `plays` on the lines behind line n and on the named primitive's machine, which begins as line 1 says.
 module _ (L : Language) (plays : (Q C A Reply : Type 0) (M : Meaning (Command Q ℕ C) Reply ℕ) → (List ℕ → Option (Command Q ℕ C)) → (A → List ℕ) → (Reply → Answer A) → (Reply → List ℕ) → M.Object → M.Registered → ℕ → Option (List ℕ) → Option (List ℕ) → Option (List ℕ) → Result (Unit {0}) Fault → Type 0) where
   abbrev pub Plays : L.Opening → ℕ → Option (List ℕ) → Option (List ℕ) → Option (List ℕ) → Result (Unit {0}) Fault → Type 0
-  Plays o n left before after outcome = PlaysFrom plays L.longest (L.setting o) n left before after outcome
+  Plays o n left before after outcome = PlaysFrom plays L.longest (L.requests o) (L.setting o) n left before after outcome
 
 -- A whole script. Line 1 names a primitive, the story tells of it, the lines behind it are played, and the foot is
 -- written. Or line 1 names none; or a read, a write or memory failed before.

@@ -46,13 +46,13 @@ setting_of {Ask = Ask} {Held = Held} {C = C} {A = A} most R T asks calls text co
   registered = registered;
 }
 
--- an object without requests
-abbrev pub new_object : {Core Held : Type 0} → Core → Object Core Held
-new_object core = record { core = core; requests = replicate 16 None }
+-- an object with so many numbers, all of which are free
+abbrev pub new_object : {Core Held : Type 0} → ℕ → Core → Object Core Held
+new_object numbers core = record { core = core; requests = replicate numbers None }
 
--- the object has no requests, and its core and registrations are those at first
-abbrev pub BeginsAs : (s : Setting) → Object s.rules.Core s.Held → s.wakings.Registered → Type 0
-BeginsAs s object registered = (object ≡ new_object s.core) × (registered ≡ s.registered)
+-- the object has so many numbers and no requests, and its core and registrations are those at first
+abbrev pub BeginsAs : ℕ → (s : Setting) → Object s.rules.Core s.Held → s.wakings.Registered → Type 0
+BeginsAs numbers s object registered = (object ≡ new_object numbers s.core) × (registered ≡ s.registered)
 
 -- the numbers of a script are cloned as they are, and no clone of one needs memory
 abbrev pub IsSame : ℕ → ℕ → Type 0
@@ -62,8 +62,8 @@ abbrev pub NeedsNone : ℕ → Type 0
 NeedsNone v = Unit {0}
 
 -- The statement `plays` on the lines behind line n, each of at most `longest` bytes, and on the primitive's machine,
--- which begins without requests.
+-- which begins with so many numbers and without requests.
 module _ (plays : (Q C A Reply : Type 0) (M : Meaning (Command Q ℕ C) Reply ℕ) → (List ℕ → Option (Command Q ℕ C)) → (A → List ℕ) → (Reply → Answer A) → (Reply → List ℕ) → M.Object → M.Registered → ℕ → Option (List ℕ) → Option (List ℕ) → Option (List ℕ) → Result (Unit {0}) Fault → Type 0) where
-  abbrev pub PlaysFrom : ℕ → Setting → ℕ → Option (List ℕ) → Option (List ℕ) → Option (List ℕ) → Result (Unit {0}) Fault → Type 0
-  PlaysFrom longest s n left before after outcome =
-      plays s.Ask s.Call s.Heard (Reply (Answer s.Heard) ℕ s.most) (requests_meaning s.rules s.wakings nat_eq s.most) (says longest (command s.asks s.calls)) s.text (λ a. a.answer) (λ a. a.wakes) (new_object s.core) s.registered n left before after outcome
+  abbrev pub PlaysFrom : ℕ → ℕ → Setting → ℕ → Option (List ℕ) → Option (List ℕ) → Option (List ℕ) → Result (Unit {0}) Fault → Type 0
+  PlaysFrom longest numbers s n left before after outcome =
+      plays s.Ask s.Call s.Heard (Reply (Answer s.Heard) ℕ s.most) (requests_meaning s.rules s.wakings nat_eq s.most) (says longest (command s.asks s.calls)) s.text (λ a. a.answer) (λ a. a.wakes) (new_object numbers s.core) s.registered n left before after outcome

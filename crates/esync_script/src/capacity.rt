@@ -4,14 +4,32 @@ ghost use Rattle.esync_script.specs.Capacity.{capacity, places, any_capacity};
 
 use esync_words::bits::Bits;
 use esync_words::lines::{LONGEST, LineLimit, SHORT};
+use esync_words::vocabulary::REQS;
 use std::marker::Model;
 
 /// The greatest capacity.
 pub const MOST: usize = 4096;
 
+/// How many requests a script of `syncrun` can have at a time.
+pub const FEW: usize = 16;
+
+/// How many requests a script of a language can have at a time.
+pub trait Asking {
+    ghost use Rattle.std.specs.Prelude.{ℕ};
+
+    /// The number: those of the requests are below it.
+    ghost requests: { ℕ };
+
+    /// Returns the number.
+    fn requests() -> usize
+        ensures value { result ≡ requests }
+        ensures few { result ≤ 64 };
+}
+
 /// A capacity as line 1 says it. A language of scripts has one type of capacities, which stands for the language: it
-/// says how long a line is, how many bytes a command of a pipe has, and how many bits a value.
-pub trait Size: LineLimit + Drop {
+/// says how long a line is, how many bytes a command of a pipe has, how many bits a value, and how many requests there
+/// can be at a time.
+pub trait Size: LineLimit + Asking + Drop {
     ghost use Rattle.std.specs.Prelude.{ℕ, Option};
 
     /// The capacity of this number of places, if line 1 can say it.
@@ -65,6 +83,14 @@ impl LineLimit for Capacity {
 
     fn longest() -> usize {
         SHORT
+    }
+}
+
+impl Asking for Capacity {
+    ghost requests = { 16 };
+
+    fn requests() -> usize {
+        FEW
     }
 }
 
@@ -135,6 +161,14 @@ impl LineLimit for AnyCapacity {
 
     fn longest() -> usize {
         LONGEST
+    }
+}
+
+impl Asking for AnyCapacity {
+    ghost requests = { 64 };
+
+    fn requests() -> usize {
+        REQS
     }
 }
 

@@ -1,13 +1,13 @@
 //! The words of a channel and of a priority channel.
 use crate::capacity::{MOST, Size};
+use crate::numbers::{Numbered, numbered};
 use crate::scripted::Scripted;
 use esync_base::deque::Deque;
 use esync_base::limited::{Limit, Limited};
 use esync_channel::channel::machine::{ChannelAsk, ChannelCall, ChannelHeard};
 use esync_channel::channel::{Mailbox, TryReceiveError, TrySendError};
-use esync_machine::requests::Requests;
 use esync_priority::prio::{Kind, PrioQueue};
-use esync_words::vocabulary::{Place, REQS, Vocabulary};
+use esync_words::vocabulary::{Place, Vocabulary};
 use esync_words::words::Words;
 use std::io::{self, Write};
 use std::marker::PhantomData;
@@ -81,9 +81,9 @@ impl<C: Size> Vocabulary for ChannelWords<C> {
 }
 
 /// A channel of at most `B.limit` messages.
-pub type Listed<B> = Requests<Mailbox<Limited<Deque<u64, MOST>, B>, u64>, REQS, 1>;
+pub type Listed<C, B> = Numbered<Mailbox<Limited<Deque<u64, MOST>, B>, u64>, C, 1>;
 
-impl<C: Size, B: Limit> Scripted<ChannelWords<C>> for Listed<B> {
+impl<C: Size, B: Limit> Scripted<ChannelWords<C>> for Listed<C, B> {
     /// The capacity.
     type First = usize;
 
@@ -94,17 +94,17 @@ impl<C: Size, B: Limit> Scripted<ChannelWords<C>> for Listed<B> {
 
     ghost CanBegin = { λ capacity. (capacity ≡ B.limit) × (capacity ≤ 4096) };
 
-    ghost IsNew = { λ capacity m. BeginsAs (channel_setting C.bits (BoundedList ℕ B.limit)) (Self.semantics.object m) (Self.semantics.registrations m) };
+    ghost IsNew = { λ capacity m. BeginsAs C.requests (channel_setting C.bits (BoundedList ℕ B.limit)) (Self.semantics.object m) (Self.semantics.registrations m) };
 
     fn begin(capacity: usize) -> Self {
-        Requests::new(Mailbox::over(Limited::new(capacity)))
+        numbered::<_, C, 1>(Mailbox::over(Limited::new(capacity)))
     }
 }
 
 /// A priority channel of at most `B.limit` messages.
-pub type Prioritized<Q, B> = Requests<Mailbox<Limited<PrioQueue<u64, Q, MOST>, B>, u64>, REQS, 1>;
+pub type Prioritized<C, Q, B> = Numbered<Mailbox<Limited<PrioQueue<u64, Q, MOST>, B>, u64>, C, 1>;
 
-impl<C: Size, Q: Kind<u64>, B: Limit> Scripted<ChannelWords<C>> for Prioritized<Q, B> {
+impl<C: Size, Q: Kind<u64>, B: Limit> Scripted<ChannelWords<C>> for Prioritized<C, Q, B> {
     /// The capacity.
     type First = usize;
 
@@ -115,9 +115,9 @@ impl<C: Size, Q: Kind<u64>, B: Limit> Scripted<ChannelWords<C>> for Prioritized<
 
     ghost CanBegin = { λ capacity. (capacity ≡ B.limit) × (capacity ≤ 4096) };
 
-    ghost IsNew = { λ capacity m. BeginsAs (channel_setting C.bits (Bag ℕ Q.above B.limit)) (Self.semantics.object m) (Self.semantics.registrations m) };
+    ghost IsNew = { λ capacity m. BeginsAs C.requests (channel_setting C.bits (Bag ℕ Q.above B.limit)) (Self.semantics.object m) (Self.semantics.registrations m) };
 
     fn begin(capacity: usize) -> Self {
-        Requests::new(Mailbox::over(Limited::new(capacity)))
+        numbered::<_, C, 1>(Mailbox::over(Limited::new(capacity)))
     }
 }

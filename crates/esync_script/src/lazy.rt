@@ -1,9 +1,10 @@
 //! The words of a value that is made when a call first asks for it.
+use crate::capacity::Size;
+use crate::numbers::{Numbered, numbered};
 use crate::scripted::Scripted;
 use esync_cells::lazy_lock::Given;
-use esync_cells::lazy_lock::machine::{LazyCall, LazyHolder, LazyRun, NoAsk};
-use esync_machine::requests::Requests;
-use esync_words::vocabulary::{REQS, Vocabulary};
+use esync_cells::lazy_lock::machine::{LazyCall, LazyHolder, NoAsk};
+use esync_words::vocabulary::Vocabulary;
 use esync_words::words::Words;
 use std::io::{self, Write};
 
@@ -43,16 +44,19 @@ impl Vocabulary for LazyWords {
     }
 }
 
-impl Scripted<LazyWords> for LazyRun<u64, Given<u64>, u64, REQS, 1> {
+/// A lazy lock of this value.
+pub type Made<C> = Numbered<LazyHolder<u64, Given<u64>, u64>, C, 1>;
+
+impl<C: Size> Scripted<LazyWords> for Made<C> {
     /// The value that will be made.
     type First = u64;
 
     ghost use Rattle.esync_script.specs.Lazy.{lazy_setting};
     ghost use Rattle.esync_script.specs.Setting.{BeginsAs};
 
-    ghost IsNew = { λ value m. BeginsAs (lazy_setting value) (Self.semantics.object m) (Self.semantics.registrations m) };
+    ghost IsNew = { λ value m. BeginsAs C.requests (lazy_setting value) (Self.semantics.object m) (Self.semantics.registrations m) };
 
     fn begin(value: u64) -> Self {
-        Requests::new(LazyHolder::new(Given { value }))
+        numbered::<_, C, 1>(LazyHolder::new(Given { value }))
     }
 }

@@ -20,6 +20,7 @@ pub mod capacity;
 pub mod channel;
 pub mod lazy;
 pub mod mutex;
+pub mod numbers;
 pub mod once;
 pub mod opening;
 pub mod pipe;
@@ -34,9 +35,9 @@ pub mod zerocopy;
 /// Reads a script, writes the answers of its commands, and returns the status that tells how it ended.
 ///
 /// Line 1 names a primitive and its capacity, as `channel 2`. The capacity is a [`Capacity`]. A line has at most 256
-/// bytes, a command of a pipe at most 16, and a value 32 bits. Each further line is one command. Its answer is one line,
-/// as `Ready(7) | 3 4`: the answer to the command, and the wakers that it hands out, in order, or `-` for none. A line is
-/// read, judged and answered before the next line is read.
+/// bytes, a command of a pipe at most 16, and a value 32 bits; there are 16 requests at a time. Each further line is
+/// one command. Its answer is one line, as `Ready(7) | 3 4`: the answer to the command, and the wakers that it hands
+/// out, in order, or `-` for none. A line is read, judged and answered before the next line is read.
 ///
 /// | Status | The script ended | Written to `errors` |
 /// |---|---|---|
@@ -100,7 +101,7 @@ pub fn explain<R: Read + Drop, W: Write + Drop, N: Write + Drop, E: Write + Drop
 ///
 /// The commands are those that the lines say, the replies are a run of the primitive that line 1 names, and the output
 /// is what `telling` tells of them. The capacity in line 1 is an [`AnyCapacity`]. A line has at most 16,640 bytes, a
-/// command of a pipe at most 4,096, and a value 64 bits.
+/// command of a pipe at most 4,096, and a value 64 bits; there are 64 requests at a time, and 16 on a pipe.
 ///
 /// # Errors
 ///
@@ -122,7 +123,7 @@ fn play_read<C: Size, T: Telling, R: Read + Drop, W: Write>(
     input: R,
     output: &mut W,
 ) -> Result<(), Fault>
-    ensures { PlaysScript (language C C.sized C.size (min C.bytes 4096) C.bits C.longest) T.story (R.remaining input) (W.contents output.old) (W.contents output.new) result }
+    ensures { PlaysScript (language C C.sized C.size (min C.bytes 4096) C.bits C.longest C.requests) T.story (R.remaining input) (W.contents output.old) (W.contents output.new) result }
 {
     match Lines::buffered(alloc, input) {
         Ok(mut lines) => opening::play_lines::<C, T, Bounded<BufReader<R>, C>, W>(
@@ -172,7 +173,7 @@ fn run<C: Size, T: Telling, R: Read + Drop, W: Write + Drop, E: Write + Drop>(
     output: W,
     errors: E,
 ) -> u8
-    ensures { EndsWith (language C C.sized C.size (min C.bytes 4096) C.bits C.longest) T.story (R.remaining input) result }
+    ensures { EndsWith (language C C.sized C.size (min C.bytes 4096) C.bits C.longest C.requests) T.story (R.remaining input) result }
 {
     status(
         play_pieces::<C, T, R, W>(alloc, telling, input, output),
@@ -220,7 +221,7 @@ fn play_pieces<C: Size, T: Telling, R: Read + Drop, W: Write + Drop>(
     input: R,
     output: W,
 ) -> Result<(), Fault>
-    ensures { EndsScript (language C C.sized C.size (min C.bytes 4096) C.bits C.longest) T.story (R.remaining input) result }
+    ensures { EndsScript (language C C.sized C.size (min C.bytes 4096) C.bits C.longest C.requests) T.story (R.remaining input) result }
 {
     let mut output = BufWriter::new(alloc, output).map_err(|_| Fault::OutOfMemory)?;
     let outcome = play_read::<C, T, R, BufWriter<W>>(alloc, telling, input, &mut output);

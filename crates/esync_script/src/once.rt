@@ -1,11 +1,11 @@
 //! The words of a value that is set once.
 use crate::capacity::Size;
+use crate::numbers::{Numbered, numbered};
 use crate::scripted::Scripted;
-use esync_cells::once_lock::machine::{Get, OnceCall, OnceHeard, OnceRun};
+use esync_cells::once_lock::machine::{Get, OnceCall, OnceHeard};
 use esync_cells::once_lock::{InitError, OnceState};
-use esync_machine::requests::Requests;
 use esync_words::printing::print_option;
-use esync_words::vocabulary::{REQS, Vocabulary};
+use esync_words::vocabulary::Vocabulary;
 use esync_words::words::Words;
 use std::io::{self, Write};
 use std::marker::PhantomData;
@@ -65,15 +65,18 @@ impl<C: Size> Vocabulary for OnceWords<C> {
     }
 }
 
-impl<C: Size> Scripted<OnceWords<C>> for OnceRun<u64, u64, REQS, 1> {
+/// A once lock of a value.
+pub type Once<C> = Numbered<OnceState<u64, u64>, C, 1>;
+
+impl<C: Size> Scripted<OnceWords<C>> for Once<C> {
     type First = ();
 
     ghost use Rattle.esync_script.specs.Once.{once_setting};
     ghost use Rattle.esync_script.specs.Setting.{BeginsAs};
 
-    ghost IsNew = { λ first m. BeginsAs (once_setting C.bits) (Self.semantics.object m) (Self.semantics.registrations m) };
+    ghost IsNew = { λ first m. BeginsAs C.requests (once_setting C.bits) (Self.semantics.object m) (Self.semantics.registrations m) };
 
     fn begin(_first: ()) -> Self {
-        Requests::new(OnceState::new())
+        numbered::<_, C, 1>(OnceState::new())
     }
 }

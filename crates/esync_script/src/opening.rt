@@ -15,33 +15,25 @@ ghost use Rattle.esync_words.specs.Words.{one, and_then};
 
 use crate::capacity::{Capacity, MOST, Size};
 use crate::channel::{ChannelWords, Listed, Prioritized};
-use crate::lazy::LazyWords;
-use crate::mutex::MutexWords;
-use crate::once::OnceWords;
+use crate::lazy::{LazyWords, Made};
+use crate::mutex::{MutexWords, Paired};
+use crate::once::{Once, OnceWords};
 use crate::pipe::{PipeWords, Ring};
 use crate::player::Player;
 use crate::pubsub::{PubSubWords, Topic, topic};
 use crate::scripted::serve;
-use crate::semaphore::{FairWords, GreedyWords, Queued};
-use crate::signal::SignalWords;
+use crate::semaphore::{FairWords, Greedy, GreedyWords, Queued};
+use crate::signal::{SignalWords, Signalled};
 use crate::watch::{Counted, WatchWords};
 use crate::zerocopy::{Slotted, ZeroWords};
 use esync_base::kept::Kept;
 use esync_base::limited::Limit;
-use esync_cells::lazy_lock::Given;
-use esync_cells::lazy_lock::machine::LazyRun;
-use esync_cells::once_lock::machine::OnceRun;
-use esync_cells::signal::machine::SignalRun;
-use esync_guards::mutex::Second;
-use esync_guards::mutex::machine::MutexRun;
 use esync_log::log::{LimitedLog, LogStore};
 use esync_machine::run::Machine;
-use esync_permits::semaphore::machine::greedy::GreedyRun;
 use esync_priority::prio::{Kind, Max, Min};
 use esync_words::fault::Fault;
 use esync_words::lines::{ByteSource, Lines};
 use esync_words::play::{Opens, Replies, Telling, open};
-use esync_words::vocabulary::REQS;
 use esync_words::words::Words;
 use std::io::Write;
 use std::marker::Brand;
@@ -125,9 +117,9 @@ fn serve_list<B: Limit, C: Size, P: Player<R, W>, R: ByteSource, W: Write>(
 ) -> Result<(), Fault>
     requires chosen { capacity ≡ B.limit }
     requires few { capacity ≤ 4096 }
-    ensures { PlaysFrom (P.plays player.old player.new) R.longest (channel_setting C.bits (BoundedList ℕ B.limit)) lines.old.number lines.old.left (W.contents output.old) (W.contents output.new) result }
+    ensures { PlaysFrom (P.plays player.old player.new) R.longest C.requests (channel_setting C.bits (BoundedList ℕ B.limit)) lines.old.number lines.old.left (W.contents output.old) (W.contents output.new) result }
 {
-    serve::<ChannelWords<C>, Listed<B>, P, R, W>(player, capacity, lines, output)
+    serve::<ChannelWords<C>, Listed<C, B>, P, R, W>(player, capacity, lines, output)
 }
 
 fn serve_channel<C: Size, P: Player<R, W>, R: ByteSource, W: Write>(
@@ -136,7 +128,7 @@ fn serve_channel<C: Size, P: Player<R, W>, R: ByteSource, W: Write>(
     lines: &mut Lines<R>,
     output: &mut W,
 ) -> Result<(), Fault>
-    ensures { PlaysFrom (P.plays player.old player.new) R.longest (channel_setting C.bits (BoundedList ℕ (C.size capacity))) lines.old.number lines.old.left (W.contents output.old) (W.contents output.new) result }
+    ensures { PlaysFrom (P.plays player.old player.new) R.longest C.requests (channel_setting C.bits (BoundedList ℕ (C.size capacity))) lines.old.number lines.old.left (W.contents output.old) (W.contents output.new) result }
 {
     serve_list::<Brand, C, P, R, W>(player, capacity.places(), lines, output)
 }
@@ -150,9 +142,9 @@ fn serve_bag<B: Limit, C: Size, Q: Kind<u64>, P: Player<R, W>, R: ByteSource, W:
 ) -> Result<(), Fault>
     requires chosen { capacity ≡ B.limit }
     requires few { capacity ≤ 4096 }
-    ensures { PlaysFrom (P.plays player.old player.new) R.longest (channel_setting C.bits (Bag ℕ Q.above B.limit)) lines.old.number lines.old.left (W.contents output.old) (W.contents output.new) result }
+    ensures { PlaysFrom (P.plays player.old player.new) R.longest C.requests (channel_setting C.bits (Bag ℕ Q.above B.limit)) lines.old.number lines.old.left (W.contents output.old) (W.contents output.new) result }
 {
-    serve::<ChannelWords<C>, Prioritized<Q, B>, P, R, W>(player, capacity, lines, output)
+    serve::<ChannelWords<C>, Prioritized<C, Q, B>, P, R, W>(player, capacity, lines, output)
 }
 
 fn serve_priority<C: Size, Q: Kind<u64>, P: Player<R, W>, R: ByteSource, W: Write>(
@@ -161,13 +153,13 @@ fn serve_priority<C: Size, Q: Kind<u64>, P: Player<R, W>, R: ByteSource, W: Writ
     lines: &mut Lines<R>,
     output: &mut W,
 ) -> Result<(), Fault>
-    ensures { PlaysFrom (P.plays player.old player.new) R.longest (channel_setting C.bits (Bag ℕ Q.above (C.size capacity))) lines.old.number lines.old.left (W.contents output.old) (W.contents output.new) result }
+    ensures { PlaysFrom (P.plays player.old player.new) R.longest C.requests (channel_setting C.bits (Bag ℕ Q.above (C.size capacity))) lines.old.number lines.old.left (W.contents output.old) (W.contents output.new) result }
 {
     serve_bag::<Brand, C, Q, P, R, W>(player, capacity.places(), lines, output)
 }
 
 // A script over a fair semaphore with a queue of `B.limit` places.
-fn serve_queue<B: Limit, P: Player<R, W>, R: ByteSource, W: Write>(
+fn serve_queue<B: Limit, C: Size, P: Player<R, W>, R: ByteSource, W: Write>(
     player: &mut P,
     places: usize,
     permits: usize,
@@ -176,9 +168,9 @@ fn serve_queue<B: Limit, P: Player<R, W>, R: ByteSource, W: Write>(
 ) -> Result<(), Fault>
     requires chosen { places ≡ B.limit }
     requires few { places ≤ 4096 }
-    ensures { PlaysFrom (P.plays player.old player.new) R.longest (fair_setting B.limit permits) lines.old.number lines.old.left (W.contents output.old) (W.contents output.new) result }
+    ensures { PlaysFrom (P.plays player.old player.new) R.longest C.requests (fair_setting B.limit permits) lines.old.number lines.old.left (W.contents output.old) (W.contents output.new) result }
 {
-    serve::<FairWords, Queued<B>, P, R, W>(player, (places, permits), lines, output)
+    serve::<FairWords, Queued<C, B>, P, R, W>(player, (places, permits), lines, output)
 }
 
 fn serve_fair<C: Size, P: Player<R, W>, R: ByteSource, W: Write>(
@@ -188,9 +180,9 @@ fn serve_fair<C: Size, P: Player<R, W>, R: ByteSource, W: Write>(
     lines: &mut Lines<R>,
     output: &mut W,
 ) -> Result<(), Fault>
-    ensures { PlaysFrom (P.plays player.old player.new) R.longest (fair_setting (C.size capacity) permits) lines.old.number lines.old.left (W.contents output.old) (W.contents output.new) result }
+    ensures { PlaysFrom (P.plays player.old player.new) R.longest C.requests (fair_setting (C.size capacity) permits) lines.old.number lines.old.left (W.contents output.old) (W.contents output.new) result }
 {
-    serve_queue::<Brand, P, R, W>(player, capacity.places(), permits, lines, output)
+    serve_queue::<Brand, C, P, R, W>(player, capacity.places(), permits, lines, output)
 }
 
 // A script over a pipe of at most `B.limit` bytes.
@@ -202,7 +194,7 @@ fn serve_bytes<B: Limit, C: Size, P: Player<R, W>, R: ByteSource, W: Write>(
 ) -> Result<(), Fault>
     requires chosen { places ≡ B.limit }
     requires few { places ≤ 4096 }
-    ensures { PlaysFrom (P.plays player.old player.new) R.longest (pipe_setting (min C.bytes 4096) B.limit) lines.old.number lines.old.left (W.contents output.old) (W.contents output.new) result }
+    ensures { PlaysFrom (P.plays player.old player.new) R.longest 16 (pipe_setting (min C.bytes 4096) B.limit) lines.old.number lines.old.left (W.contents output.old) (W.contents output.new) result }
 {
     serve::<PipeWords<C, MOST>, Ring<B>, P, R, W>(player, places, lines, output)
 }
@@ -213,7 +205,7 @@ fn serve_pipe<C: Size, P: Player<R, W>, R: ByteSource, W: Write>(
     lines: &mut Lines<R>,
     output: &mut W,
 ) -> Result<(), Fault>
-    ensures { PlaysFrom (P.plays player.old player.new) R.longest (pipe_setting (min C.bytes 4096) (C.size capacity)) lines.old.number lines.old.left (W.contents output.old) (W.contents output.new) result }
+    ensures { PlaysFrom (P.plays player.old player.new) R.longest 16 (pipe_setting (min C.bytes 4096) (C.size capacity)) lines.old.number lines.old.left (W.contents output.old) (W.contents output.new) result }
 {
     serve_bytes::<Brand, C, P, R, W>(player, capacity.places(), lines, output)
 }
@@ -229,9 +221,9 @@ fn serve_value<B: Limit, C: Size, P: Player<R, W>, R: ByteSource, W: Write>(
     requires chosen { receivers ≡ B.limit }
     requires some { 1 ≤ receivers }
     requires few { receivers ≤ 4096 }
-    ensures { PlaysFrom (P.plays player.old player.new) R.longest (watch_setting C.bits B.limit value) lines.old.number lines.old.left (W.contents output.old) (W.contents output.new) result }
+    ensures { PlaysFrom (P.plays player.old player.new) R.longest C.requests (watch_setting C.bits B.limit value) lines.old.number lines.old.left (W.contents output.old) (W.contents output.new) result }
 {
-    serve::<WatchWords<C>, Counted<B>, P, R, W>(player, (receivers, value), lines, output)
+    serve::<WatchWords<C>, Counted<C, B>, P, R, W>(player, (receivers, value), lines, output)
 }
 
 fn serve_watch<C: Size, P: Player<R, W>, R: ByteSource, W: Write>(
@@ -241,7 +233,7 @@ fn serve_watch<C: Size, P: Player<R, W>, R: ByteSource, W: Write>(
     lines: &mut Lines<R>,
     output: &mut W,
 ) -> Result<(), Fault>
-    ensures { PlaysFrom (P.plays player.old player.new) R.longest (watch_setting C.bits (C.size capacity) value) lines.old.number lines.old.left (W.contents output.old) (W.contents output.new) result }
+    ensures { PlaysFrom (P.plays player.old player.new) R.longest C.requests (watch_setting C.bits (C.size capacity) value) lines.old.number lines.old.left (W.contents output.old) (W.contents output.new) result }
 {
     serve_value::<Brand, C, P, R, W>(player, capacity.places(), value, lines, output)
 }
@@ -256,18 +248,18 @@ fn serve_topic<
     W: Write,
 >(
     player: &mut P,
-    machine: Topic<L>,
+    machine: Topic<C, L>,
     first: u64,
     lines: &mut Lines<R>,
     output: &mut W,
 ) -> Result<(), Fault>
     requires subscribers { L.places ≡ 4 }
-    requires object { ⟦<Topic<L> as Machine>⟧.semantics.object machine ≡ new_object (a_new_topic first) }
-    requires registrations { ⟦<Topic<L> as Machine>⟧.semantics.registrations machine ≡ no_lists }
-    ensures { PlaysFrom (P.plays player.old player.new) R.longest (pubsub_setting C.bits L.capacity first) lines.old.number lines.old.left (W.contents output.old) (W.contents output.new) result }
+    requires object { ⟦<Topic<C, L> as Machine>⟧.semantics.object machine ≡ new_object C.requests (a_new_topic first) }
+    requires registrations { ⟦<Topic<C, L> as Machine>⟧.semantics.registrations machine ≡ no_lists }
+    ensures { PlaysFrom (P.plays player.old player.new) R.longest C.requests (pubsub_setting C.bits L.capacity first) lines.old.number lines.old.left (W.contents output.old) (W.contents output.new) result }
 {
     let _ = first;
-    player.play::<PubSubWords<C>, Topic<L>>(machine, lines, output)
+    player.play::<PubSubWords<C>, Topic<C, L>>(machine, lines, output)
 }
 
 // A script over a pub-sub channel of at most `B.limit` messages, the first of which has this number.
@@ -281,10 +273,16 @@ fn serve_log<B: Limit, C: Size, P: Player<R, W>, R: ByteSource, W: Write>(
     requires chosen { capacity ≡ B.limit }
     requires some { 1 ≤ capacity }
     requires few { capacity ≤ 4096 }
-    ensures { PlaysFrom (P.plays player.old player.new) R.longest (pubsub_setting C.bits B.limit first) lines.old.number lines.old.left (W.contents output.old) (W.contents output.new) result }
+    ensures { PlaysFrom (P.plays player.old player.new) R.longest C.requests (pubsub_setting C.bits B.limit first) lines.old.number lines.old.left (W.contents output.old) (W.contents output.new) result }
 {
     let log: LimitedLog<u64, B, MOST, 4> = LimitedLog::new_at(capacity, first);
-    serve_topic::<LimitedLog<u64, B, MOST, 4>, C, P, R, W>(player, topic(log), first, lines, output)
+    serve_topic::<LimitedLog<u64, B, MOST, 4>, C, P, R, W>(
+        player,
+        topic::<C, _>(log),
+        first,
+        lines,
+        output,
+    )
 }
 
 fn serve_pubsub<C: Size, P: Player<R, W>, R: ByteSource, W: Write>(
@@ -294,7 +292,7 @@ fn serve_pubsub<C: Size, P: Player<R, W>, R: ByteSource, W: Write>(
     lines: &mut Lines<R>,
     output: &mut W,
 ) -> Result<(), Fault>
-    ensures { PlaysFrom (P.plays player.old player.new) R.longest (pubsub_setting C.bits (C.size capacity) first) lines.old.number lines.old.left (W.contents output.old) (W.contents output.new) result }
+    ensures { PlaysFrom (P.plays player.old player.new) R.longest C.requests (pubsub_setting C.bits (C.size capacity) first) lines.old.number lines.old.left (W.contents output.old) (W.contents output.new) result }
 {
     serve_log::<Brand, C, P, R, W>(player, capacity.places(), first, lines, output)
 }
@@ -305,9 +303,9 @@ fn serve_zerocopy<C: Size, P: Player<R, W>, R: ByteSource, W: Write>(
     lines: &mut Lines<R>,
     output: &mut W,
 ) -> Result<(), Fault>
-    ensures { PlaysFrom (P.plays player.old player.new) R.longest (zero_setting C.bits (C.size capacity)) lines.old.number lines.old.left (W.contents output.old) (W.contents output.new) result }
+    ensures { PlaysFrom (P.plays player.old player.new) R.longest C.requests (zero_setting C.bits (C.size capacity)) lines.old.number lines.old.left (W.contents output.old) (W.contents output.new) result }
 {
-    serve::<ZeroWords<C>, Slotted, P, R, W>(player, capacity.places(), lines, output)
+    serve::<ZeroWords<C>, Slotted<C>, P, R, W>(player, capacity.places(), lines, output)
 }
 
 // Makes the primitive that line 1 names, and plays the lines behind it.
@@ -317,7 +315,7 @@ fn serve_opening<C: Size, P: Player<R, W>, R: ByteSource, W: Write>(
     lines: &mut Lines<R>,
     output: &mut W,
 ) -> Result<(), Fault>
-    ensures { Plays (language C C.sized C.size (min C.bytes 4096) C.bits R.longest) (P.plays player.old player.new) opening lines.old.number lines.old.left (W.contents output.old) (W.contents output.new) result }
+    ensures { Plays (language C C.sized C.size (min C.bytes 4096) C.bits R.longest C.requests) (P.plays player.old player.new) opening lines.old.number lines.old.left (W.contents output.old) (W.contents output.new) result }
 {
     match opening {
         OpeningOf::Channel(capacity) => serve_channel(player, capacity, lines, output),
@@ -328,34 +326,20 @@ fn serve_opening<C: Size, P: Player<R, W>, R: ByteSource, W: Write>(
             player, capacity, lines, output,
         ),
         OpeningOf::Signal => {
-            serve::<SignalWords<C>, SignalRun<u64, u64, REQS, 1>, P, R, W>(
-                player,
-                (),
-                lines,
-                output,
-            )
+            serve::<SignalWords<C>, Signalled<C>, P, R, W>(player, (), lines, output)
         }
         OpeningOf::Greedy(permits) => {
-            serve::<GreedyWords, GreedyRun<u64, REQS, 1>, P, R, W>(player, permits, lines, output)
+            serve::<GreedyWords, Greedy<C>, P, R, W>(player, permits, lines, output)
         }
         OpeningOf::Fair(capacity, permits) => serve_fair(player, capacity, permits, lines, output),
         OpeningOf::Pipe(capacity) => serve_pipe(player, capacity, lines, output),
         OpeningOf::PubSub(capacity, first) => serve_pubsub(player, capacity, first, lines, output),
-        OpeningOf::Once => {
-            serve::<OnceWords<C>, OnceRun<u64, u64, REQS, 1>, P, R, W>(player, (), lines, output)
-        }
+        OpeningOf::Once => { serve::<OnceWords<C>, Once<C>, P, R, W>(player, (), lines, output) }
         OpeningOf::Lazy(value) => {
-            serve::<LazyWords, LazyRun<u64, Given<u64>, u64, REQS, 1>, P, R, W>(
-                player, value, lines, output,
-            )
+            serve::<LazyWords, Made<C>, P, R, W>(player, value, lines, output)
         }
         OpeningOf::Mutex(value, part) => {
-            serve::<MutexWords<C>, MutexRun<(u64, u64), u64, Second, u64, REQS, 1>, P, R, W>(
-                player,
-                (value, part),
-                lines,
-                output,
-            )
+            serve::<MutexWords<C>, Paired<C>, P, R, W>(player, (value, part), lines, output)
         }
         OpeningOf::Watch(capacity, value) => serve_watch(player, capacity, value, lines, output),
         OpeningOf::Zerocopy(capacity) => serve_zerocopy(player, capacity, lines, output),
@@ -389,7 +373,7 @@ pub fn play_lines<C: Size, T: Telling, R: ByteSource, W: Write>(
     output: &mut W,
 ) -> Result<(), Fault>
     requires { lines.old.number ≡ 0 }
-    ensures { PlaysScript (language C C.sized C.size (min C.bytes 4096) C.bits R.longest) T.story lines.old.left (W.contents output.old) (W.contents output.new) result }
+    ensures { PlaysScript (language C C.sized C.size (min C.bytes 4096) C.bits R.longest C.requests) T.story lines.old.left (W.contents output.old) (W.contents output.new) result }
 {
     match open::<OpeningOf<C>, T, R, W>(telling, lines, output) {
         Ok(opening) => {
@@ -412,7 +396,7 @@ pub fn play_with<C: Size, P: Player<R, W>, R: ByteSource, W: Write>(
     output: &mut W,
 ) -> Result<(), Fault>
     requires { lines.old.number ≡ 0 }
-    ensures { PlaysBehind (language C C.sized C.size (min C.bytes 4096) C.bits R.longest) replies_story (λ was now. P.plays player.old player.new) lines.old.left (W.contents output.old) (W.contents output.new) result }
+    ensures { PlaysBehind (language C C.sized C.size (min C.bytes 4096) C.bits R.longest C.requests) replies_story (λ was now. P.plays player.old player.new) lines.old.left (W.contents output.old) (W.contents output.new) result }
 {
     match open::<OpeningOf<C>, Replies, R, W>(&mut Replies {}, lines, output) {
         Ok(opening) => {

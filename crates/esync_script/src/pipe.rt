@@ -4,7 +4,7 @@ ghost use Rattle.std.specs.Io.KnownBytes.{Appends};
 ghost use Rattle.esync_words.specs.Words.{row};
 ghost use Rattle.esync_script.specs.Pipe.{a_count, ready_text, tried_text};
 
-use crate::capacity::{MOST, Size};
+use crate::capacity::{FEW, MOST, Size};
 use crate::scripted::Scripted;
 use esync_base::extent::Chosen;
 use esync_base::limited::Limit;
@@ -14,17 +14,17 @@ use esync_pipe::bytes::Bytes;
 use esync_pipe::pipe::machine::{PipeAsk, PipeCall, PipeHeard, PipeRowsOver};
 use esync_pipe::pipe::{PipeOver, TryReadError, TryWriteError};
 use esync_words::printing::print_bytes;
-use esync_words::vocabulary::{Place, REQS, Vocabulary};
+use esync_words::vocabulary::{Place, Vocabulary};
 use esync_words::words::Words;
 use std::io::{self, Write};
 use std::marker::PhantomData;
 
 // The greatest number of bytes of a command: as many as the language has, and no more than a row has places.
-fn most<T: Size, const ROW: usize>() -> usize
-    ensures value { result ≡ min T.bytes ROW }
+fn most<C: Size, const ROW: usize>() -> usize
+    ensures value { result ≡ min C.bytes ROW }
     ensures few { result ≤ 4096 }
 {
-    let bytes = T::bytes();
+    let bytes = C::bytes();
     if bytes < ROW { bytes } else { ROW }
 }
 
@@ -72,12 +72,12 @@ fn print_tried<W: Write, const ROW: usize>(
     }
 }
 
-/// The words of a pipe of bytes. A command has at most as many bytes as `T` says, and as a row has places.
-pub struct PipeWords<T: Size, const ROW: usize> {
-    capacities: PhantomData<T>,
+/// The words of a pipe of bytes. A command has at most as many bytes as `C` says, and as a row has places.
+pub struct PipeWords<C: Size, const ROW: usize> {
+    capacities: PhantomData<C>,
 }
 
-impl<T: Size, const ROW: usize> Vocabulary for PipeWords<T, ROW> {
+impl<C: Size, const ROW: usize> Vocabulary for PipeWords<C, ROW> {
     type Ask = PipeAsk<Bytes<ROW>>;
 
     type Call = PipeCall<Bytes<ROW>>;
@@ -87,17 +87,17 @@ impl<T: Size, const ROW: usize> Vocabulary for PipeWords<T, ROW> {
     ghost use Rattle.std.specs.Prelude.{min};
     ghost use Rattle.esync_script.specs.Pipe.{pipe_asks, pipe_calls, pipe_text};
 
-    ghost asks = { pipe_asks (min T.bytes ROW) };
+    ghost asks = { pipe_asks (min C.bytes ROW) };
 
-    ghost calls = { pipe_calls (min T.bytes ROW) };
+    ghost calls = { pipe_calls (min C.bytes ROW) };
 
     ghost text = { pipe_text };
 
     fn ask(name: &str, words: Words<'_>) -> Option<PipeAsk<Bytes<ROW>>> {
         match name {
-            "write" => Some(PipeAsk::Write(read_bytes(words, most::<T, ROW>())?)),
-            "write-all" => Some(PipeAsk::WriteAll(read_bytes(words, most::<T, ROW>())?)),
-            "read" => Some(PipeAsk::Read(read_count(words, most::<T, ROW>())?)),
+            "write" => Some(PipeAsk::Write(read_bytes(words, most::<C, ROW>())?)),
+            "write-all" => Some(PipeAsk::WriteAll(read_bytes(words, most::<C, ROW>())?)),
+            "read" => Some(PipeAsk::Read(read_count(words, most::<C, ROW>())?)),
             "fill" => {
                 words.nothing()?;
                 Some(PipeAsk::Fill)
@@ -108,8 +108,8 @@ impl<T: Size, const ROW: usize> Vocabulary for PipeWords<T, ROW> {
 
     fn call(name: &str, words: Words<'_>) -> Option<PipeCall<Bytes<ROW>>> {
         match name {
-            "try-write" => Some(PipeCall::TryWrite(read_bytes(words, most::<T, ROW>())?)),
-            "try-read" => Some(PipeCall::TryRead(read_count(words, most::<T, ROW>())?)),
+            "try-write" => Some(PipeCall::TryWrite(read_bytes(words, most::<C, ROW>())?)),
+            "try-read" => Some(PipeCall::TryRead(read_count(words, most::<C, ROW>())?)),
             "try-fill" => {
                 words.nothing()?;
                 Some(PipeCall::TryFill)
@@ -158,10 +158,10 @@ impl<T: Size, const ROW: usize> Vocabulary for PipeWords<T, ROW> {
     }
 }
 
-/// A pipe of at most `B.limit` bytes.
-pub type Ring<B> = Requests<PipeRowsOver<LimitedRing<B, MOST>, u64, MOST>, REQS, 2>;
+/// A pipe of at most `B.limit` bytes. In each language it has 16 requests, since each has a row of bytes.
+pub type Ring<B> = Requests<PipeRowsOver<LimitedRing<B, MOST>, u64, MOST>, FEW, 2>;
 
-impl<T: Size, B: Limit> Scripted<PipeWords<T, MOST>> for Ring<B> {
+impl<C: Size, B: Limit> Scripted<PipeWords<C, MOST>> for Ring<B> {
     /// How many bytes there is room for.
     type First = usize;
 
@@ -171,7 +171,7 @@ impl<T: Size, B: Limit> Scripted<PipeWords<T, MOST>> for Ring<B> {
 
     ghost CanBegin = { λ places. (places ≡ B.limit) × (places ≤ 4096) };
 
-    ghost IsNew = { λ places m. BeginsAs (pipe_setting (min T.bytes 4096) B.limit) (Self.semantics.object m) (Self.semantics.registrations m) };
+    ghost IsNew = { λ places m. BeginsAs 16 (pipe_setting (min C.bytes 4096) B.limit) (Self.semantics.object m) (Self.semantics.registrations m) };
 
     fn begin(places: usize) -> Self {
         let ring = LimitedRing::over(Chosen::new(places));

@@ -5,14 +5,14 @@ ghost use Rattle.esync_script.specs.PubSub.{a_new_topic, no_lists, read_text};
 ghost use Rattle.esync_script.specs.Setting.{new_object};
 
 use crate::capacity::Size;
+use crate::numbers::{Numbered, numbered};
 use esync_base::waitqueue::Wakes;
 use esync_log::log::LogStore;
-use esync_machine::requests::Requests;
 use esync_machine::run::Machine;
 use esync_pubsub::pubsub::machine::{Events, PubSubAsk, PubSubCall, PubSubHeard};
 use esync_pubsub::pubsub::{Error, TryPublishError, WaitResult};
 use esync_words::printing::print_option;
-use esync_words::vocabulary::{Place, REQS, Vocabulary};
+use esync_words::vocabulary::{NAMES, Place, Vocabulary};
 use esync_words::words::Words;
 use std::io::{self, Write};
 use std::marker::PhantomData;
@@ -136,17 +136,17 @@ fn print_ready<W: Write>(answer: &WaitResult<u64>, output: &mut W) -> io::Result
 }
 
 /// A pub-sub channel over this log, with four places for subscribers and four for publishers.
-pub type Topic<L> = Requests<Events<L, Wakes<u64, 4>, Wakes<u64, 4>, REQS>, REQS, 4>;
+pub type Topic<C, L> = Numbered<Events<L, Wakes<u64, 4>, Wakes<u64, 4>, NAMES>, C, 4>;
 
 /// Returns a pub-sub channel over this log, which has no messages and no subscribers.
 ///
 /// A topic isn't `Scripted`: over an open log it can't be shown that the machine which `serve` makes fits in memory.
-pub fn topic<L: LogStore<Message = u64>>(log: L) -> Topic<L>
+pub fn topic<C: Size, L: LogStore<Message = u64>>(log: L) -> Topic<C, L>
     requires messages { 1 ≤ L.capacity }
     requires subscribers { L.places ≡ 4 }
     requires empty { L.log log ≡ record { held = []; next = (L.log log).next; positions = replicate L.places None } }
-    ensures object { ⟦<Topic<L> as Machine>⟧.semantics.object result ≡ new_object (a_new_topic (L.log log).next) }
-    ensures registrations { ⟦<Topic<L> as Machine>⟧.semantics.registrations result ≡ no_lists }
+    ensures object { ⟦<Topic<C, L> as Machine>⟧.semantics.object result ≡ new_object C.requests (a_new_topic (L.log log).next) }
+    ensures registrations { ⟦<Topic<C, L> as Machine>⟧.semantics.registrations result ≡ no_lists }
 {
-    Requests::new(Events::over(log))
+    numbered::<_, C, 4>(Events::over(log))
 }

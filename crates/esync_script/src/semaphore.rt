@@ -4,16 +4,15 @@ ghost use Rattle.std.specs.Io.KnownBytes.{Appends};
 ghost use Rattle.esync_words.specs.Text.{option_text};
 ghost use Rattle.esync_script.specs.Semaphore.{permit_asks, permit_calls};
 
-use crate::capacity::MOST;
+use crate::capacity::{MOST, Size};
+use crate::numbers::{Numbered, numbered};
 use crate::scripted::Scripted;
 use esync_base::limited::Limit;
-use esync_machine::requests::Requests;
 use esync_permits::queue::{LimitedQueue, Queue};
-use esync_permits::semaphore::machine::greedy::GreedyRun;
 use esync_permits::semaphore::machine::{PermitCall, PermitHeard};
 use esync_permits::semaphore::{Amount, FairOver, GreedyState, WaitQueueFull};
 use esync_words::printing::print_option;
-use esync_words::vocabulary::{Place, REQS, Vocabulary};
+use esync_words::vocabulary::{Place, Vocabulary};
 use esync_words::words::Words;
 use std::io::{self, Write};
 
@@ -156,24 +155,27 @@ impl Vocabulary for FairWords {
     }
 }
 
-impl Scripted<GreedyWords> for GreedyRun<u64, REQS, 1> {
+/// A greedy semaphore.
+pub type Greedy<C> = Numbered<GreedyState<u64>, C, 1>;
+
+impl<C: Size> Scripted<GreedyWords> for Greedy<C> {
     /// The number of permits at first.
     type First = usize;
 
     ghost use Rattle.esync_script.specs.Semaphore.{greedy_setting};
     ghost use Rattle.esync_script.specs.Setting.{BeginsAs};
 
-    ghost IsNew = { λ permits m. BeginsAs (greedy_setting permits) (Self.semantics.object m) (Self.semantics.registrations m) };
+    ghost IsNew = { λ permits m. BeginsAs C.requests (greedy_setting permits) (Self.semantics.object m) (Self.semantics.registrations m) };
 
     fn begin(permits: usize) -> Self {
-        Requests::new(GreedyState::new(permits))
+        numbered::<_, C, 1>(GreedyState::new(permits))
     }
 }
 
 /// A fair semaphore with a queue of `B.limit` places.
-pub type Queued<B> = Requests<FairOver<LimitedQueue<Queue<u64, MOST>, B>>, REQS, 1>;
+pub type Queued<C, B> = Numbered<FairOver<LimitedQueue<Queue<u64, MOST>, B>>, C, 1>;
 
-impl<B: Limit> Scripted<FairWords> for Queued<B> {
+impl<C: Size, B: Limit> Scripted<FairWords> for Queued<C, B> {
     /// The number of places in the queue, and the number of permits at first.
     type First = (usize, usize);
 
@@ -183,9 +185,9 @@ impl<B: Limit> Scripted<FairWords> for Queued<B> {
 
     ghost CanBegin = { λ first. (first.0 ≡ B.limit) × (first.0 ≤ 4096) };
 
-    ghost IsNew = { λ first m. BeginsAs (fair_setting B.limit first.1) (Self.semantics.object m) (Self.semantics.registrations m) };
+    ghost IsNew = { λ first m. BeginsAs C.requests (fair_setting B.limit first.1) (Self.semantics.object m) (Self.semantics.registrations m) };
 
     fn begin((places, permits): (usize, usize)) -> Self {
-        Requests::new(FairOver::over(permits, LimitedQueue::new(places)))
+        numbered::<_, C, 1>(FairOver::over(permits, LimitedQueue::new(places)))
     }
 }

@@ -1,11 +1,11 @@
 //! The words of a signal.
 use crate::capacity::Size;
+use crate::numbers::{Numbered, numbered};
 use crate::scripted::Scripted;
 use esync_cells::signal::SignalState;
-use esync_cells::signal::machine::{SignalCall, SignalHeard, SignalRun, Wait};
-use esync_machine::requests::Requests;
+use esync_cells::signal::machine::{SignalCall, SignalHeard, Wait};
 use esync_words::printing::print_option;
-use esync_words::vocabulary::{Place, REQS, Vocabulary};
+use esync_words::vocabulary::{Place, Vocabulary};
 use esync_words::words::Words;
 use std::io::{self, Write};
 use std::marker::PhantomData;
@@ -68,15 +68,18 @@ impl<C: Size> Vocabulary for SignalWords<C> {
     }
 }
 
-impl<C: Size> Scripted<SignalWords<C>> for SignalRun<u64, u64, REQS, 1> {
+/// A signal of a value.
+pub type Signalled<C> = Numbered<SignalState<u64, u64>, C, 1>;
+
+impl<C: Size> Scripted<SignalWords<C>> for Signalled<C> {
     type First = ();
 
     ghost use Rattle.esync_script.specs.Setting.{BeginsAs};
     ghost use Rattle.esync_script.specs.Signal.{signal_setting};
 
-    ghost IsNew = { λ first m. BeginsAs (signal_setting C.bits) (Self.semantics.object m) (Self.semantics.registrations m) };
+    ghost IsNew = { λ first m. BeginsAs C.requests (signal_setting C.bits) (Self.semantics.object m) (Self.semantics.registrations m) };
 
     fn begin(_first: ()) -> Self {
-        Requests::new(SignalState::new())
+        numbered::<_, C, 1>(SignalState::new())
     }
 }

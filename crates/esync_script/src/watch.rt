@@ -3,15 +3,15 @@ ghost use Rattle.std.specs.Prelude.{◌≡◌};
 ghost use Rattle.esync_script.specs.Watch.{watch_asks, watch_reads};
 
 use crate::capacity::{MOST, Size};
+use crate::numbers::{Numbered, numbered};
 use crate::scripted::Scripted;
 use esync_base::limited::{Limit, LimitedList};
 use esync_base::waitqueue::Wakes;
 use esync_cells::watch::machine::{Await, Reading, WatchCall, WatchHeard, Watched};
 use esync_cells::watch::{Change, Judge};
-use esync_machine::requests::Requests;
 use esync_words::bits::Bits;
 use esync_words::printing::print_option;
-use esync_words::vocabulary::{Place, REQS, Vocabulary};
+use esync_words::vocabulary::{NAMES, Place, Vocabulary};
 use esync_words::words::Words;
 use std::io::{self, Write};
 use std::marker::PhantomData;
@@ -179,13 +179,13 @@ impl<C: Size> Vocabulary for WatchWords<C> {
 }
 
 /// A watch of at most `B.limit` counted receivers.
-pub type Counted<B> = Requests<
-    Watched<u64, LimitedList<Wakes<u64, MOST>, B>, Adds, Below, REQS>,
-    REQS,
+pub type Counted<C, B> = Numbered<
+    Watched<u64, LimitedList<Wakes<u64, MOST>, B>, Adds, Below, NAMES>,
+    C,
     MOST,
 >;
 
-impl<C: Size, B: Limit> Scripted<WatchWords<C>> for Counted<B> {
+impl<C: Size, B: Limit> Scripted<WatchWords<C>> for Counted<C, B> {
     /// How many receivers can be counted, and the value at first, if there is one.
     type First = (usize, Option<u64>);
 
@@ -195,9 +195,9 @@ impl<C: Size, B: Limit> Scripted<WatchWords<C>> for Counted<B> {
 
     ghost CanBegin = { λ first. (first.0 ≡ B.limit) × (1 ≤ first.0) × (first.0 ≤ 4096) };
 
-    ghost IsNew = { λ first m. BeginsAs (watch_setting C.bits B.limit first.1) (Self.semantics.object m) (Self.semantics.registrations m) };
+    ghost IsNew = { λ first m. BeginsAs C.requests (watch_setting C.bits B.limit first.1) (Self.semantics.object m) (Self.semantics.registrations m) };
 
     fn begin((receivers, value): (usize, Option<u64>)) -> Self {
-        Requests::new(Watched::over(LimitedList::new(receivers), value, 0))
+        numbered::<_, C, MOST>(Watched::over(LimitedList::new(receivers), value, 0))
     }
 }

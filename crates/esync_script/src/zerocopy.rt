@@ -4,10 +4,10 @@ ghost use Rattle.std.specs.Io.KnownBytes.{Appends};
 ghost use Rattle.esync_script.specs.Zerocopy.{lent_text};
 
 use crate::capacity::{MOST, Size};
+use crate::numbers::{Numbered, numbered};
 use crate::scripted::Scripted;
 use arrayvec::ArrayVec;
-use esync_machine::requests::Requests;
-use esync_words::vocabulary::{Place, REQS, Vocabulary};
+use esync_words::vocabulary::{Place, Vocabulary};
 use esync_words::words::Words;
 use esync_zerocopy::zerocopy_channel::machine::{Lent, ZeroCall, ZeroHeard};
 use esync_zerocopy::zerocopy_channel::{RowState, Side, SlotLent};
@@ -110,9 +110,9 @@ fn zeros<const N: usize>(count: usize) -> ArrayVec<u64, N>
 }
 
 /// A zero-copy channel whose slots stand in the state itself.
-pub type Slotted = Requests<RowState<ArrayVec<u64, MOST>, u64>, REQS, 1>;
+pub type Slotted<C> = Numbered<RowState<ArrayVec<u64, MOST>, u64>, C, 1>;
 
-impl<C: Size> Scripted<ZeroWords<C>> for Slotted {
+impl<C: Size> Scripted<ZeroWords<C>> for Slotted<C> {
     /// The number of slots.
     type First = usize;
 
@@ -122,9 +122,9 @@ impl<C: Size> Scripted<ZeroWords<C>> for Slotted {
 
     ghost CanBegin = { λ slots. (0 < slots) × (slots ≤ 4096) };
 
-    ghost IsNew = { λ slots m. BeginsAs (zero_setting C.bits slots) (Self.semantics.object m) (Self.semantics.registrations m) };
+    ghost IsNew = { λ slots m. BeginsAs C.requests (zero_setting C.bits slots) (Self.semantics.object m) (Self.semantics.registrations m) };
 
     fn begin(slots: usize) -> Self {
-        Requests::new(RowState::new(zeros(slots)))
+        numbered::<_, C, 1>(RowState::new(zeros(slots)))
     }
 }

@@ -3,19 +3,20 @@ use crate::over;
 use esync_forms::form::{Doors, Form, NUMBERS, Places, turn};
 use esync_machine::primitive::Command;
 use esync_notes::Notes;
+use esync_script::capacity::FEW;
 use esync_script::opening::Opening;
 use esync_words::fault::Fault;
 use esync_words::lines::SHORT;
 use esync_words::play::Opens;
 use esync_words::printing::print_reply;
-use esync_words::vocabulary::{REQS, Vocabulary, read_command};
+use esync_words::vocabulary::{Vocabulary, read_command};
 use esync_words::words::Words;
 use std::alloc::Global;
 use std::io::Write;
 use std::sync::Wait;
 
-// A form has as many numbers as a script.
-const _: () = prove!(NUMBERS == REQS);
+// A form has as many numbers as a script of `syncrun`.
+const _: () = prove!(NUMBERS == FEW);
 
 /// The lines of a script that are left, with their numbers.
 #[derive(Drop)]

@@ -87,7 +87,7 @@ pub record Noted : Type 0 where
 
 -- the note of line 1: no request waits
 abbrev pub noted_first : List ℕ → Noted
-noted_first line = record { name = line; waits = replicate 16 None }
+noted_first line = record { name = line; waits = replicate 64 None }
 
 -- a poll that is answered Pending waits, with its waker
 abbrev pub waker_if_pending : {A : Type 0} → ℕ → Answer A → Option ℕ

@@ -1,10 +1,11 @@
 //! Copies of machines.
 ghost use Rattle.std.specs.Prelude.{IfOk};
 
+use esync_base::extent::Extent;
 use esync_base::kept::Kept;
 use esync_machine::primitive::Primitive;
-use esync_machine::requests::Requests;
-use esync_machine::run::{Keep, Machine};
+use esync_machine::requests::RequestsOver;
+use esync_machine::run::Machine;
 use std::alloc::AllocError;
 
 /// A machine that can be copied: a trial on the copy leaves the machine itself unchanged.
@@ -14,17 +15,28 @@ pub trait Copied: Sized {
 
     fn copied(&self) -> Result<Self, AllocError>
         ensures { IfOk result (λ copy. IsCopy copy self.now) };
+
+    /// Returns whether something stands at the number.
+    fn stands(&self, number: usize) -> bool;
 }
 
-impl<P: Primitive<K> + Kept, const REQS: usize, const K: usize> Copied for Requests<P, REQS, K>
+impl<P: Primitive<K> + Kept, E: Extent, const ROOM: usize, const K: usize> Copied
+    for RequestsOver<P, E, ROOM, K>
 where
     P::Held: Copy,
 {
     ghost use Rattle.esync_machine.specs.Histories.{IsLike};
 
-    ghost IsCopy = { IsLike ⟦<Requests<P, REQS, K> as Machine>⟧.semantics };
+    ghost IsCopy = { IsLike ⟦<RequestsOver<P, E, ROOM, K> as Machine>⟧.semantics };
 
     fn copied(&self) -> Result<Self, AllocError> {
-        self.keep()
+        self.kept()
+    }
+
+    fn stands(&self, number: usize) -> bool {
+        match self.requests().get(number) {
+            Some(place) => place.is_some(),
+            None => false,
+        }
     }
 }

@@ -25,7 +25,7 @@ struct Standing {
     waker: u64,
 }
 
-// The wakers that are registered, place by place. No primitive of a script has room for more than 8 wakers.
+// The wakers that are registered, place by place: the first of them, where there are more than a row has room for.
 #[derive(Drop)]
 struct Standings {
     row: ArrayVec<Standing, REQS>,
@@ -324,8 +324,10 @@ where
     ensures { IfErr result (λ fault. IsJudged (Err fault) → ⊥) }
 {
     for r in 0..REQS {
-        let reply = reply_of::<V, M>(machine, Command::Poll(r, NOBODY))?;
-        note_request::<V, N>(r, reply.answer(), notes)?;
+        if machine.stands(r) {
+            let reply = reply_of::<V, M>(machine, Command::Poll(r, NOBODY))?;
+            note_request::<V, N>(r, reply.answer(), notes)?;
+        }
     }
     Ok(())
 }

@@ -9,8 +9,11 @@ use crate::words::Words;
 use esync_machine::primitive::Command;
 use std::io::{self, Write};
 
-/// How many requests a script can have at a time: their numbers are below this.
-pub const REQS: usize = 16;
+/// The greatest number of requests that a script of any language can have at a time.
+pub const REQS: usize = 64;
+
+/// How many subscribers, publishers or receivers a script can have at a time: their numbers are below this.
+pub const NAMES: usize = 16;
 
 /// A place at which wakers are registered, in the words of an explanation.
 #[derive(Clone, Copy, Debug, PartialEq, Eq)]

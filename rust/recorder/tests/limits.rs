@@ -7,6 +7,7 @@ use std::thread;
 use critical_section as _;
 use embassy_sync::blocking_mutex::raw::{CriticalSectionRawMutex, NoopRawMutex};
 use recorder::channel::Channel;
+use recorder::mutex::Mutex;
 use recorder::once_lock::OnceLock;
 use recorder::pipe::{Pipe, TryWriteError};
 use recorder::priority_channel::{Max, PriorityChannel};
@@ -92,18 +93,55 @@ fn a_pipe_of_the_greatest_capacity() {
     keep("each_pipe_of_4096_bytes", &pipe.run());
 }
 
+/// Compares a run that has stopped behind the start of so many requests.
+#[track_caller]
+fn expect_stop_at_numbers(run: &Run, count: usize) {
+    assert_eq!(run.text.lines().filter(|line| line.starts_with("start ")).count(), count);
+    assert_eq!(run.stop, Some(Stop::Numbers));
+}
+
+#[test]
+fn forty_requests_at_a_time() {
+    let mutex: Mutex<NoopRawMutex, u8> = Mutex::new(1);
+    let guard = mutex.try_lock().expect("nobody has locked it");
+    let task = Task::new();
+    let mut locks: Vec<_> = (0..40).map(|_| mutex.lock()).collect();
+    for lock in &mut locks {
+        assert!(matches!(task.poll(lock), Pending));
+    }
+    drop(guard);
+    assert!(matches!(task.poll(&mut locks[39]), Ready(_)));
+    assert_eq!(mutex.run().stop, None);
+    keep("each_of_40_requests", &mutex.run());
+}
+
 #[test]
 fn more_requests_than_numbers() {
     let channel: Channel<NoopRawMutex, u8, 1> = Channel::new();
     let one = Task::new();
-    let mut receives: Vec<_> = (0..17).map(|_| channel.receive()).collect();
-    assert_eq!(one.poll(&mut receives[16]), Pending);
+    let mut receives: Vec<_> = (0..65).map(|_| channel.receive()).collect();
+    assert_eq!(one.poll(&mut receives[64]), Pending);
     assert_eq!(channel.try_send(1), Ok(()));
-    assert_eq!((one.take_wakes(), one.poll(&mut receives[16])), (1, Ready(1)));
-    let starts: String = (0..16).map(|number| format!("start {number} receive => Ok | -\n")).collect();
-    let text = format!("channel 1\n{starts}# stopped at more than 16 requests, or handles of a kind, at a time\n");
+    assert_eq!((one.take_wakes(), one.poll(&mut receives[64])), (1, Ready(1)));
+    let starts: String = (0..64).map(|number| format!("start {number} receive => Ok | -\n")).collect();
+    let text = format!(
+        "channel 1\n{starts}# stopped at more than 64 requests, 16 of a pipe, or 16 handles of a kind at a time\n"
+    );
     expect_stop(&channel.run(), Stop::Numbers, &text);
     keep("stop_at_requests", &channel.run());
+}
+
+#[test]
+fn more_requests_of_a_pipe_than_numbers() {
+    let pipe: Pipe<NoopRawMutex, 1> = Pipe::new();
+    let mut rows = [[0]; 17];
+    let task = Task::new();
+    let mut reads: Vec<_> = rows.iter_mut().map(|row| pipe.read(row)).collect();
+    for read in &mut reads {
+        assert_eq!(task.poll(read), Pending);
+    }
+    expect_stop_at_numbers(&pipe.run(), 16);
+    keep("stop_at_requests_of_a_pipe", &pipe.run());
 }
 
 #[test]

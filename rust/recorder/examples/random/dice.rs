@@ -5,8 +5,8 @@ use std::task::{Context, Poll};
 
 use crate::executor::Task;
 
-/// How many futures a program has at a time: with what they leave no more than a run has numbers for.
-const FUTURES: usize = 7;
+/// How many futures a program has at a time, and a wide one: with what they leave no more than most runs have numbers for.
+const FUTURES: (usize, usize) = (7, 40);
 
 /// Numbers that a seed determines, and the tasks that poll.
 pub struct Dice {
@@ -14,12 +14,17 @@ pub struct Dice {
     tasks: [Task; 3],
     /// Whether the program keeps off all that upstream does otherwise.
     pub is_plain: bool,
+    /// Whether the program has many steps and futures.
+    pub is_wide: bool,
 }
 
 impl Dice {
     /// Returns the dice of this seed.
     pub fn new(seed: u64, is_plain: bool) -> Self {
-        Dice { state: seed, tasks: [Task::new(), Task::new(), Task::new()], is_plain }
+        let tasks = [Task::new(), Task::new(), Task::new()];
+        let mut dice = Dice { state: seed, tasks, is_plain, is_wide: false };
+        dice.is_wide = dice.below(8) == 0;
+        dice
     }
 
     /// Returns a number below this one.
@@ -62,36 +67,44 @@ impl Dice {
 type Kept<'a, K> = Pin<Box<dyn Future<Output = K> + 'a>>;
 
 /// Futures that were made and haven't ended, and what they leave.
-pub struct Futures<'a, K>(Vec<Kept<'a, K>>);
+pub struct Futures<'a, K> {
+    kept: Vec<Kept<'a, K>>,
+    room: usize,
+}
 
 impl<'a, K> Futures<'a, K> {
-    /// Returns no futures.
-    pub fn new() -> Self {
-        Futures(Vec::new())
+    /// Returns no futures of a program over these dice.
+    pub fn new(dice: &Dice) -> Self {
+        Futures { kept: Vec::new(), room: if dice.is_wide { FUTURES.1 } else { FUTURES.0 } }
+    }
+
+    /// Returns these, of which no more than this number are kept.
+    pub fn at_most(self, room: usize) -> Self {
+        Futures { room: self.room.min(room), ..self }
     }
 
     /// Returns how many there are.
     pub fn count(&self) -> usize {
-        self.0.len()
+        self.kept.len()
     }
 
     /// Adds the future that this makes, where there is room.
     pub fn add<F: Future<Output = K> + 'a>(&mut self, make: impl FnOnce() -> F) {
-        if self.0.len() < FUTURES {
-            self.0.push(Box::pin(make()));
+        if self.kept.len() < self.room {
+            self.kept.push(Box::pin(make()));
         }
     }
 
     /// Polls one of the futures, and returns what it leaves.
     pub fn poll(&mut self, dice: &mut Dice) -> Option<K> {
-        if self.0.is_empty() {
+        if self.kept.is_empty() {
             return None;
         }
-        let place = dice.place(self.0.len());
-        match self.0[place].as_mut().poll(&mut dice.context()) {
+        let place = dice.place(self.kept.len());
+        match self.kept[place].as_mut().poll(&mut dice.context()) {
             Poll::Pending => None,
             Poll::Ready(left) => {
-                drop(self.0.swap_remove(place));
+                drop(self.kept.swap_remove(place));
                 Some(left)
             }
         }
@@ -99,9 +112,9 @@ impl<'a, K> Futures<'a, K> {
 
     /// Drops one of the futures.
     pub fn end(&mut self, dice: &mut Dice) {
-        if !self.0.is_empty() {
-            let place = dice.place(self.0.len());
-            drop(self.0.swap_remove(place));
+        if !self.kept.is_empty() {
+            let place = dice.place(self.kept.len());
+            drop(self.kept.swap_remove(place));
         }
     }
 }

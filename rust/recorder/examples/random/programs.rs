@@ -61,12 +61,12 @@ pub const PROGRAMS: [Program; 34] = [
 
 /// How many steps a program has.
 fn steps(dice: &mut Dice) -> u64 {
-    20 + dice.below(30)
+    if dice.is_wide { 150 + dice.below(100) } else { 20 + dice.below(30) }
 }
 
 fn channel<const N: usize>(dice: &mut Dice) -> Run {
     let channel: Channel<NoopRawMutex, u64, N> = Channel::new();
-    let mut futures = Futures::new();
+    let mut futures = Futures::new(dice);
     for _ in 0..steps(dice) {
         let message = dice.message();
         match dice.below(15) {
@@ -91,7 +91,7 @@ fn channel<const N: usize>(dice: &mut Dice) -> Run {
 
 fn priority<K: Kind, const N: usize>(dice: &mut Dice) -> Run {
     let channel: PriorityChannel<NoopRawMutex, u64, K, N> = PriorityChannel::new();
-    let mut futures = Futures::new();
+    let mut futures = Futures::new(dice);
     let clears = dice.coin();
     for _ in 0..steps(dice) {
         let message = dice.message();
@@ -122,7 +122,7 @@ fn pipe<const N: usize>(dice: &mut Dice) -> Run {
     }
     let pipe: Pipe<NoopRawMutex, N> = Pipe::new();
     let rows: Vec<Vec<u8>> = (0..steps(dice)).map(|_| dice.bytes(N)).collect();
-    let mut futures = Futures::new();
+    let mut futures = Futures::new(dice).at_most(14);
     for row in &rows {
         match dice.below(11) {
             0 => futures.add(|| {
@@ -152,7 +152,7 @@ fn pipe_ends<const N: usize>(dice: &mut Dice) -> Run {
     {
         let (reader, writer) = pipe.split();
         let (mut reader, mut shown) = (Some(reader), 0);
-        let mut futures = Futures::new();
+        let mut futures = Futures::new(dice).at_most(14);
         for row in &rows {
             match dice.below(9) {
                 0 if reader.is_some() && futures.count() < 5 => {
@@ -204,7 +204,7 @@ async fn read<const N: usize>(
 
 fn signal(dice: &mut Dice) -> Run {
     let signal: Signal<NoopRawMutex, u64> = Signal::new();
-    let mut futures = Futures::new();
+    let mut futures = Futures::new(dice);
     for _ in 0..steps(dice) {
         match dice.below(9) {
             0 | 1 => futures.add(|| {
@@ -231,7 +231,7 @@ enum Guard<'a> {
 
 fn mutex(dice: &mut Dice) -> Run {
     let mutex: Mutex<NoopRawMutex, [u64; 2]> = Mutex::new([1, 2]);
-    let mut futures = Futures::new();
+    let mut futures = Futures::new(dice);
     let mut held = None;
     for _ in 0..steps(dice) {
         match dice.below(8) {
@@ -274,7 +274,7 @@ fn fair<const N: usize>(dice: &mut Dice) -> Run {
 }
 
 fn permits<S: Semaphore + Recorded>(semaphore: &S, dice: &mut Dice, keeps: Keeps) -> Run {
-    let mut futures = Futures::new();
+    let mut futures = Futures::new(dice);
     let mut held = Vec::new();
     for _ in 0..steps(dice) {
         let permits = (keeps.least + dice.below(3)) as usize;
@@ -320,7 +320,7 @@ async fn watch_for<const N: usize>(
 fn watch<const N: usize>(dice: &mut Dice) -> Run {
     let watch: Watch<NoopRawMutex, u64, N> = if dice.coin() { Watch::new() } else { Watch::new_with(dice.message()) };
     let (sender, mut anonymous) = (watch.sender(), watch.anon_receiver());
-    let mut futures = Futures::new();
+    let mut futures = Futures::new(dice);
     let mut receivers: Vec<watch::Receiver<'_, NoopRawMutex, u64, N>> = Vec::new();
     for _ in 0..steps(dice) {
         let message = dice.message();
@@ -366,7 +366,7 @@ fn pubsub<const N: usize>(dice: &mut Dice) -> Run {
     let channel: Channels<N> = PubSubChannel::new();
     let publishers = [channel.publisher().unwrap(), channel.publisher().unwrap()];
     let clears = dice.coin();
-    let mut futures = Futures::new();
+    let mut futures = Futures::new(dice);
     let mut subscribers: Vec<Subscriber<'_, N>> = Vec::new();
     for _ in 0..steps(dice) {
         let message = dice.message();
@@ -429,7 +429,7 @@ fn zerocopy(dice: &mut Dice) -> Run {
     {
         let (sender, receiver) = channel.split();
         let (mut sender, mut receiver) = (Some(sender), Some(receiver));
-        let mut futures = Futures::new();
+        let mut futures = Futures::new(dice);
         for _ in 0..steps(dice) {
             let message = dice.message();
             match dice.below(10) {
@@ -468,7 +468,7 @@ fn try_receive(receiver: &mut Receiver<'_>) {
 fn once(dice: &mut Dice) -> Run {
     let mut lock: OnceLock<u64> = OnceLock::new();
     for _ in 0..3 {
-        let mut futures = Futures::new();
+        let mut futures = Futures::new(dice);
         for _ in 0..steps(dice) / 3 {
             let message = dice.message();
             match dice.below(9) {

@@ -3,8 +3,14 @@ use std::fmt;
 
 /// The greatest capacity of a primitive.
 pub const GREATEST_CAPACITY: usize = 4096;
-/// How many numbers there are for requests with guards and releasers, and for each kind of handle.
-pub const NUMBERS: usize = 16;
+/// How many numbers there are for requests with guards and releasers.
+pub const REQUESTS: usize = 64;
+/// How many numbers there are for requests of a pipe, each of which has a row of bytes.
+pub const PIPE_REQUESTS: usize = 16;
+/// How many numbers there are for each kind of handle.
+pub const NAMES: usize = 16;
+// A row of numbers has room for those of requests, and handles have the first of it.
+const _: () = assert!(NAMES <= REQUESTS);
 /// How many bytes a call of a pipe can name.
 pub const ROW: usize = 4096;
 // A longer buffer of a pipe is named by its first bytes: no more than these can go in or out.
@@ -59,7 +65,12 @@ impl fmt::Display for Stop {
                     "{subscribers} subscribers and {publishers} publishers, where {HANDLES} of each can be recorded"
                 )
             }
-            Stop::Numbers => write!(f, "more than {NUMBERS} requests, or handles of a kind, at a time"),
+            Stop::Numbers => {
+                write!(
+                    f,
+                    "more than {REQUESTS} requests, {PIPE_REQUESTS} of a pipe, or {NAMES} handles of a kind at a time"
+                )
+            }
             Stop::Message(number) => {
                 write!(f, "a message with the number {number}, which isn't in 0..={GREATEST_MESSAGE}")
             }

@@ -7,7 +7,7 @@ use embassy_sync::blocking_mutex::raw::RawMutex;
 use embassy_sync::pipe as upstream;
 pub use embassy_sync::pipe::{TryReadError, TryWriteError};
 
-use super::limits::ROW;
+use super::limits::{PIPE_REQUESTS, ROW};
 use super::name::{Phrase, phrase};
 use super::request::{Answer, Held, Outcome, Ready, Request};
 use super::runs::{Recorded, Run};
@@ -115,7 +115,7 @@ impl<M: RawMutex, const N: usize> Recorded for Pipe<M, N> {
 }
 
 fn head<const N: usize>() -> Head {
-    Head::of_capacity("pipe", N)
+    Head { requests: PIPE_REQUESTS, ..Head::of_capacity("pipe", N) }
 }
 
 /// The end of a [`Pipe`] that writes.

@@ -4,7 +4,7 @@ use std::panic::Location;
 use std::sync::{Arc, Mutex, OnceLock};
 use std::task::{Context, Poll, Waker};
 
-use super::limits::{NUMBERS, Stop};
+use super::limits::{NAMES, REQUESTS, Stop};
 use super::name::{Names, Phrase, phrase};
 use super::runs::{self, Run};
 use super::tasks::Tasks;
@@ -18,6 +18,8 @@ pub struct Head {
     pub rest: Phrase,
     /// Messages are compared by their numbers.
     pub has_order: bool,
+    /// How many requests a run can have at a time.
+    pub requests: usize,
     /// What no run can say of it.
     pub limit: Result<(), Stop>,
 }
@@ -25,7 +27,7 @@ pub struct Head {
 impl Head {
     /// Returns the head of a primitive of this name, behind which `rest` stands.
     pub fn new(kind: &'static str, rest: impl fmt::Display) -> Self {
-        Head { kind, rest: phrase(rest), has_order: false, limit: Ok(()) }
+        Head { kind, rest: phrase(rest), has_order: false, requests: REQUESTS, limit: Ok(()) }
     }
 
     /// Returns the head of a primitive of this name and capacity.
@@ -113,7 +115,8 @@ pub struct Tape {
 struct Page {
     head: String,
     lines: Vec<String>,
-    in_use: [[bool; NUMBERS]; 4],
+    in_use: [[bool; REQUESTS]; 4],
+    requests: usize,
     tasks: Tasks,
     names: Names,
     stop: Option<Stop>,
@@ -124,7 +127,8 @@ impl Page {
         if self.stop.is_some() {
             return None;
         }
-        let places = &mut self.in_use[table as usize];
+        let numbers = if let Table::Requests = table { self.requests } else { NAMES };
+        let places = &mut self.in_use[table as usize][..numbers];
         let Some(place) = places.iter().position(|in_use| !in_use) else {
             self.stop = Some(Stop::Numbers);
             return None;
@@ -167,8 +171,16 @@ impl Tape {
             Err(stop) => (head.kind.to_string(), Some(stop)),
         };
         let stop = head.limit.err().or(unwritten);
-        let page =
-            Page { head: text, lines: Vec::new(), in_use: [[false; NUMBERS]; 4], tasks: Tasks::default(), names, stop };
+        let in_use = [[false; REQUESTS]; 4];
+        let page = Page {
+            head: text,
+            lines: Vec::new(),
+            in_use,
+            requests: head.requests,
+            tasks: Tasks::default(),
+            names,
+            stop,
+        };
         Tape { name, turns: Turns::default(), page: Mutex::new(page) }
     }
 

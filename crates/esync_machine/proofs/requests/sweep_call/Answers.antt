@@ -18,10 +18,10 @@ all_of_it f q now r before all = before ∙ ap (λ n. swept_below f n q) all ∙
 
 pub loop-r-preserved : goal.loop-r-preserved
 loop-r-preserved g c =
-    let below : c.loop-r.r < length c.args.table.now.places = omega arith in
-    one_more (g.P.Primitive.rules.leaves (g.P.Primitive.core c.args.state.now) c.args.call.now) c.args.table.now.places c.loop-r.table.places c.loop-r.r c.index-table-r.result c.sweep_at.new.place c.loop-r.invariant below c.sweep_at.ensures
+    let below : c.loop-r.r < length c.args.places.now = omega arith in
+    one_more (g.P.Primitive.rules.leaves (g.P.Primitive.core c.args.state.now) c.args.call.now) c.args.places.now c.loop-r.places c.loop-r.r c.index-places-r.result c.sweep_at.new.place c.loop-r.invariant below c.sweep_at.ensures
 
 pub returns : goal.returns
 returns g c =
-    let all : c.loop-r.r ≡ length c.args.table.now.places = omega arith in
-    all_of_it (g.P.Primitive.rules.leaves (g.P.Primitive.core c.args.state.now) c.args.call.now) c.args.table.now.places c.loop-r.table.places c.loop-r.r c.loop-r.invariant all
+    let all : c.loop-r.r ≡ length c.args.places.now = omega arith in
+    all_of_it (g.P.Primitive.rules.leaves (g.P.Primitive.core c.args.state.now) c.args.call.now) c.args.places.now c.loop-r.places c.loop-r.r c.loop-r.invariant all

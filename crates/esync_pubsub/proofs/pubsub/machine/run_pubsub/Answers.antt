@@ -1,4 +1,4 @@
-use Rattle.std.proofs.Common.{ℕ}
+use Rattle.std.proofs.Common.{ℕ, rules}
 use Rattle.std.proofs.lemmas.Result.{IfOk-weaker}
 use Rattle.esync_machine.specs.Runs.{GoodRun}
 use Rattle.esync_machine.specs.Object.{requests_meaning}
@@ -40,3 +40,9 @@ returns g c =
 
 pub state-requires : goal.state-requires
 state-requires g c = c.requires-raw.1.1.1.1.1.1.1.1.0
+
+pub run-requires-room-M-Machine-2 : goal.run-requires-room-M-Machine-2
+run-requires-room-M-Machine-2 g c κs within = search rules
+
+pub run-requires-room-M-Reply-Destruct : goal.run-requires-room-M-Reply-Destruct
+run-requires-room-M-Reply-Destruct g c κs within = search rules
