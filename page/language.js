@@ -1,11 +1,11 @@
 // The words of the script language, for hints alone: what a line says is settled by the module.
 //
 // A command is its name and, behind a colon, a letter for each word: k a number, v a value, n a number of bytes, b bytes,
-// c a capacity, 1 the capacity 1; K and V may be missing.
+// c a capacity, 1 the capacity 1, h a number of subscribers or publishers; K, V and H may be missing, and what is behind.
 "use strict";
 
 const OPENINGS =
-  "channel:c max:c min:c pubsub:cK signal:1 greedy:1k fair:ck pipe:c once:1 lazy:1v zerocopy:c mutex:1vv watch:cV";
+  "channel:c max:c min:c pubsub:cKHh signal:1 greedy:1k fair:ck pipe:c once:1 lazy:1v zerocopy:c mutex:1vv watch:cV";
 
 const REQUESTS = "poll:kk end:k";
 
@@ -45,7 +45,7 @@ const LANGUAGE = {
   },
 };
 
-const WORDS = { k: "0", v: "7", n: "1", b: "1,2", c: "2", 1: "1", K: "", V: "" };
+const WORDS = { k: "0", v: "7", n: "1", b: "1,2", c: "2", 1: "1", K: "", V: "", H: "", h: "" };
 
 /** The commands among these, each as its name and the letters of its words. */
 function commandsOf(list) {
@@ -114,6 +114,10 @@ function hintOf(primitive, line) {
     }
     const kind = isOpening ? "primitive" : isAsk ? `request of ${primitive}` : `command of ${primitive}`;
     return `No ${kind} is called ${name}${nearestTo(name, isOpening || isAsk ? commands : [...commands, { name: "start" }])}`;
+  }
+  if (/h/.test(known.letters) && isOpening) {
+    const more = `${sampleOf(known)} 0 4 4`;
+    return `It is written as ${sampleOf(known)}, with a capacity of 1 to 4096, or as ${more}, with the first message's number and 0 to 16 subscribers and publishers.`;
   }
   if (/c/.test(known.letters) && isOpening) {
     return `It is written as ${sampleOf(known)}, with a capacity of 1 to 4096.`;

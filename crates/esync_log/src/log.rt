@@ -5,6 +5,7 @@ ghost use Rattle.std.specs.Option.{option_copied};
 ghost use Rattle.esync_log.specs.Counts.{readers_of};
 ghost use Rattle.esync_log.specs.Log.{IsLeastFree, oldest, has_subscribers, last_number, published, with_room, is_last, settled, moved, is_live, position, left, cleared, Joins, Publishes, PublishesAtOnce, ClonesAt, MayFailAt, Takes, IsRefused, Reads, ReadsOn, caught, found};
 
+use esync_base::extent::{Extent, Fixed};
 use held::Held;
 pub use limited::LimitedLog;
 use std::alloc::AllocError;
@@ -45,41 +46,72 @@ pub enum WaitResult<T> {
     Message(T),
 }
 
-// The number that each subscriber reads next, at its place.
-#[derive(Debug, Drop)]
-struct Positions<const SUBS: usize> {
-    row: [Option<u64>; SUBS],
+// The number that each subscriber reads next, at its place. `E` says how many places there are, for which the row has
+// `ROOM`.
+#[derive_where(Debug; E: fmt::Debug)]
+#[derive(Drop)]
+struct Positions<E: Extent, const ROOM: usize> {
+    places: E,
+    row: [Option<u64>; ROOM],
 }
 
-impl<const SUBS: usize> Positions<SUBS> {
-    fn new() -> Self
-        ensures { result.row ≡ replicate SUBS None }
+impl<E: Extent, const ROOM: usize> Model for Positions<E, ROOM> {
+    ghost use Rattle.std.specs.Prelude.{ℕ, List, Option, length, take, ◌≤◌};
+    ghost use Rattle.std.specs.Coded.{coded_ℕ, coded_list, coded_option};
+
+    ghost Value = { List (Option ℕ) };
+
+    ghost coded = { coded_list (coded_option coded_ℕ) };
+
+    ghost view = { λ a. take E.extent a.row };
+
+    ghost invariant = { λ a. E.extent ≤ length a.row };
+}
+
+impl<E: Extent, const ROOM: usize> Positions<E, ROOM> {
+    fn new(places: E) -> Self
+        requires { E.extent ≤ ROOM }
+        ensures { result ≡ replicate E.extent None }
     {
-        Positions { row: [None; SUBS] }
+        Positions {
+            places,
+            row: [None; ROOM],
+        }
+    }
+
+    fn as_slice(&self) -> &[Option<u64>]
+        ensures value { result.now ≡ self.now }
+        ensures room { E.extent ≤ ROOM }
+    {
+        &self.row[..self.places.get()]
     }
 
     fn get(&self, place: usize) -> Option<u64>
-        requires { length self.now.row ≡ SUBS }
-        ensures { result ≡ slice_index_or self.now.row place None }
+        ensures { result ≡ slice_index_or self.now place None }
     {
-        if place < SUBS { self.row[place] } else { None }
+        match self.as_slice().get(place) {
+            Some(position) => *position,
+            None => None,
+        }
     }
 
     fn put(&mut self, place: usize, position: Option<u64>)
-        requires { place < SUBS }
-        ensures { self.new.row ≡ slice_set self.old.row place position }
+        requires { place < E.extent }
+        ensures { self.new ≡ slice_set self.old place position }
     {
-        self.row[place] = position;
+        let row: &mut [Option<u64>] = &mut self.row;
+        row[place] = position;
     }
 
     // The least place without a subscriber.
     fn free_place(&self) -> Option<usize>
-        requires { length self.now.row ≡ SUBS }
-        ensures found { IfSome result (λ place. IsLeastFree place self.now.row) }
-        ensures none { IfNone result (list_all is_some self.now.row ≡ true) }
+        ensures found { IfSome result (λ place. IsLeastFree place self.now) }
+        ensures none { IfNone result (list_all is_some self.now ≡ true) }
+        ensures room { E.extent ≤ ROOM }
     {
-        for place in 0..SUBS {
-            if self.row[place].is_none() {
+        let row = self.as_slice();
+        for place in 0..row.len() {
+            if row[place].is_none() {
                 return Some(place);
             }
         }
@@ -88,16 +120,20 @@ impl<const SUBS: usize> Positions<SUBS> {
 }
 
 /// At most `CAP` messages, and at most `SUBS` subscribers, known by their places.
-#[derive_where(Debug; T: fmt::Debug + Drop)]
+pub type Log<T, const CAP: usize, const SUBS: usize> = LogOver<T, Fixed<SUBS>, CAP, SUBS>;
+
+/// At most `CAP` messages, and subscribers, known by their places. `E` says how many places there are, for which the
+/// log has `ROOM`.
+#[derive_where(Debug; T: fmt::Debug + Drop, E: fmt::Debug)]
 #[derive(Drop)]
-pub struct Log<T, const CAP: usize, const SUBS: usize> {
+pub struct LogOver<T, E: Extent, const CAP: usize, const ROOM: usize> {
     next: u64,
     subscribers: usize,
-    positions: Positions<SUBS>,
+    positions: Positions<E, ROOM>,
     held: Held<T, CAP>,
 }
 
-impl<T, const CAP: usize, const SUBS: usize> Model for Log<T, CAP, SUBS> {
+impl<T, E: Extent, const CAP: usize, const ROOM: usize> Model for LogOver<T, E, CAP, ROOM> {
     ghost use Rattle.esync_log.specs.Log.{Log as Logged, log_code};
     ghost use Rattle.esync_log.specs.Counts.{IsLog};
 
@@ -105,9 +141,9 @@ impl<T, const CAP: usize, const SUBS: usize> Model for Log<T, CAP, SUBS> {
 
     ghost coded = { log_code T.code };
 
-    ghost view = { λ a. record { held = a.held.messages; next = a.next; positions = a.positions.row } };
+    ghost view = { λ a. record { held = a.held.messages; next = a.next; positions = a.positions } };
 
-    ghost invariant = { λ a. IsLog CAP SUBS a.held.messages a.held.counts a.next a.positions.row a.subscribers };
+    ghost invariant = { λ a. IsLog CAP E.extent a.held.messages a.held.counts a.next a.positions a.subscribers };
 }
 
 impl<T: Drop, const CAP: usize, const SUBS: usize> Log<T, CAP, SUBS> {
@@ -116,10 +152,22 @@ impl<T: Drop, const CAP: usize, const SUBS: usize> Log<T, CAP, SUBS> {
         requires { 1 ≤ CAP }
         ensures { result ≡ record { held = []; next = next; positions = replicate SUBS None } }
     {
-        Log {
+        LogOver::over(Fixed {}, next)
+    }
+}
+
+impl<T: Drop, E: Extent, const CAP: usize, const ROOM: usize> LogOver<T, E, CAP, ROOM> {
+    /// Returns a log with so many places, and without messages and subscribers. Its first message gets the number
+    /// `next`.
+    pub fn over(places: E, next: u64) -> Self
+        requires messages { 1 ≤ CAP }
+        requires places { E.extent ≤ ROOM }
+        ensures { result ≡ record { held = []; next = next; positions = replicate E.extent None } }
+    {
+        LogOver {
             held: Held::new(),
             next,
-            positions: Positions::new(),
+            positions: Positions::new(places),
             subscribers: 0,
         }
     }
@@ -196,7 +244,7 @@ impl<T: Drop, const CAP: usize, const SUBS: usize> Log<T, CAP, SUBS> {
     pub fn positions(&self) -> &[Option<u64>]
         ensures { result.now ≡ self.now.positions }
     {
-        &self.positions.row
+        self.positions.as_slice()
     }
 
     /// Returns the number that the next message gets.
@@ -226,7 +274,7 @@ impl<T: Drop, const CAP: usize, const SUBS: usize> Log<T, CAP, SUBS> {
         ensures value { result ≡ position place self.now }
         ensures live { slice_index_or self.now.positions place None ≡ Some result }
         ensures within { result ≤ self.now.next }
-        ensures place { place < SUBS }
+        ensures place { place < E.extent }
     {
         let Some(position) = self.positions.get(place) else {
             unreachable!()
@@ -393,7 +441,7 @@ impl<T: Drop, const CAP: usize, const SUBS: usize> Log<T, CAP, SUBS> {
     }
 }
 
-impl<T: Clone, const CAP: usize, const SUBS: usize> Log<T, CAP, SUBS> {
+impl<T: Clone, E: Extent, const CAP: usize, const ROOM: usize> LogOver<T, E, CAP, ROOM> {
     // Whether only the subscriber at the place has still to read the message at the position.
     fn is_last(&self, place: usize, position: u64) -> bool
         requires live { slice_index_or self.now.positions place None ≡ Some position }
@@ -477,7 +525,7 @@ impl<T: Clone, const CAP: usize, const SUBS: usize> Log<T, CAP, SUBS> {
         ensures ok { IfOk result (λ answer. Reads T.is_clone place self.old answer self.new) }
         ensures refused { OnErr result (IsRefused T.is_infallible place (position place self.old) self.old) }
         ensures err { OnErr result (self.new ≡ self.old) }
-        ensures place { place < SUBS }
+        ensures place { place < E.extent }
     {
         let position = self.position(place);
         let oldest = self.oldest();
@@ -498,7 +546,7 @@ impl<T: Clone, const CAP: usize, const SUBS: usize> Log<T, CAP, SUBS> {
         ensures ok { IfOk result (λ answer. ReadsOn T.is_clone place self.old answer self.new) }
         ensures refused { OnErr result (IsRefused T.is_infallible place (position place (caught place self.old)) self.old) }
         ensures err { OnErr result (self.new ≡ self.old) }
-        ensures place { place < SUBS }
+        ensures place { place < E.extent }
     {
         let position = self.position(place);
         let oldest = self.oldest();

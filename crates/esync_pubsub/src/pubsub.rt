@@ -124,27 +124,28 @@ impl<G: FixedLog, S: FixedList, P: FixedList<Waker = S::Waker>> PubSubOver<G, S,
         requires wakers { G.places ≤ S.room }
         ensures { result ≡ fresh G.places next }
     {
-        PubSubOver::over(G::new_at(next))
-    }
-}
-
-impl<G: LogStore, S: FixedList, P: FixedList<Waker = S::Waker>> PubSubOver<G, S, P> {
-    /// Returns a channel with the messages and subscribers of the log, without publishers or wakers.
-    pub fn over(log: G) -> Self
-        requires { G.places ≤ S.room }
-        ensures { result ≡ record { log = G.log log; publishers = 0; lists = record { subscribers = []; publishers = [] } } }
-    {
-        PubSubOver {
-            publishers: 0,
-            subscriber_wakers: WakerRegistrations::new(),
-            publisher_wakers: WakerRegistrations::new(),
-            message: PhantomData,
-            log,
-        }
+        PubSubOver::over(G::new_at(next), S::new(), P::new())
     }
 }
 
 impl<G: LogStore, S: WakerList, P: WakerList<Waker = S::Waker>> PubSubOver<G, S, P> {
+    /// Returns a channel with the messages and subscribers of the log, without publishers, and with these lists for the
+    /// wakers of subscribers and of publishers. No waker may be in them.
+    pub fn over(log: G, subscribers: S, publishers: P) -> Self
+        requires places { G.places ≤ S.room }
+        requires subscribers { S.wakers subscribers ≡ [] }
+        requires publishers { P.wakers publishers ≡ [] }
+        ensures { result ≡ record { log = G.log log; publishers = 0; lists = record { subscribers = []; publishers = [] } } }
+    {
+        PubSubOver {
+            publishers: 0,
+            subscriber_wakers: WakerRegistrations::over(subscribers),
+            publisher_wakers: WakerRegistrations::over(publishers),
+            message: PhantomData,
+            log,
+        }
+    }
+
     /// Returns the log of the messages.
     pub fn log(&self) -> &G
         ensures { G.log result.now ≡ self.now.log }

@@ -1,5 +1,6 @@
--- The capacities that line 1 of a script can say.
-use Rattle.std.specs.Prelude.{ℕ, ◌==◌, nat_lt, Option, Some, None, if◌then◌else◌}
+-- The numbers that line 1 of a script can say: of places, of subscribers and of publishers.
+use Rattle.std.specs.Prelude.{ℕ, ◌==◌, nat_lt, Option, Some, None, if◌then◌else◌, refl}
+use Rattle.std.specs.Coded.{Coded, code_by, coded×, coded_ℕ}
 use Rattle.esync_script.specs.declared.capacity.Capacity.{Capacity}
 use Rattle.esync_script.specs.declared.capacity.Capacity.TheVariants.{One, Two, Three, Four, Eight}
 
@@ -24,3 +25,22 @@ places Eight = 8
 -- the capacity that any other script says by this number
 abbrev pub any_capacity : ℕ → Option ℕ
 any_capacity n = if nat_lt n 1 then None else if nat_lt 4096 n then None else Some n
+
+-- how many subscribers, and how many publishers, a pub-sub channel may have
+pub record Handles : Type 0 where
+  pub subscribers : ℕ
+  pub publishers : ℕ
+
+abbrev pub handles_code : Coded Handles
+handles_code = code_by (ℕ × ℕ) (coded× coded_ℕ coded_ℕ) (λ h. (h.subscribers, h.publishers)) (λ p. record { subscribers = p.0; publishers = p.1 }) (λ _. refl)
+
+-- the numbers where line 1 says none
+abbrev pub four_and_four : Handles
+four_and_four = record { subscribers = 4; publishers = 4 }
+
+-- the numbers that a script says, which none of `syncrun` can say
+abbrev pub handles : ℕ → ℕ → Option Handles
+handles s p = if nat_lt 16 s then None else if nat_lt 16 p then None else Some (record { subscribers = s; publishers = p })
+
+abbrev pub no_handles : ℕ → ℕ → Option Handles
+no_handles s p = None

@@ -1,6 +1,6 @@
 -- Line 1 of a script, and what is played behind it.
 use Rattle.std.specs.Prelude.{◌≡◌, ℕ, ◌==◌, List, Option, Some, None, ◌⊎◌, Result, Ok, Err, if◌then◌else◌, codes}
-use Rattle.std.specs.Option.{option_map, unwrap_or}
+use Rattle.std.specs.Option.{option_map}
 use Rattle.std.specs.Io.KnownBytes.{Appends}
 use Rattle.std.specs.Ordering.{nat_cmp}
 use Rattle.esync_base.specs.Keeping.{BoundedList}
@@ -11,14 +11,14 @@ use Rattle.esync_priority.specs.Prio.{Bag, greater, less}
 use Rattle.esync_words.specs.declared.fault.Fault.{Fault}
 use Rattle.esync_words.specs.Fault.{status_of}
 use Rattle.esync_words.specs.Words.{is_text, and_then, one, two, number_and_values}
-use Rattle.esync_words.specs.Perhaps.{one_or_two}
+use Rattle.esync_words.specs.Perhaps.{one_or_two, one_two_or_four}
 use Rattle.esync_words.specs.Commands.{says}
 use Rattle.esync_words.specs.Played.{Opened, NotOpened, IsJudged}
 use Rattle.esync_words.specs.Story.{Story}
 use Rattle.esync_script.specs.Player.{plays_and_tells}
 use Rattle.esync_script.specs.Setting.{Setting, PlaysFrom}
 use Rattle.esync_script.specs.declared.capacity.Capacity.{Capacity}
-use Rattle.esync_script.specs.Capacity.{capacity, places, any_capacity}
+use Rattle.esync_script.specs.Capacity.{capacity, places, any_capacity, Handles, four_and_four, handles, no_handles}
 use Rattle.esync_script.specs.declared.opening.OpeningOf.{OpeningOf}
 use Rattle.esync_script.specs.declared.opening.OpeningOf.TheVariants.{Channel, Max, Min, Signal, Greedy, Fair, Pipe, PubSub, Once, Lazy, Mutex, Watch, Zerocopy}
 use Rattle.esync_script.specs.Channel.{channel_setting}
@@ -36,10 +36,18 @@ use Rattle.esync_script.specs.Zerocopy.{zero_setting}
 abbrev pub only_one : {A : Type 0} → A → ℕ → Option A
 only_one x n = if n == 1 then Some x else None
 
+-- The number of a pub-sub channel's first message, and how many subscribers and publishers it may have, by the numbers
+-- behind its capacity: 0, four and four where there are none.
+abbrev pub first_and_handles : (ℕ → ℕ → Option Handles) → Option (ℕ × Option (ℕ × ℕ)) → Option (ℕ × Handles)
+first_and_handles handled None = Some (0, four_and_four)
+first_and_handles handled (Some (first, None)) = Some (first, four_and_four)
+first_and_handles handled (Some (first, Some (s, p))) = option_map (λ h. (first, h)) (handled s p)
+
 module _ {C : Type 0} where
-  -- the primitive that line 1 names, where a number says this capacity, or none, and a value has k bits
-  abbrev pub opening : (ℕ → Option C) → ℕ → List ℕ → List (List ℕ) → Option (OpeningOf C)
-  opening sized k name words =
+  -- The primitive that line 1 names, where a number says this capacity, or none, two numbers say these subscribers and
+  -- publishers, or none, and a value has k bits.
+  abbrev pub opening : (ℕ → Option C) → (ℕ → ℕ → Option Handles) → ℕ → List ℕ → List (List ℕ) → Option (OpeningOf C)
+  opening sized handled k name words =
       if is_text name (codes "channel") then option_map (λ c. Channel c) (and_then (one 64 words) sized)
       else if is_text name (codes "max") then option_map (λ c. Max c) (and_then (one 64 words) sized)
       else if is_text name (codes "min") then option_map (λ c. Min c) (and_then (one 64 words) sized)
@@ -47,7 +55,7 @@ module _ {C : Type 0} where
       else if is_text name (codes "greedy") then and_then (two 64 64 words) (λ p. only_one (Greedy p.1) p.0)
       else if is_text name (codes "fair") then and_then (two 64 64 words) (λ p. option_map (λ c. Fair c p.1) (sized p.0))
       else if is_text name (codes "pipe") then option_map (λ c. Pipe c) (and_then (one 64 words) sized)
-      else if is_text name (codes "pubsub") then and_then (one_or_two 64 64 words) (λ p. option_map (λ c. PubSub c (unwrap_or p.1 0)) (sized p.0))
+      else if is_text name (codes "pubsub") then and_then (one_two_or_four 64 words) (λ p. and_then (first_and_handles handled p.1) (λ t. option_map (λ c. PubSub c t.0 t.1) (sized p.0)))
       else if is_text name (codes "once") then and_then (one 64 words) (only_one Once)
       else if is_text name (codes "lazy") then and_then (two 64 k words) (λ p. only_one (Lazy p.1) p.0)
       else if is_text name (codes "zerocopy") then option_map (λ c. Zerocopy c) (and_then (one 64 words) sized)
@@ -66,7 +74,7 @@ module _ {C : Type 0} where
     setting (Greedy permits) = greedy_setting permits
     setting (Fair c permits) = fair_setting (size c) permits
     setting (Pipe c) = pipe_setting bytes (size c)
-    setting (PubSub c first) = pubsub_setting k (size c) first
+    setting (PubSub c first h) = pubsub_setting k (size c) h first
     setting Once = once_setting k
     setting (Lazy v) = lazy_setting v
     setting (Mutex v x) = mutex_setting k v x
@@ -83,7 +91,7 @@ module _ {C : Type 0} where
   numbers n (Greedy permits) = n
   numbers n (Fair c permits) = n
   numbers n (Pipe c) = 16
-  numbers n (PubSub c first) = n
+  numbers n (PubSub c first h) = n
   numbers n Once = n
   numbers n (Lazy v) = n
   numbers n (Mutex v x) = n
@@ -99,17 +107,18 @@ pub record Language : Type 1 where
   pub longest : ℕ
   pub requests : Opening → ℕ
 
--- the language whose capacities are of the type C: `sized` reads a number as one, `size` is its number of places
-abbrev pub language : (C : Type 0) → (ℕ → Option C) → (C → ℕ) → (bytes bits longest requests : ℕ) → Language
-language C sized size bytes bits longest requests = record { Opening = OpeningOf C; opening = opening sized bits; setting = setting size bytes bits; longest = longest; requests = numbers requests }
+-- the language whose capacities are of the type C: `sized` reads a number as one, `size` is its number of places, and
+-- `handled` reads numbers of subscribers and publishers
+abbrev pub language : (C : Type 0) → (ℕ → Option C) → (C → ℕ) → (ℕ → ℕ → Option Handles) → (bytes bits longest requests : ℕ) → Language
+language C sized size handled bytes bits longest requests = record { Opening = OpeningOf C; opening = opening sized handled bits; setting = setting size bytes bits; longest = longest; requests = numbers requests }
 
 -- the language of `syncrun`
 abbrev pub scripts : Language
-scripts = language Capacity capacity places 16 32 256 16
+scripts = language Capacity capacity places no_handles 16 32 256 16
 
 -- the language of recorded runs, and of every script but those of `syncrun`
 abbrev pub runs : Language
-runs = language ℕ any_capacity (λ c. c) 4096 64 16640 64
+runs = language ℕ any_capacity (λ c. c) handles 4096 64 16640 1024
 
 -- Behind lines that were played, the foot is written. The script's outcome is theirs, unless a write or memory failed.
 abbrev pub Closes : List ℕ → Option (List ℕ) → Option (List ℕ) → Result (Unit {0}) Fault → Result (Unit {0}) Fault → Type 0

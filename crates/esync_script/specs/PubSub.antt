@@ -17,6 +17,7 @@ use Rattle.esync_words.specs.Text.{option_text}
 use Rattle.std.proofs.Math.ListN.{replicate}
 use Rattle.esync_pubsub.specs.PubSub.{Lists}
 use Rattle.esync_pubsub.specs.PubSubRules.{Topic, pubsub_rules, pubsub_wakings}
+use Rattle.esync_script.specs.Capacity.{Handles}
 use Rattle.esync_script.specs.Setting.{Setting, setting_of, IsSame, NeedsNone}
 
 abbrev pub pubsub_asks : ℕ → List ℕ → List (List ℕ) → Option (PubSubAsk ℕ)
@@ -69,10 +70,11 @@ pubsub_text (TriedPure found) = option_text found
 pubsub_text (Unread count) = decimal count
 pubsub_text (Number number) = decimal number
 
--- an empty pub-sub channel with four places for subscribers and none taken, whose first message has this number
-abbrev pub a_new_topic : ℕ → Topic ℕ
-a_new_topic first = record {
-  log = record { held = []; next = first; positions = replicate 4 None };
+-- an empty pub-sub channel with so many places for subscribers, none of which is taken, whose first message has this
+-- number
+abbrev pub a_new_topic : ℕ → ℕ → Topic ℕ
+a_new_topic places first = record {
+  log = record { held = []; next = first; positions = replicate places None };
   subscribers = replicate 16 None;
   publishers = replicate 16 None;
 }
@@ -81,6 +83,7 @@ a_new_topic first = record {
 abbrev pub no_lists : Lists ℕ
 no_lists = record { subscribers = []; publishers = [] }
 
--- a channel of `places` messages for four subscribers and four publishers, whose steps hand out four wakers at most
-abbrev pub pubsub_setting : ℕ → ℕ → ℕ → Setting
-pubsub_setting k places first = setting_of 4 (pubsub_rules IsSame NeedsNone places 4) (pubsub_wakings nat_eq 4 4) (pubsub_asks k) (pubsub_calls k) pubsub_text (a_new_topic first) no_lists
+-- a channel of `places` messages for so many subscribers and publishers, at most 16 of each, so that a step hands out 16
+-- wakers at most
+abbrev pub pubsub_setting : ℕ → ℕ → Handles → ℕ → Setting
+pubsub_setting k places h first = setting_of 16 (pubsub_rules IsSame NeedsNone places h.publishers) (pubsub_wakings nat_eq h.subscribers h.publishers) (pubsub_asks k) (pubsub_calls k) pubsub_text (a_new_topic h.subscribers first) no_lists

@@ -1,10 +1,10 @@
-//! The capacities that line 1 of a script can say.
+//! The numbers that line 1 of a script can say.
 ghost use Rattle.std.specs.Prelude.{◌≡◌, ◌≤◌};
-ghost use Rattle.esync_script.specs.Capacity.{capacity, places, any_capacity};
+ghost use Rattle.esync_script.specs.Capacity.{capacity, places, any_capacity, four_and_four, handles, no_handles};
 
 use esync_words::bits::Bits;
 use esync_words::lines::{LONGEST, LineLimit, SHORT};
-use esync_words::vocabulary::REQS;
+use esync_words::vocabulary::{NAMES, REQS};
 use std::marker::Model;
 
 /// The greatest capacity.
@@ -14,7 +14,7 @@ pub const MOST: usize = 4096;
 pub const FEW: usize = 16;
 
 /// How many requests a script of a language can have at a time.
-pub trait Asking {
+pub trait RequestLimit {
     ghost use Rattle.std.specs.Prelude.{ℕ};
 
     /// The number: those of the requests are below it.
@@ -23,20 +23,85 @@ pub trait Asking {
     /// Returns the number.
     fn requests() -> usize
         ensures value { result ≡ requests }
-        ensures few { result ≤ 64 };
+        ensures few { result ≤ 1024 };
+}
+
+/// How many subscribers, and how many publishers, a pub-sub channel may have: at most 16 of each.
+#[derive(Debug, Drop)]
+pub struct Handles {
+    subscribers: usize,
+    publishers: usize,
+}
+
+impl Model for Handles {
+    ghost use Rattle.std.specs.Prelude.{◌≤◌};
+    ghost use Rattle.esync_script.specs.Capacity.{Handles as Handled, handles_code};
+
+    ghost Value = { Handled };
+
+    ghost coded = { handles_code };
+
+    ghost view = { λ a. record { subscribers = a.subscribers; publishers = a.publishers } };
+
+    ghost invariant = { λ a. (a.subscribers ≤ 16) × (a.publishers ≤ 16) };
+}
+
+impl Handles {
+    /// Four subscribers and four publishers, as a channel has where line 1 says nothing of them.
+    pub fn four() -> Self
+        ensures { result ≡ four_and_four }
+    {
+        Handles {
+            subscribers: 4,
+            publishers: 4,
+        }
+    }
+
+    /// Returns these numbers, if none is too large.
+    pub fn of(subscribers: u64, publishers: u64) -> Option<Self>
+        ensures { result ≡ handles subscribers publishers }
+    {
+        if subscribers > NAMES as u64 || publishers > NAMES as u64 {
+            return None;
+        }
+        Some(Handles {
+            subscribers: subscribers as usize,
+            publishers: publishers as usize,
+        })
+    }
+
+    /// Returns how many subscribers there may be.
+    pub fn subscribers(&self) -> usize
+        ensures value { result ≡ self.now.subscribers }
+        ensures few { result ≤ 16 }
+    {
+        self.subscribers
+    }
+
+    /// Returns how many publishers there may be.
+    pub fn publishers(&self) -> usize
+        ensures value { result ≡ self.now.publishers }
+        ensures few { result ≤ 16 }
+    {
+        self.publishers
+    }
 }
 
 /// A capacity as line 1 says it. A language of scripts has one type of capacities, which stands for the language: it
-/// says how long a line is, how many bytes a command of a pipe has, how many bits a value, and how many requests there
-/// can be at a time.
-pub trait Size: LineLimit + Asking + Drop {
+/// says how long a line is, how many bytes a command of a pipe has, how many bits a value, how many requests there can
+/// be at a time, and which numbers of subscribers and publishers line 1 can say.
+pub trait Size: LineLimit + RequestLimit + Drop {
     ghost use Rattle.std.specs.Prelude.{ℕ, Option};
+    ghost use Rattle.esync_script.specs.Capacity.{Handles};
 
     /// The capacity of this number of places, if line 1 can say it.
     ghost sized: { ℕ → Option Self };
 
     /// How many places it says.
     ghost size: { Self → ℕ };
+
+    /// These numbers of subscribers and publishers, if line 1 can say them.
+    ghost handled: { ℕ → ℕ → Option Handles };
 
     /// The greatest number of bytes that a command of a pipe writes or reads.
     ghost bytes: { ℕ };
@@ -62,6 +127,10 @@ pub trait Size: LineLimit + Asking + Drop {
         ensures value { result ≡ size self.now }
         ensures some { 1 ≤ result }
         ensures few { result ≤ 4096 };
+
+    /// Returns these numbers of subscribers and publishers, if line 1 can say them.
+    fn handles(subscribers: u64, publishers: u64) -> Option<Handles>
+        ensures { result ≡ handled subscribers publishers };
 }
 
 /// A capacity that a script of `syncrun` can say.
@@ -86,7 +155,7 @@ impl LineLimit for Capacity {
     }
 }
 
-impl Asking for Capacity {
+impl RequestLimit for Capacity {
     ghost requests = { 16 };
 
     fn requests() -> usize {
@@ -98,6 +167,8 @@ impl Size for Capacity {
     ghost sized = { capacity };
 
     ghost size = { places };
+
+    ghost handled = { no_handles };
 
     ghost bytes = { 16 };
 
@@ -130,6 +201,10 @@ impl Size for Capacity {
             Capacity::Four => 4,
             Capacity::Eight => 8,
         }
+    }
+
+    fn handles(_subscribers: u64, _publishers: u64) -> Option<Handles> {
+        None
     }
 }
 
@@ -164,8 +239,8 @@ impl LineLimit for AnyCapacity {
     }
 }
 
-impl Asking for AnyCapacity {
-    ghost requests = { 64 };
+impl RequestLimit for AnyCapacity {
+    ghost requests = { 1024 };
 
     fn requests() -> usize {
         REQS
@@ -176,6 +251,8 @@ impl Size for AnyCapacity {
     ghost sized = { any_capacity };
 
     ghost size = { λ c. c };
+
+    ghost handled = { handles };
 
     ghost bytes = { 4096 };
 
@@ -200,5 +277,9 @@ impl Size for AnyCapacity {
 
     fn places(&self) -> usize {
         self.places
+    }
+
+    fn handles(subscribers: u64, publishers: u64) -> Option<Handles> {
+        Handles::of(subscribers, publishers)
     }
 }

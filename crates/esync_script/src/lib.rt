@@ -101,7 +101,7 @@ pub fn explain<R: Read + Drop, W: Write + Drop, N: Write + Drop, E: Write + Drop
 ///
 /// The commands are those that the lines say, the replies are a run of the primitive that line 1 names, and the output
 /// is what `telling` tells of them. The capacity in line 1 is an [`AnyCapacity`]. A line has at most 16,640 bytes, a
-/// command of a pipe at most 4,096, and a value 64 bits; there are 64 requests at a time, and 16 on a pipe.
+/// command of a pipe at most 4,096, and a value 64 bits; there are 1,024 requests at a time, and 16 on a pipe.
 ///
 /// # Errors
 ///
@@ -123,7 +123,7 @@ fn play_read<C: Size, T: Telling, R: Read + Drop, W: Write>(
     input: R,
     output: &mut W,
 ) -> Result<(), Fault>
-    ensures { PlaysScript (language C C.sized C.size (min C.bytes 4096) C.bits C.longest C.requests) T.story (R.remaining input) (W.contents output.old) (W.contents output.new) result }
+    ensures { PlaysScript (language C C.sized C.size C.handled (min C.bytes 4096) C.bits C.longest C.requests) T.story (R.remaining input) (W.contents output.old) (W.contents output.new) result }
 {
     match Lines::buffered(alloc, input) {
         Ok(mut lines) => opening::play_lines::<C, T, Bounded<BufReader<R>, C>, W>(
@@ -173,7 +173,7 @@ fn run<C: Size, T: Telling, R: Read + Drop, W: Write + Drop, E: Write + Drop>(
     output: W,
     errors: E,
 ) -> u8
-    ensures { EndsWith (language C C.sized C.size (min C.bytes 4096) C.bits C.longest C.requests) T.story (R.remaining input) result }
+    ensures { EndsWith (language C C.sized C.size C.handled (min C.bytes 4096) C.bits C.longest C.requests) T.story (R.remaining input) result }
 {
     status(
         play_pieces::<C, T, R, W>(alloc, telling, input, output),
@@ -221,7 +221,7 @@ fn play_pieces<C: Size, T: Telling, R: Read + Drop, W: Write + Drop>(
     input: R,
     output: W,
 ) -> Result<(), Fault>
-    ensures { EndsScript (language C C.sized C.size (min C.bytes 4096) C.bits C.longest C.requests) T.story (R.remaining input) result }
+    ensures { EndsScript (language C C.sized C.size C.handled (min C.bytes 4096) C.bits C.longest C.requests) T.story (R.remaining input) result }
 {
     let mut output = BufWriter::new(alloc, output).map_err(|_| Fault::OutOfMemory)?;
     let outcome = play_read::<C, T, R, BufWriter<W>>(alloc, telling, input, &mut output);

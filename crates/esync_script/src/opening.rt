@@ -3,7 +3,7 @@ ghost use Rattle.std.specs.Prelude.{◌≡◌, ◌<◌, ◌≤◌, ℕ, [], None
 ghost use Rattle.esync_base.specs.Keeping.{BoundedList};
 ghost use Rattle.esync_priority.specs.Prio.{Bag};
 ghost use Rattle.esync_script.specs.Channel.{channel_setting};
-ghost use Rattle.esync_script.specs.Opening.{opening, language, Closes, Plays, PlaysBehind, PlaysScript};
+ghost use Rattle.esync_script.specs.Opening.{opening, language, first_and_handles, Closes, Plays, PlaysBehind, PlaysScript};
 ghost use Rattle.esync_script.specs.Pipe.{pipe_setting};
 ghost use Rattle.esync_script.specs.PubSub.{a_new_topic, no_lists, pubsub_setting};
 ghost use Rattle.esync_script.specs.Semaphore.{fair_setting};
@@ -13,7 +13,7 @@ ghost use Rattle.esync_script.specs.Zerocopy.{zero_setting};
 ghost use Rattle.esync_words.specs.Story.{replies_story};
 ghost use Rattle.esync_words.specs.Words.{one, and_then};
 
-use crate::capacity::{Capacity, MOST, Size};
+use crate::capacity::{Capacity, Handles, MOST, Size};
 use crate::channel::{ChannelWords, Listed, Prioritized};
 use crate::lazy::{LazyWords, Made};
 use crate::mutex::{MutexWords, Paired};
@@ -34,6 +34,7 @@ use esync_priority::prio::{Kind, Max, Min};
 use esync_words::fault::Fault;
 use esync_words::lines::{ByteSource, Lines};
 use esync_words::play::{Opens, Replies, Telling, open};
+use esync_words::vocabulary::NAMES;
 use esync_words::words::Words;
 use std::io::Write;
 use std::marker::Brand;
@@ -44,8 +45,23 @@ fn read_capacity<C: Size>(words: Words<'_>) -> Option<C>
     C::of(words.number()?)
 }
 
+// The number of a pub-sub channel's first message, and how many subscribers and publishers it may have, by the numbers
+// behind its capacity.
+fn read_topic<C: Size>(said: Option<(u64, Option<(u64, u64)>)>) -> Option<(u64, Handles)>
+    ensures { result ≡ first_and_handles C.handled said }
+{
+    match said {
+        None => Some((0, Handles::four())),
+        Some((first, None)) => Some((first, Handles::four())),
+        Some((first, Some((subscribers, publishers)))) => {
+            let handles = C::handles(subscribers, publishers)?;
+            Some((first, handles))
+        }
+    }
+}
+
 /// The primitive that line 1 names, with its capacity.
-#[derive(Clone, Copy, Debug, PartialEq, Eq, Drop)]
+#[derive(Debug, Drop)]
 pub enum OpeningOf<C> {
     Channel(C),
     Max(C),
@@ -54,7 +70,7 @@ pub enum OpeningOf<C> {
     Greedy(usize),
     Fair(C, usize),
     Pipe(C),
-    PubSub(C, u64),
+    PubSub(C, u64, Handles),
     Once,
     Lazy(u64),
     Mutex(u64, u64),
@@ -68,7 +84,7 @@ pub type Opening = OpeningOf<Capacity>;
 impl<C: Size> Opens for OpeningOf<C> {
     ghost use Rattle.esync_script.specs.Opening.{opening};
 
-    ghost opens = { opening C.sized C.bits };
+    ghost opens = { opening C.sized C.handled C.bits };
 
     fn opening(name: &str, words: Words<'_>) -> Option<Self> {
         match name {
@@ -86,8 +102,9 @@ impl<C: Size> Opens for OpeningOf<C> {
             }
             "pipe" => Some(OpeningOf::Pipe(read_capacity(words)?)),
             "pubsub" => {
-                let (places, first) = words.one_or_two_numbers()?;
-                Some(OpeningOf::PubSub(C::of(places)?, first.unwrap_or(0)))
+                let (places, said) = words.one_two_or_four_numbers()?;
+                let (first, handles) = read_topic::<C>(said)?;
+                Some(OpeningOf::PubSub(C::of(places)?, first, handles))
             }
             "once" => (words.number()? == 1).then_some(OpeningOf::Once),
             "lazy" => {
@@ -242,30 +259,34 @@ fn serve_watch<C: Size, P: Player<R, W>, R: ByteSource, W: Write>(
 // is handed in: with a log of a number of messages the checker meets its limit of steps at the call.
 fn serve_topic<
     L: LogStore<Message = u64> + Kept,
+    S: Limit,
+    Q: Limit,
     C: Size,
     P: Player<R, W>,
     R: ByteSource,
     W: Write,
 >(
     player: &mut P,
-    machine: Topic<C, L>,
+    machine: Topic<C, L, S, Q>,
     first: u64,
     lines: &mut Lines<R>,
     output: &mut W,
 ) -> Result<(), Fault>
-    requires subscribers { L.places ≡ 4 }
-    requires object { ⟦<Topic<C, L> as Machine>⟧.semantics.object machine ≡ new_object C.requests (a_new_topic first) }
-    requires registrations { ⟦<Topic<C, L> as Machine>⟧.semantics.registrations machine ≡ no_lists }
-    ensures { PlaysFrom (P.plays player.old player.new) R.longest C.requests (pubsub_setting C.bits L.capacity first) lines.old.number lines.old.left (W.contents output.old) (W.contents output.new) result }
+    requires object { ⟦<Topic<C, L, S, Q> as Machine>⟧.semantics.object machine ≡ new_object C.requests (a_new_topic S.limit first) }
+    requires registrations { ⟦<Topic<C, L, S, Q> as Machine>⟧.semantics.registrations machine ≡ no_lists }
+    ensures { PlaysFrom (P.plays player.old player.new) R.longest C.requests (pubsub_setting C.bits L.capacity (record { subscribers = S.limit; publishers = Q.limit }) first) lines.old.number lines.old.left (W.contents output.old) (W.contents output.new) result }
 {
     let _ = first;
-    player.play::<PubSubWords<C>, Topic<C, L>>(machine, lines, output)
+    player.play::<PubSubWords<C>, Topic<C, L, S, Q>>(machine, lines, output)
 }
 
-// A script over a pub-sub channel of at most `B.limit` messages, the first of which has this number.
-fn serve_log<B: Limit, C: Size, P: Player<R, W>, R: ByteSource, W: Write>(
+// A script over a pub-sub channel of at most `B.limit` messages, the first of which has this number, for `S.limit`
+// subscribers and `Q.limit` publishers.
+fn serve_log<B: Limit, S: Limit, Q: Limit, C: Size, P: Player<R, W>, R: ByteSource, W: Write>(
     player: &mut P,
     capacity: usize,
+    subscribers: usize,
+    publishers: usize,
     first: u64,
     lines: &mut Lines<R>,
     output: &mut W,
@@ -273,12 +294,16 @@ fn serve_log<B: Limit, C: Size, P: Player<R, W>, R: ByteSource, W: Write>(
     requires chosen { capacity ≡ B.limit }
     requires some { 1 ≤ capacity }
     requires few { capacity ≤ 4096 }
-    ensures { PlaysFrom (P.plays player.old player.new) R.longest C.requests (pubsub_setting C.bits B.limit first) lines.old.number lines.old.left (W.contents output.old) (W.contents output.new) result }
+    requires subscribers { subscribers ≡ S.limit }
+    requires publishers { publishers ≡ Q.limit }
+    requires few_subscribers { subscribers ≤ 16 }
+    requires few_publishers { publishers ≤ 16 }
+    ensures { PlaysFrom (P.plays player.old player.new) R.longest C.requests (pubsub_setting C.bits B.limit (record { subscribers = S.limit; publishers = Q.limit }) first) lines.old.number lines.old.left (W.contents output.old) (W.contents output.new) result }
 {
-    let log: LimitedLog<u64, B, MOST, 4> = LimitedLog::new_at(capacity, first);
-    serve_topic::<LimitedLog<u64, B, MOST, 4>, C, P, R, W>(
+    let log: LimitedLog<u64, B, S, MOST, NAMES> = LimitedLog::new_at(capacity, subscribers, first);
+    serve_topic::<LimitedLog<u64, B, S, MOST, NAMES>, S, Q, C, P, R, W>(
         player,
-        topic::<C, _>(log),
+        topic::<C, _, S, Q>(log, subscribers, publishers),
         first,
         lines,
         output,
@@ -289,12 +314,21 @@ fn serve_pubsub<C: Size, P: Player<R, W>, R: ByteSource, W: Write>(
     player: &mut P,
     capacity: C,
     first: u64,
+    handles: Handles,
     lines: &mut Lines<R>,
     output: &mut W,
 ) -> Result<(), Fault>
-    ensures { PlaysFrom (P.plays player.old player.new) R.longest C.requests (pubsub_setting C.bits (C.size capacity) first) lines.old.number lines.old.left (W.contents output.old) (W.contents output.new) result }
+    ensures { PlaysFrom (P.plays player.old player.new) R.longest C.requests (pubsub_setting C.bits (C.size capacity) handles first) lines.old.number lines.old.left (W.contents output.old) (W.contents output.new) result }
 {
-    serve_log::<Brand, C, P, R, W>(player, capacity.places(), first, lines, output)
+    serve_log::<Brand, Brand, Brand, C, P, R, W>(
+        player,
+        capacity.places(),
+        handles.subscribers(),
+        handles.publishers(),
+        first,
+        lines,
+        output,
+    )
 }
 
 fn serve_zerocopy<C: Size, P: Player<R, W>, R: ByteSource, W: Write>(
@@ -315,7 +349,7 @@ fn serve_opening<C: Size, P: Player<R, W>, R: ByteSource, W: Write>(
     lines: &mut Lines<R>,
     output: &mut W,
 ) -> Result<(), Fault>
-    ensures { Plays (language C C.sized C.size (min C.bytes 4096) C.bits R.longest C.requests) (P.plays player.old player.new) opening lines.old.number lines.old.left (W.contents output.old) (W.contents output.new) result }
+    ensures { Plays (language C C.sized C.size C.handled (min C.bytes 4096) C.bits R.longest C.requests) (P.plays player.old player.new) opening lines.old.number lines.old.left (W.contents output.old) (W.contents output.new) result }
 {
     match opening {
         OpeningOf::Channel(capacity) => serve_channel(player, capacity, lines, output),
@@ -333,7 +367,9 @@ fn serve_opening<C: Size, P: Player<R, W>, R: ByteSource, W: Write>(
         }
         OpeningOf::Fair(capacity, permits) => serve_fair(player, capacity, permits, lines, output),
         OpeningOf::Pipe(capacity) => serve_pipe(player, capacity, lines, output),
-        OpeningOf::PubSub(capacity, first) => serve_pubsub(player, capacity, first, lines, output),
+        OpeningOf::PubSub(capacity, first, handles) => {
+            serve_pubsub(player, capacity, first, handles, lines, output)
+        }
         OpeningOf::Once => { serve::<OnceWords<C>, Once<C>, P, R, W>(player, (), lines, output) }
         OpeningOf::Lazy(value) => {
             serve::<LazyWords, Made<C>, P, R, W>(player, value, lines, output)
@@ -373,7 +409,7 @@ pub fn play_lines<C: Size, T: Telling, R: ByteSource, W: Write>(
     output: &mut W,
 ) -> Result<(), Fault>
     requires { lines.old.number ≡ 0 }
-    ensures { PlaysScript (language C C.sized C.size (min C.bytes 4096) C.bits R.longest C.requests) T.story lines.old.left (W.contents output.old) (W.contents output.new) result }
+    ensures { PlaysScript (language C C.sized C.size C.handled (min C.bytes 4096) C.bits R.longest C.requests) T.story lines.old.left (W.contents output.old) (W.contents output.new) result }
 {
     match open::<OpeningOf<C>, T, R, W>(telling, lines, output) {
         Ok(opening) => {
@@ -396,7 +432,7 @@ pub fn play_with<C: Size, P: Player<R, W>, R: ByteSource, W: Write>(
     output: &mut W,
 ) -> Result<(), Fault>
     requires { lines.old.number ≡ 0 }
-    ensures { PlaysBehind (language C C.sized C.size (min C.bytes 4096) C.bits R.longest C.requests) replies_story (λ was now. P.plays player.old player.new) lines.old.left (W.contents output.old) (W.contents output.new) result }
+    ensures { PlaysBehind (language C C.sized C.size C.handled (min C.bytes 4096) C.bits R.longest C.requests) replies_story (λ was now. P.plays player.old player.new) lines.old.left (W.contents output.old) (W.contents output.new) result }
 {
     match open::<OpeningOf<C>, Replies, R, W>(&mut Replies {}, lines, output) {
         Ok(opening) => {

@@ -6,6 +6,7 @@ ghost use Rattle.esync_script.specs.Setting.{new_object};
 
 use crate::capacity::Size;
 use crate::numbers::{Numbered, numbered};
+use esync_base::limited::{Limit, LimitedList};
 use esync_base::waitqueue::Wakes;
 use esync_log::log::LogStore;
 use esync_machine::run::Machine;
@@ -135,18 +136,32 @@ fn print_ready<W: Write>(answer: &WaitResult<u64>, output: &mut W) -> io::Result
     write!(output, ")")
 }
 
-/// A pub-sub channel over this log, with four places for subscribers and four for publishers.
-pub type Topic<C, L> = Numbered<Events<L, Wakes<u64, 4>, Wakes<u64, 4>, NAMES>, C, 4>;
+/// A pub-sub channel over this log, for `S.limit` subscribers and `Q.limit` publishers.
+pub type Topic<C, L, S, Q> = Numbered<
+    Events<L, LimitedList<Wakes<u64, NAMES>, S>, LimitedList<Wakes<u64, NAMES>, Q>, NAMES>,
+    C,
+    NAMES,
+>;
 
-/// Returns a pub-sub channel over this log, which has no messages and no subscribers.
+/// Returns a pub-sub channel over this log, which has no messages and no subscribers, for so many publishers.
 ///
 /// A topic isn't `Scripted`: over an open log it can't be shown that the machine which `serve` makes fits in memory.
-pub fn topic<C: Size, L: LogStore<Message = u64>>(log: L) -> Topic<C, L>
+pub fn topic<C: Size, L: LogStore<Message = u64>, S: Limit, Q: Limit>(
+    log: L,
+    subscribers: usize,
+    publishers: usize,
+) -> Topic<C, L, S, Q>
     requires messages { 1 ≤ L.capacity }
-    requires subscribers { L.places ≡ 4 }
+    requires places { L.places ≡ S.limit }
     requires empty { L.log log ≡ record { held = []; next = (L.log log).next; positions = replicate L.places None } }
-    ensures object { ⟦<Topic<C, L> as Machine>⟧.semantics.object result ≡ new_object C.requests (a_new_topic (L.log log).next) }
-    ensures registrations { ⟦<Topic<C, L> as Machine>⟧.semantics.registrations result ≡ no_lists }
+    requires subscribers { subscribers ≡ S.limit }
+    requires publishers { publishers ≡ Q.limit }
+    requires few_subscribers { subscribers ≤ 16 }
+    requires few_publishers { publishers ≤ 16 }
+    ensures object { ⟦<Topic<C, L, S, Q> as Machine>⟧.semantics.object result ≡ new_object C.requests (a_new_topic S.limit (L.log log).next) }
+    ensures registrations { ⟦<Topic<C, L, S, Q> as Machine>⟧.semantics.registrations result ≡ no_lists }
 {
-    numbered::<_, C, 4>(Events::over(log))
+    let waiting = LimitedList::new(subscribers);
+    let publishing = LimitedList::new(publishers);
+    numbered::<_, C, NAMES>(Events::over(log, waiting, publishing))
 }

@@ -60,7 +60,8 @@ pub fn named<R: Wait, W: Write>(
         Opening::Greedy(permits) => greedy(stage, permits, script, output),
         Opening::Fair(capacity, permits) => fair(stage, capacity, permits, script, output),
         Opening::Pipe(capacity) => pipe(stage, capacity, script, output),
-        Opening::PubSub(capacity, first) => pubsub(stage, capacity, first, script, output),
+        // (a script of `syncrun` says no numbers of subscribers and publishers: there are four of each)
+        Opening::PubSub(capacity, first, _) => pubsub(stage, capacity, first, script, output),
         Opening::Once => once(stage, script, output),
         // The calls of a lazy value ask that its closure can be called, which can't be said of a value that a form
         // keeps. Tests show what it does.

@@ -1,5 +1,6 @@
 //! Why a line is no command: where in the line, and what would be one.
-use crate::language::{Language, OPENINGS, REQUESTS, asks_of, calls_of, shape_of};
+use crate::language::{Language, REQUESTS, asks_of, calls_of, shape_of};
+use esync_words::vocabulary::NAMES;
 use std::alloc::{AllocError, Global};
 use strsim::osa_distance;
 
@@ -40,7 +41,7 @@ pub fn reason_of(
         return Ok(None);
     };
     match primitive {
-        None => commanded(alloc, language, line, 1, "primitive", OPENINGS),
+        None => commanded(alloc, language, line, 1, "primitive", language.openings()),
         Some(primitive) => of_command(alloc, language, primitive, line),
     }
 }
@@ -52,7 +53,8 @@ pub fn reason_in_system(
     words: &str,
 ) -> Result<Option<Reason>, AllocError> {
     let Some(primitive) = primitive else {
-        return commanded(alloc, Language::Few, words, 1, "primitive", OPENINGS);
+        let openings = Language::Few.openings();
+        return commanded(alloc, Language::Few, words, 1, "primitive", openings);
     };
     let kind = format!(in alloc; "request or call of {primitive}")?;
     let commands = format!(in alloc; "{} end:k {}", asks_of(primitive), calls_of(primitive))?;
@@ -300,6 +302,9 @@ fn odd_word(
         }
         (b'c', Ok(places)) if !language.has_capacity(places) => {
             format!(in alloc; "another capacity: it is {}", language.capacities())?
+        }
+        (b'h', Ok(count)) if count > NAMES as u64 => {
+            format!(in alloc; "too large: a pubsub has at most {NAMES} of each")?
         }
         (b'1', Ok(places)) if places != 1 => {
             String::from_str(alloc, "another capacity: it is 1")?

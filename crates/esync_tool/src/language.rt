@@ -10,7 +10,8 @@
 //! | `b` | bytes, at most 4096, as `1,2,255`, or `-` | at most 16 |
 //! | `c` | a capacity: 1 to 4096 | 1, 2, 3, 4 or 8 |
 //! | `1` | the capacity 1 | |
-//! | `K`, `V` | as `k` or `v`, and may be missing | |
+//! | `h` | a number of subscribers or publishers, at most 16 | none |
+//! | `K`, `V`, `H` | as `k`, `v` or `h`, and may be missing | |
 
 use esync_script::capacity::{AnyCapacity, Capacity, Size};
 use esync_words::lines::LineLimit;
@@ -59,6 +60,18 @@ impl Language {
         }
     }
 
+    /// The primitives that line 1 may name.
+    pub fn openings(self) -> &'static str {
+        match self {
+            Language::Script | Language::Recorded => {
+                "channel:c max:c min:c pubsub:cKHh signal:1 greedy:1k fair:ck pipe:c once:1 lazy:1v zerocopy:c mutex:1vv watch:cV"
+            }
+            Language::Few => {
+                "channel:c max:c min:c pubsub:cK signal:1 greedy:1k fair:ck pipe:c once:1 lazy:1v zerocopy:c mutex:1vv watch:cV"
+            }
+        }
+    }
+
     /// The capacities that line 1 can say.
     pub fn capacities(self) -> &'static str {
         match self {
@@ -67,10 +80,6 @@ impl Language {
         }
     }
 }
-
-/// The primitives that line 1 may name.
-pub const OPENINGS: &str =
-    "channel:c max:c min:c pubsub:cK signal:1 greedy:1k fair:ck pipe:c once:1 lazy:1v zerocopy:c mutex:1vv watch:cV";
 
 /// The commands that each primitive has, but for `start`, whose first word is the number of the request.
 pub const REQUESTS: &str = "poll:kk end:k";

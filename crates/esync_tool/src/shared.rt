@@ -43,7 +43,7 @@ fn is_shared(alloc: Global, text: &str) -> Result<(), Stopped> {
             let why = "the shared form of lazy can't be played by scripts";
             (1, String::from_str(alloc, why)?)
         }
-        Some(Opening::PubSub(_, first)) if first > 0 => {
+        Some(Opening::PubSub(_, first, _)) if first > 0 => {
             let number = line.split(' ').last().unwrap_or("");
             let before = line.len().saturating_sub(number.len());
             let text = format!(in alloc; "{number}: a shared pubsub begins at message 0")?;

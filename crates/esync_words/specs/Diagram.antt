@@ -1,5 +1,5 @@
 -- The text of a picture, in the language of Mermaid.
-use Rattle.std.specs.Prelude.{ℕ, List, ◌∷◌, [], ◌++◌, Option, Some, None, Bool, codes, decimal, ◌%◌, ◌==◌, if◌then◌else◌, slice_set}
+use Rattle.std.specs.Prelude.{◌≡◌, refl, ℕ, List, ◌∷◌, [], ◌++◌, Option, Some, None, Bool, codes, decimal, ◌%◌, ◌==◌, if◌then◌else◌, slice_set}
 use Rattle.std.proofs.Math.ListN.{replicate}
 use Rattle.std.specs.List.{list_any}
 use Rattle.esync_base.specs.Rows.{items_of}
@@ -85,9 +85,18 @@ pub record Noted : Type 0 where
   -- for each number of a request, the waker with which it waits
   pub waits : List (Option ℕ)
 
--- the note of line 1: no request waits
+-- no request waits: for each number below n, no waker
+pub nobody : ℕ → List (Option ℕ)
+nobody n = replicate n None
+
+-- (where it is unfolded the checker computes a row of 1,024)
+pub nobody_is : (n : ℕ) → nobody n ≡ replicate n None
+unfolding nobody
+nobody_is n = refl
+
+-- the note of line 1
 abbrev pub noted_first : List ℕ → Noted
-noted_first line = record { name = line; waits = replicate 64 None }
+noted_first line = record { name = line; waits = nobody 1024 }
 
 -- a poll that is answered Pending waits, with its waker
 abbrev pub waker_if_pending : {A : Type 0} → ℕ → Answer A → Option ℕ

@@ -1,11 +1,10 @@
 //! A script as a document of Markdown, with its sequence diagram in pages.
 ghost use Rattle.std.specs.Prelude.{◌≡◌, [], None, Option, OnOk, IfErr, slice_set};
-ghost use Rattle.std.proofs.Math.ListN.{replicate};
 ghost use Rattle.std.specs.Io.KnownBytes.{Appends};
 ghost use Rattle.esync_base.specs.Rows.{items_of};
 ghost use Rattle.esync_machine.specs.Numbers.{swept_place};
 ghost use Rattle.esync_words.specs.Text.{each_text};
-ghost use Rattle.esync_words.specs.Diagram.{noted_first, noted_next, waker_if_pending, waits_behind, is_woken, waits_still, waits_text, between_text, page_text, break_text, fence_text};
+ghost use Rattle.esync_words.specs.Diagram.{nobody, noted_first, noted_next, waker_if_pending, waits_behind, is_woken, waits_still, waits_text, between_text, page_text, break_text, fence_text};
 ghost use Rattle.esync_words.specs.Played.{IsJudged};
 
 use crate::diagram::{print_head, print_step};
@@ -19,7 +18,7 @@ use std::io::{self, Write};
 use std::marker::Model;
 
 /// A telling as diagrams in a document of Markdown, each in a fence, of at most 50 lines. Viewers of Mermaid take no
-/// more than 50,000 bytes of a diagram, and a line is drawn by at most 840.
+/// more than 50,000 bytes of a diagram. A line is drawn by at most 840, and a request that waits is noted by at most 48.
 ///
 /// Each page names the primitive as line 1 does, and begins with a note for each request that waits: its last poll was
 /// answered Pending, and its waker wasn't handed out since. A request that ended when its subscriber or its publisher
@@ -46,7 +45,7 @@ impl Pages {
     {
         Pages {
             name: ArrayString::new(),
-            waits: [None; REQS],
+            waits: nobody(),
         }
     }
 
@@ -78,7 +77,7 @@ impl Telling for Pages {
 
     fn open<W: Write>(&mut self, line: &str, output: &mut W) -> Result<(), Fault> {
         self.name = ArrayString::from(line).map_err(|_| Fault::OutOfMemory)?;
-        self.waits = [None; REQS];
+        self.waits = nobody();
         print_fence(output)?;
         print_head(line, output)?;
         Ok(())
@@ -104,6 +103,13 @@ impl Telling for Pages {
         writeln!(output, "```")?;
         Ok(())
     }
+}
+
+// Returns no waker for each number below `N`.
+fn nobody<const N: usize>() -> [Option<u64>; N]
+    ensures { result ≡ nobody N }
+{
+    [None; N]
 }
 
 fn hear_command<A>(waits: &mut [Option<u64>; REQS], giver: Giver, answer: &Answer<A>)

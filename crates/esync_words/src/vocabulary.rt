@@ -10,7 +10,7 @@ use esync_machine::primitive::Command;
 use std::io::{self, Write};
 
 /// The greatest number of requests that a script of any language can have at a time.
-pub const REQS: usize = 64;
+pub const REQS: usize = 1024;
 
 /// How many subscribers, publishers or receivers a script can have at a time: their numbers are below this.
 pub const NAMES: usize = 16;

@@ -2,7 +2,7 @@
 ghost use Rattle.std.specs.Prelude.{◌≡◌, ℕ, ◌∷◌, [], MatchOption, IsTrue, ◌↔◌, ◌≤◌};
 ghost use Rattle.std.specs.Option.{option_map};
 ghost use Rattle.esync_words.specs.Words.{words_of, parts_of, number, numbers, at_most, bytes_of, first_number, behind, nothing, one, two, row, and_then, number_and_values};
-ghost use Rattle.esync_words.specs.Perhaps.{perhaps, one_or_two};
+ghost use Rattle.esync_words.specs.Perhaps.{perhaps, perhaps_two, perhaps_one_or_three, one_or_two, one_two_or_four};
 
 use crate::bits::Bits;
 use arrayvec::ArrayVec;
@@ -132,13 +132,41 @@ impl<'a> Words<'a> {
         }
     }
 
-    /// Returns a number, and a second one if there is a word for it.
-    pub fn one_or_two_numbers(mut self) -> Option<(u64, Option<u64>)>
-        ensures { result ≡ one_or_two 64 64 self.entry }
+    // Returns the numbers that the last two words write, if there are words.
+    fn two_numbers_if_any(mut self) -> Option<Option<(u64, u64)>>
+        ensures { result ≡ perhaps_two 64 self.entry }
+    {
+        match self.word() {
+            Some(word) => {
+                let first = read_number(word)?;
+                let second = self.number()?;
+                Some(Some((first, second)))
+            }
+            None => Some(None),
+        }
+    }
+
+    // Returns a number, and two more if there are words for them. Or nothing, if there are no words.
+    fn one_or_three_numbers_if_any(mut self) -> Option<Option<(u64, Option<(u64, u64)>)>>
+        ensures { result ≡ perhaps_one_or_three 64 self.entry }
+    {
+        match self.word() {
+            Some(word) => {
+                let first = read_number(word)?;
+                let more = self.two_numbers_if_any()?;
+                Some(Some((first, more)))
+            }
+            None => Some(None),
+        }
+    }
+
+    /// Returns a number; a second one, if there is a word for it; and behind that two more, if there are words for them.
+    pub fn one_two_or_four_numbers(mut self) -> Option<(u64, Option<(u64, Option<(u64, u64)>)>)>
+        ensures { result ≡ one_two_or_four 64 self.entry }
     {
         let first = self.next_number()?;
-        let if_any = self.value_if_any(Bits::long())?;
-        Some((first, if_any))
+        let more = self.one_or_three_numbers_if_any()?;
+        Some((first, more))
     }
 
     /// Returns a number, and a value if there is a word for it.

@@ -516,6 +516,127 @@ fn the_handles_of_a_pubsub_channel() {
 }
 
 #[test]
+fn a_pubsub_channel_of_two_subscribers_and_a_publisher() {
+    let channel: PubSubChannel<NoopRawMutex, u8, 1, 2, 1> = PubSubChannel::new();
+    let (one, two, three) = (Task::new(), Task::new(), Task::new());
+    let (mut first, mut second) = (channel.subscriber().unwrap(), channel.subscriber().unwrap());
+    assert_eq!(channel.subscriber().err(), Some(Error::MaximumSubscribersReached));
+    let publisher = channel.publisher().unwrap();
+    assert_eq!(channel.publisher().err(), Some(Error::MaximumPublishersReached));
+
+    let (mut next, mut other) = (first.next_message(), second.next_message());
+    assert_eq!((one.poll(&mut next), two.poll(&mut other)), (Pending, Pending));
+    // (upstream keeps the wakers of as many tasks as there can be subscribers, and wakes these for another's place)
+    assert_eq!(three.poll(&mut other), Pending);
+    assert_eq!((one.take_wakes(), two.take_wakes()), (1, 1));
+    assert_eq!(one.poll(&mut Box::pin(publisher.publish(5))), Ready(()));
+    assert_eq!((one.take_wakes(), two.take_wakes(), three.take_wakes()), (0, 0, 1));
+    assert_eq!(one.poll(&mut next), Ready(WaitResult::Message(5)));
+    assert_eq!(three.poll(&mut other), Ready(WaitResult::Message(5)));
+    drop((next, other));
+
+    // (and of as many as there can be publishers)
+    assert_eq!(publisher.try_publish(6), Ok(()));
+    let mut publish = Box::pin(publisher.publish(7));
+    assert_eq!(one.poll(&mut publish), Pending);
+    let mut another = Box::pin(publisher.publish(8));
+    assert_eq!(two.poll(&mut another), Pending);
+    assert_eq!((one.take_wakes(), publisher.try_publish(9)), (1, Err(9)));
+    assert_eq!(first.try_next_message(), Some(WaitResult::Message(6)));
+    assert_eq!(second.try_next_message(), Some(WaitResult::Message(6)));
+    assert_eq!((two.poll(&mut another), one.poll(&mut publish)), (Ready(()), Pending));
+    drop(second);
+    assert_eq!(first.try_next_message(), Some(WaitResult::Message(8)));
+    assert_eq!(one.poll(&mut publish), Ready(()));
+    let _second = channel.subscriber().unwrap();
+    drop((publish, another));
+    drop(publisher);
+    let _publisher = channel.publisher().unwrap();
+    expect("each_pubsub_of_2_and_1", &channel.run());
+}
+
+#[test]
+fn a_pubsub_channel_without_publishers() {
+    let channel: PubSubChannel<NoopRawMutex, u8, 2, 3, 0> = PubSubChannel::new();
+    let one = Task::new();
+    assert_eq!(channel.publisher().err(), Some(Error::MaximumPublishersReached));
+    assert_eq!(channel.dyn_publisher().err(), Some(Error::MaximumPublishersReached));
+    let publisher = channel.immediate_publisher();
+    publisher.publish_immediate(1);
+    assert_eq!(channel.len(), 0);
+    let mut first = channel.subscriber().unwrap();
+    let mut second = channel.subscriber().unwrap();
+    let mut third = channel.subscriber().unwrap();
+    assert_eq!(channel.subscriber().err(), Some(Error::MaximumSubscribersReached));
+
+    let mut next = first.next_message();
+    assert_eq!(one.poll(&mut next), Pending);
+    for message in [2, 3, 4] {
+        publisher.publish_immediate(message);
+    }
+    assert_eq!(one.poll(&mut next), Ready(WaitResult::Lagged(1)));
+    drop(next);
+    assert_eq!(first.try_next_message(), Some(WaitResult::Message(3)));
+    assert_eq!(second.try_next_message(), Some(WaitResult::Lagged(1)));
+    assert_eq!(second.try_next_message_pure(), Some(3));
+    assert_eq!((third.available(), third.try_next_message_pure()), (3, Some(3)));
+    assert_eq!(channel.len(), 1);
+    expect("each_pubsub_of_3_and_0", &channel.run());
+}
+
+#[test]
+fn a_pubsub_channel_without_subscribers() {
+    let channel: PubSubChannel<NoopRawMutex, u8, 1, 0, 2> = PubSubChannel::new();
+    assert_eq!(channel.subscriber().err(), Some(Error::MaximumSubscribersReached));
+    assert_eq!(channel.dyn_subscriber().err(), Some(Error::MaximumSubscribersReached));
+    let (first, second) = (channel.publisher().unwrap(), channel.dyn_publisher().unwrap());
+    assert_eq!(channel.publisher().err(), Some(Error::MaximumPublishersReached));
+    assert_eq!(Task::new().poll(&mut Box::pin(first.publish(1))), Ready(()));
+    assert_eq!(second.try_publish(2), Ok(()));
+    channel.immediate_publisher().publish_immediate(3);
+    assert_eq!(channel.free_capacity(), 1);
+    drop(first);
+    let _first = channel.publisher().unwrap();
+    expect("each_pubsub_of_0_and_2", &channel.run());
+
+    let channel: PubSubChannel<NoopRawMutex, u8, 1, 0, 0> = PubSubChannel::new();
+    channel.immediate_publisher().publish_immediate(1);
+    assert_eq!(channel.run().text, "pubsub 1 0 0 0\nimmediate 1 => Ok | -\n");
+}
+
+#[test]
+fn a_pubsub_channel_of_sixteen_and_sixteen() {
+    let channel: PubSubChannel<NoopRawMutex, u8, 2, 16, 16> = PubSubChannel::new();
+    let tasks: Vec<Task> = (0..17).map(|_| Task::new()).collect();
+    let mut subscribers: Vec<_> = (0..16).map(|_| channel.subscriber().unwrap()).collect();
+    let publishers: Vec<_> = (0..16).map(|_| channel.publisher().unwrap()).collect();
+
+    let mut messages: Vec<_> = subscribers.iter_mut().map(|subscriber| subscriber.next_message()).collect();
+    for (message, task) in messages.iter_mut().zip(&tasks) {
+        assert_eq!(task.poll(message), Pending);
+    }
+    assert_eq!(tasks[16].poll(&mut messages[15]), Pending);
+    assert_eq!(publishers[15].try_publish(1), Ok(()));
+    for (message, task) in messages.iter_mut().zip(&tasks) {
+        assert_eq!(task.poll(message), Ready(WaitResult::Message(1)));
+    }
+    drop(messages);
+
+    assert_eq!((publishers[0].try_publish(2), publishers[1].try_publish(3)), (Ok(()), Ok(())));
+    let mut publishes: Vec<_> = publishers.iter().map(|publisher| Box::pin(publisher.publish(4))).collect();
+    for (publish, task) in publishes.iter_mut().zip(&tasks) {
+        assert_eq!(task.poll(publish), Pending);
+    }
+    assert_eq!(tasks[16].poll(&mut publishes[0]), Pending);
+    for subscriber in &mut subscribers {
+        assert_eq!(subscriber.try_next_message(), Some(WaitResult::Message(2)));
+    }
+    assert_eq!(tasks[16].poll(&mut publishes[0]), Ready(()));
+    assert!(tasks.iter().all(|task| task.take_wakes() == 2));
+    expect("each_pubsub_of_16_and_16", &channel.run());
+}
+
+#[test]
 fn a_zero_copy_channel() {
     let mut slots = [10_u32, 11];
     let mut channel = zerocopy_channel::Channel::<NoopRawMutex, _>::new(&mut slots);

@@ -75,11 +75,25 @@ fn a_capacity_that_no_run_has() {
     watch.sender().send(1);
     let text = "watch 4097\n# stopped at a capacity of 4097, where 1 to 4096 can be recorded\n";
     expect_stop(&watch.run(), Stop::Capacity(4097), text);
-    let pubsub: PubSubChannel<NoopRawMutex, u8, 2, 2, 1> = PubSubChannel::new();
-    pubsub.clear();
-    let text = "pubsub 2\n# stopped at 2 subscribers and 1 publishers, where 4 of each can be recorded\n";
-    expect_stop(&pubsub.run(), Stop::Handles { subscribers: 2, publishers: 1 }, text);
+}
+
+#[test]
+fn numbers_of_subscribers_and_publishers_that_no_run_has() {
+    let pubsub: PubSubChannel<NoopRawMutex, u8, 2, 17, 1> = PubSubChannel::new();
+    assert_eq!(pubsub.publisher().map(|publisher| publisher.try_publish(1)).ok(), Some(Ok(())));
+    let text = "\
+pubsub 2 0 17 1
+# stopped at 17 subscribers and 1 publishers, where 0 to 16 of each can be recorded
+";
+    expect_stop(&pubsub.run(), Stop::Handles { subscribers: 17, publishers: 1 }, text);
     keep("stop_at_handles", &pubsub.run());
+    let pubsub: PubSubChannel<NoopRawMutex, u8, 2, 0, 17> = PubSubChannel::new();
+    pubsub.clear();
+    let text = "\
+pubsub 2 0 0 17
+# stopped at 0 subscribers and 17 publishers, where 0 to 16 of each can be recorded
+";
+    expect_stop(&pubsub.run(), Stop::Handles { subscribers: 0, publishers: 17 }, text);
 }
 
 #[test]
@@ -101,31 +115,53 @@ fn expect_stop_at_numbers(run: &Run, count: usize) {
 }
 
 #[test]
-fn forty_requests_at_a_time() {
+fn two_hundred_requests_at_a_time() {
     let mutex: Mutex<NoopRawMutex, u8> = Mutex::new(1);
     let guard = mutex.try_lock().expect("nobody has locked it");
-    let task = Task::new();
-    let mut locks: Vec<_> = (0..40).map(|_| mutex.lock()).collect();
-    for lock in &mut locks {
-        assert!(matches!(task.poll(lock), Pending));
+    let tasks: Vec<Task> = (0..200).map(|_| Task::new()).collect();
+    let mut locks: Vec<_> = (0..200).map(|_| mutex.lock()).collect();
+    for (lock, task) in locks.iter_mut().zip(&tasks) {
+        assert!(task.poll(lock).is_pending());
     }
     drop(guard);
-    assert!(matches!(task.poll(&mut locks[39]), Ready(_)));
-    assert_eq!(mutex.run().stop, None);
-    keep("each_of_40_requests", &mutex.run());
+    assert!(tasks[199].poll(&mut locks[199]).is_ready());
+    // (a mutex keeps the waker of one task, and wakes this for another's place)
+    let starts: String = (1..=200).map(|number| format!("start {number} lock => Ok | -\n")).collect();
+    let polls: String = (1..200).map(|task| format!("poll {} {task} => Pending | {}\n", task + 1, task - 1)).collect();
+    let text = format!(
+        "mutex 1 0 0\ntry-lock 0 => Ok | -\n{starts}poll 1 0 => Pending | -\n{polls}\
+         end 0 => Ok | 199\npoll 200 199 => Ready | -\nend 200 => Ok | -\n"
+    );
+    assert_eq!((mutex.run().text, mutex.run().stop), (text, None));
+    keep("each_of_200_requests", &mutex.run());
+}
+
+#[test]
+fn the_lowest_free_number_is_taken() {
+    let channel: Channel<NoopRawMutex, u8, 1> = Channel::new();
+    let mut receives: Vec<_> = (0..4).map(|_| Some(channel.receive())).collect();
+    for place in [2, 0, 1] {
+        receives[place] = None;
+    }
+    receives.extend((0..4).map(|_| Some(channel.receive())));
+    let text: String = [0, 1, 2, 3].map(|number| format!("start {number} receive => Ok | -\n")).concat()
+        + &[2, 0, 1].map(|number| format!("end {number} => Ok | -\n")).concat()
+        + &[0, 1, 2, 4].map(|number| format!("start {number} receive => Ok | -\n")).concat();
+    assert_eq!(channel.run().text, format!("channel 1\n{text}"));
+    keep("each_number_again", &channel.run());
 }
 
 #[test]
 fn more_requests_than_numbers() {
     let channel: Channel<NoopRawMutex, u8, 1> = Channel::new();
     let one = Task::new();
-    let mut receives: Vec<_> = (0..65).map(|_| channel.receive()).collect();
-    assert_eq!(one.poll(&mut receives[64]), Pending);
+    let mut receives: Vec<_> = (0..1025).map(|_| channel.receive()).collect();
+    assert_eq!(one.poll(&mut receives[1024]), Pending);
     assert_eq!(channel.try_send(1), Ok(()));
-    assert_eq!((one.take_wakes(), one.poll(&mut receives[64])), (1, Ready(1)));
-    let starts: String = (0..64).map(|number| format!("start {number} receive => Ok | -\n")).collect();
+    assert_eq!((one.take_wakes(), one.poll(&mut receives[1024])), (1, Ready(1)));
+    let starts: String = (0..1024).map(|number| format!("start {number} receive => Ok | -\n")).collect();
     let text = format!(
-        "channel 1\n{starts}# stopped at more than 64 requests, 16 of a pipe, or 16 handles of a kind at a time\n"
+        "channel 1\n{starts}# stopped at more than 1024 requests, 16 of a pipe, or 16 handles of a kind at a time\n"
     );
     expect_stop(&channel.run(), Stop::Numbers, &text);
     keep("stop_at_requests", &channel.run());

@@ -1,17 +1,21 @@
 //! A copy of a log as it is now.
-use super::{Log, Positions};
+use super::{LogOver, Positions};
+use esync_base::extent::Extent;
 use esync_base::kept::Kept;
 use std::alloc::AllocError;
 
-impl<const SUBS: usize> Kept for Positions<SUBS> {
+impl<E: Extent, const ROOM: usize> Kept for Positions<E, ROOM> {
     fn kept(&self) -> Result<Self, AllocError> {
-        Ok(Positions { row: self.row })
+        Ok(Positions {
+            places: self.places,
+            row: self.row,
+        })
     }
 }
 
-impl<T: Copy, const CAP: usize, const SUBS: usize> Kept for Log<T, CAP, SUBS> {
+impl<T: Copy, E: Extent, const CAP: usize, const ROOM: usize> Kept for LogOver<T, E, CAP, ROOM> {
     fn kept(&self) -> Result<Self, AllocError> {
-        Ok(Log {
+        Ok(LogOver {
             held: self.held.kept()?,
             next: self.next,
             positions: self.positions.kept()?,

@@ -1,22 +1,25 @@
-//! A log whose capacity is chosen when it is made.
+//! A log whose capacity and number of places are chosen when it is made.
 ghost use Rattle.std.specs.Prelude.{◌≡◌, ◌≤◌, [], None, length, replicate};
 ghost use Rattle.esync_log.specs.Log.{Log as Logged};
 
-use super::{Exhausted, Log, LogStore, TryPublishError, WaitResult};
+use super::{Exhausted, LogOver, LogStore, TryPublishError, WaitResult};
+use esync_base::extent::Chosen;
 use esync_base::kept::Kept;
 use esync_base::limited::Limit;
 use std::alloc::AllocError;
 use std::marker::{Model, PhantomData};
 
-/// A log that holds at most `B.limit` messages, even where `CAP` is greater.
+/// A log that holds at most `B.limit` messages, even where `CAP` is greater, and has `S.limit` places for subscribers,
+/// even where `ROOM` is greater.
 #[derive(Drop)]
-pub struct LimitedLog<T, B: Limit, const CAP: usize, const SUBS: usize> {
+pub struct LimitedLog<T, B: Limit, S: Limit, const CAP: usize, const ROOM: usize> {
     capacity: usize,
     limit: PhantomData<B>,
-    log: Log<T, CAP, SUBS>,
+    log: LogOver<T, Chosen<S>, CAP, ROOM>,
 }
 
-impl<T, B: Limit, const CAP: usize, const SUBS: usize> Model for LimitedLog<T, B, CAP, SUBS> {
+impl<T, B: Limit, S: Limit, const CAP: usize, const ROOM: usize> Model
+    for LimitedLog<T, B, S, CAP, ROOM> {
     ghost use Rattle.std.specs.Prelude.{◌≡◌, ◌≤◌, length};
     ghost use Rattle.esync_log.specs.Log.{Log as Logged, log_code};
 
@@ -29,30 +32,39 @@ impl<T, B: Limit, const CAP: usize, const SUBS: usize> Model for LimitedLog<T, B
     ghost invariant = { λ a. (a.capacity ≡ B.limit) × (1 ≤ B.limit) × (length a.log.held ≤ B.limit) × (B.limit ≤ CAP) };
 }
 
-impl<T: Drop, B: Limit, const CAP: usize, const SUBS: usize> LimitedLog<T, B, CAP, SUBS> {
+impl<T: Drop, B: Limit, S: Limit, const CAP: usize, const ROOM: usize> LimitedLog<
+    T,
+    B,
+    S,
+    CAP,
+    ROOM,
+> {
     /// Returns a log without messages and subscribers. Its first message gets the number `next`. Its capacity is the
-    /// number that `B` stands for, from 1 to `CAP`.
-    pub fn new_at(capacity: usize, next: u64) -> Self
+    /// number that `B` stands for, from 1 to `CAP`, and the number of its places the one that `S` stands for, at most
+    /// `ROOM`.
+    pub fn new_at(capacity: usize, places: usize, next: u64) -> Self
         requires chosen { capacity ≡ B.limit }
         requires some { 1 ≤ capacity }
         requires room { capacity ≤ CAP }
-        ensures { result ≡ record { held = []; next = next; positions = replicate SUBS None } }
+        requires placed { places ≡ S.limit }
+        requires places { places ≤ ROOM }
+        ensures { result ≡ record { held = []; next = next; positions = replicate S.limit None } }
     {
         LimitedLog {
             capacity,
             limit: PhantomData,
-            log: Log::new_at(next),
+            log: LogOver::over(Chosen::new(places), next),
         }
     }
 }
 
-impl<T: Clone, B: Limit, const CAP: usize, const SUBS: usize> LogStore
-    for LimitedLog<T, B, CAP, SUBS> {
+impl<T: Clone, B: Limit, S: Limit, const CAP: usize, const ROOM: usize> LogStore
+    for LimitedLog<T, B, S, CAP, ROOM> {
     type Message = T;
 
     ghost capacity = { B.limit };
 
-    ghost places = { SUBS };
+    ghost places = { S.limit };
 
     ghost log = { λ log. log };
 
@@ -117,7 +129,8 @@ impl<T: Clone, B: Limit, const CAP: usize, const SUBS: usize> LogStore
     }
 }
 
-impl<T: Copy, B: Limit, const CAP: usize, const SUBS: usize> Kept for LimitedLog<T, B, CAP, SUBS> {
+impl<T: Copy, B: Limit, S: Limit, const CAP: usize, const ROOM: usize> Kept
+    for LimitedLog<T, B, S, CAP, ROOM> {
     fn kept(&self) -> Result<Self, AllocError> {
         Ok(LimitedLog {
             capacity: self.capacity,

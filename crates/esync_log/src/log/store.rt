@@ -3,7 +3,8 @@ ghost use Rattle.std.specs.Prelude.{◌≡◌, ℕ, ◌+◌, ◌-◌, ◌<◌, �
 ghost use Rattle.esync_log.specs.Counts.{readers_of};
 ghost use Rattle.esync_log.specs.Log.{oldest, has_subscribers, left, cleared, is_live, position, Joins, Publishes, PublishesAtOnce, IsRefused, Reads, ReadsOn, caught};
 
-use super::{Exhausted, Log, TryPublishError, WaitResult};
+use super::{Exhausted, Log, LogOver, TryPublishError, WaitResult};
+use esync_base::extent::Extent;
 use std::alloc::AllocError;
 
 /// Messages with consecutive numbers, of which a fixed number can be held, and a fixed number of places for
@@ -126,12 +127,13 @@ impl<T: Clone, const CAP: usize, const SUBS: usize> FixedLog for Log<T, CAP, SUB
     }
 }
 
-impl<T: Clone, const CAP: usize, const SUBS: usize> LogStore for Log<T, CAP, SUBS> {
+impl<T: Clone, E: Extent, const CAP: usize, const ROOM: usize> LogStore
+    for LogOver<T, E, CAP, ROOM> {
     type Message = T;
 
     ghost capacity = { CAP };
 
-    ghost places = { SUBS };
+    ghost places = { E.extent };
 
     ghost log = { λ log. log };
 
@@ -140,58 +142,58 @@ impl<T: Clone, const CAP: usize, const SUBS: usize> LogStore for Log<T, CAP, SUB
     }
 
     fn len(&self) -> usize {
-        Log::len(self)
+        LogOver::len(self)
     }
 
     fn is_empty(&self) -> bool {
-        Log::is_empty(self)
+        LogOver::is_empty(self)
     }
 
     fn is_full(&self) -> bool {
-        Log::is_full(self)
+        LogOver::is_full(self)
     }
 
     fn is_live(&self, place: usize) -> bool {
-        Log::is_live(self, place)
+        LogOver::is_live(self, place)
     }
 
     fn available(&self, place: usize) -> u64 {
-        Log::available(self, place)
+        LogOver::available(self, place)
     }
 
     fn reader_count(&self, index: usize) -> Option<usize> {
-        Log::reader_count(self, index)
+        LogOver::reader_count(self, index)
     }
 
     fn has_subscribers(&self) -> bool {
-        Log::has_subscribers(self)
+        LogOver::has_subscribers(self)
     }
 
     fn join(&mut self) -> Option<usize> {
-        Log::join(self)
+        LogOver::join(self)
     }
 
     fn leave(&mut self, place: usize) {
-        Log::leave(self, place)
+        LogOver::leave(self, place)
     }
 
     fn publish(&mut self, message: T) -> Result<(), TryPublishError<T>> {
-        Log::publish(self, message)
+        LogOver::publish(self, message)
     }
 
     fn publish_immediate(&mut self, message: T) -> Result<(), Exhausted<T>> {
-        Log::publish_immediate(self, message)
+        LogOver::publish_immediate(self, message)
     }
 
     fn clear(&mut self) {
-        Log::clear(self)
+        LogOver::clear(self)
     }
 
     fn read(&mut self, place: usize) -> Result<Option<WaitResult<T>>, AllocError> {
-        Log::read(self, place)
+        LogOver::read(self, place)
     }
 
     fn read_on(&mut self, place: usize) -> Result<Option<T>, AllocError> {
-        Log::read_on(self, place)
+        LogOver::read_on(self, place)
     }
 }

@@ -706,29 +706,7 @@ impl<G: FixedLog, S: FixedList, P: FixedList<Waker = S::Waker>, const NAMES: usi
         ensures state { result.state ≡ fresh G.places next }
         ensures tables { result.tables ≡ record { subscribers = replicate NAMES None; publishers = replicate NAMES None } }
     {
-        Events::over(G::new_at(next))
-    }
-}
-
-impl<G: LogStore, S: FixedList, P: FixedList<Waker = S::Waker>, const NAMES: usize> Events<
-    G,
-    S,
-    P,
-    NAMES,
-> {
-    /// Returns an empty channel over a log without messages and subscribers, where all numbers are free.
-    pub fn over(log: G) -> Self
-        requires messages { 1 ≤ G.capacity }
-        requires wakers { G.places ≤ S.room }
-        requires empty { G.log log ≡ record { held = []; next = (G.log log).next; positions = replicate G.places None } }
-        ensures state { result.state ≡ fresh G.places (G.log log).next }
-        ensures tables { result.tables ≡ record { subscribers = replicate NAMES None; publishers = replicate NAMES None } }
-    {
-        let tables = Tables::new();
-        Events {
-            state: PubSubOver::over(log),
-            tables,
-        }
+        Events::over(G::new_at(next), S::new(), P::new())
     }
 }
 
@@ -738,6 +716,24 @@ impl<G: LogStore, S: WakerList, P: WakerList<Waker = S::Waker>, const NAMES: usi
     P,
     NAMES,
 > {
+    /// Returns an empty channel over a log without messages and subscribers, with these lists for the wakers of
+    /// subscribers and of publishers, in which no waker may be. All numbers are free.
+    pub fn over(log: G, subscribers: S, publishers: P) -> Self
+        requires messages { 1 ≤ G.capacity }
+        requires wakers { G.places ≤ S.room }
+        requires empty { G.log log ≡ record { held = []; next = (G.log log).next; positions = replicate G.places None } }
+        requires subscribers { S.wakers subscribers ≡ [] }
+        requires publishers { P.wakers publishers ≡ [] }
+        ensures state { result.state ≡ fresh G.places (G.log log).next }
+        ensures tables { result.tables ≡ record { subscribers = replicate NAMES None; publishers = replicate NAMES None } }
+    {
+        let tables = Tables::new();
+        Events {
+            state: PubSubOver::over(log, subscribers, publishers),
+            tables,
+        }
+    }
+
     /// Returns the channel, whose subscribers have places.
     pub fn state(&self) -> &PubSubOver<G, S, P>
         ensures { result.now ≡ self.now.state }

@@ -20,5 +20,5 @@ judged Q before after (Err fault) outcome ok err p j = elim err [
 
 pub returns : goal.returns
 returns g c j =
-    judged (λ b a outcome. PlaysScript (language _ g.C.Size.sized g.C.Size.size (min g.C.Size.bytes 4096) g.C.Size.bits g.C.LineLimit.longest g.C.Asking.requests) g.T.Telling.story (g.R.Read.remaining c.args.input) b a outcome) _ _ _ _
+    judged (λ b a outcome. PlaysScript (language _ g.C.Size.sized g.C.Size.size g.C.Size.handled (min g.C.Size.bytes 4096) g.C.Size.bits g.C.LineLimit.longest g.C.RequestLimit.requests) g.T.Telling.story (g.R.Read.remaining c.args.input) b a outcome) _ _ _ _
     c.finish.ensures.ok c.finish.ensures.err c.play_read-outcome.ensures j

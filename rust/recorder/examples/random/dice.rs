@@ -5,26 +5,33 @@ use std::task::{Context, Poll};
 
 use crate::executor::Task;
 
-/// How many futures a program has at a time, and a wide one: with what they leave no more than most runs have numbers for.
-const FUTURES: (usize, usize) = (7, 40);
+/// How many futures a program has at a time, and a wide one.
+const FUTURES: (usize, usize) = (7, 120);
+/// How many tasks poll them, and those of a wide one: these are more than any channel here has subscribers.
+const TASKS: (usize, usize) = (3, 20);
 
 /// Numbers that a seed determines, and the tasks that poll.
 pub struct Dice {
     state: u64,
-    tasks: [Task; 3],
+    tasks: Vec<Task>,
     /// Whether the program keeps off all that upstream does otherwise.
     pub is_plain: bool,
-    /// Whether the program has many steps and futures.
+    /// Whether the program has many steps, futures and tasks.
     pub is_wide: bool,
 }
 
 impl Dice {
     /// Returns the dice of this seed.
     pub fn new(seed: u64, is_plain: bool) -> Self {
-        let tasks = [Task::new(), Task::new(), Task::new()];
-        let mut dice = Dice { state: seed, tasks, is_plain, is_wide: false };
+        let mut dice = Dice { state: seed, tasks: Vec::new(), is_plain, is_wide: false };
         dice.is_wide = dice.below(8) == 0;
+        dice.tasks.resize_with(dice.width(TASKS), Task::new);
         dice
+    }
+
+    /// Returns the first of two sizes, or the second where the program is wide.
+    fn width(&self, (narrow, wide): (usize, usize)) -> usize {
+        if self.is_wide { wide } else { narrow }
     }
 
     /// Returns a number below this one.
@@ -75,7 +82,7 @@ pub struct Futures<'a, K> {
 impl<'a, K> Futures<'a, K> {
     /// Returns no futures of a program over these dice.
     pub fn new(dice: &Dice) -> Self {
-        Futures { kept: Vec::new(), room: if dice.is_wide { FUTURES.1 } else { FUTURES.0 } }
+        Futures { kept: Vec::new(), room: dice.width(FUTURES) }
     }
 
     /// Returns these, of which no more than this number are kept.

@@ -21,8 +21,8 @@ use crate::executor::within;
 /// A random program and the run of its primitive.
 pub type Program = fn(&mut Dice) -> Run;
 
-/// The programs. Each one plays with several capacities.
-pub const PROGRAMS: [Program; 34] = [
+/// The programs. Each one plays with several capacities, and a pub-sub channel with several numbers of handles.
+pub const PROGRAMS: [Program; 39] = [
     channel::<1>,
     channel::<2>,
     channel::<3>,
@@ -51,17 +51,25 @@ pub const PROGRAMS: [Program; 34] = [
     watch::<2>,
     watch::<5>,
     watch::<64>,
-    pubsub::<1>,
-    pubsub::<2>,
-    pubsub::<5>,
+    pubsub::<1, 4, 4>,
+    pubsub::<2, 4, 4>,
+    pubsub::<5, 4, 4>,
+    pubsub::<2, 1, 1>,
+    pubsub::<1, 2, 3>,
+    pubsub::<3, 3, 0>,
+    pubsub::<2, 0, 2>,
+    pubsub::<4, 16, 5>,
     zerocopy,
     once,
     lazy,
 ];
 
+/// How many handles of a kind a run can have at a time.
+const HANDLES: usize = 16;
+
 /// How many steps a program has.
 fn steps(dice: &mut Dice) -> u64 {
-    if dice.is_wide { 150 + dice.below(100) } else { 20 + dice.below(30) }
+    if dice.is_wide { 600 + dice.below(300) } else { 20 + dice.below(30) }
 }
 
 fn channel<const N: usize>(dice: &mut Dice) -> Run {
@@ -260,7 +268,7 @@ struct Keeps {
 
 fn greedy(dice: &mut Dice) -> Run {
     let semaphore: GreedySemaphore<NoopRawMutex> = GreedySemaphore::new(dice.place(3));
-    permits(&semaphore, dice, Keeps { waiting: 7, least: 0, ends: true })
+    permits(&semaphore, dice, Keeps { waiting: usize::MAX, least: 0, ends: true })
 }
 
 /// In a plain program one request waits at a time, for at least one permit, and stays until it is granted.
@@ -268,7 +276,7 @@ fn fair<const N: usize>(dice: &mut Dice) -> Run {
     let semaphore: FairSemaphore<NoopRawMutex, N> = FairSemaphore::new(dice.place(2));
     let keeps = match dice.is_plain {
         true => Keeps { waiting: 1, least: 1, ends: false },
-        false => Keeps { waiting: 7, least: 0, ends: true },
+        false => Keeps { waiting: usize::MAX, least: 0, ends: true },
     };
     permits(&semaphore, dice, keeps)
 }
@@ -325,7 +333,8 @@ fn watch<const N: usize>(dice: &mut Dice) -> Run {
     for _ in 0..steps(dice) {
         let message = dice.message();
         match dice.below(15) {
-            0 | 1 => receivers.extend(watch.receiver()),
+            // (a run has numbers for these and the anonymous one)
+            0 | 1 if receivers.len() + futures.count() < HANDLES - 1 => receivers.extend(watch.receiver()),
             2 => _ = receivers.pop(),
             3 => sender.send(message),
             4 => sender.send_modify(|value| *value = value.map(|value| value.wrapping_add(message))),
@@ -345,15 +354,15 @@ fn watch<const N: usize>(dice: &mut Dice) -> Run {
     watch.run()
 }
 
-type Channels<const N: usize> = PubSubChannel<NoopRawMutex, u64, N, 4, 4>;
-type Subscriber<'a, const N: usize> = pubsub::Subscriber<'a, NoopRawMutex, u64, N, 4, 4>;
+type Subscriber<'a, const N: usize, const S: usize, const P: usize> =
+    pubsub::Subscriber<'a, NoopRawMutex, u64, N, S, P>;
 
 /// Waits for a message in so many polls at most. The subscriber comes back.
-async fn read_next<const N: usize>(
-    mut subscriber: Subscriber<'_, N>,
+async fn read_next<const N: usize, const S: usize, const P: usize>(
+    mut subscriber: Subscriber<'_, N, S, P>,
     polls: usize,
     pure: bool,
-) -> Option<Subscriber<'_, N>> {
+) -> Option<Subscriber<'_, N, S, P>> {
     match pure {
         true => _ = within(polls, subscriber.next_message_pure()).await,
         false => _ = within(polls, subscriber.next_message()).await,
@@ -361,28 +370,40 @@ async fn read_next<const N: usize>(
     Some(subscriber)
 }
 
+/// Waits until a message is published, and gives no subscriber back.
+async fn publish_next<S>(publish: impl Future<Output = ()>) -> Option<S> {
+    publish.await;
+    None
+}
+
 /// In a plain program no subscriber leaves, and nothing is cleared.
-fn pubsub<const N: usize>(dice: &mut Dice) -> Run {
-    let channel: Channels<N> = PubSubChannel::new();
-    let publishers = [channel.publisher().unwrap(), channel.publisher().unwrap()];
+fn pubsub<const N: usize, const S: usize, const P: usize>(dice: &mut Dice) -> Run {
+    let channel: PubSubChannel<NoopRawMutex, u64, N, S, P> = PubSubChannel::new();
+    let kept = P.min(1 + dice.place(P.max(1)));
+    let publishers: Vec<_> = (0..kept).map(|_| channel.publisher().unwrap()).collect();
+    let immediate = channel.immediate_publisher();
     let clears = dice.coin();
     let mut futures = Futures::new(dice);
-    let mut subscribers: Vec<Subscriber<'_, N>> = Vec::new();
+    let mut subscribers: Vec<Subscriber<'_, N, S, P>> = Vec::new();
+    let mut joined = 0;
     for _ in 0..steps(dice) {
         let message = dice.message();
-        let publisher = &publishers[dice.place(2)];
         match dice.below(16) {
-            0 | 1 => subscribers.extend(channel.subscriber()),
+            // (a run has no number for one more to ask with)
+            0 | 1 if joined < HANDLES => {
+                let subscriber = channel.subscriber();
+                joined += usize::from(subscriber.is_ok());
+                subscribers.extend(subscriber);
+            }
             2 => drop(channel.publisher()),
-            3 => _ = publisher.try_publish(message),
-            4 | 5 => futures.add(|| {
-                let publish = publisher.publish(message);
-                async {
-                    publish.await;
-                    None
-                }
-            }),
-            6 => publisher.publish_immediate(message),
+            3..=6 if publishers.is_empty() => immediate.publish_immediate(message),
+            3 => _ = publishers[dice.place(kept)].try_publish(message),
+            4 | 5 => {
+                let publisher = &publishers[dice.place(kept)];
+                futures.add(|| publish_next(publisher.publish(message)));
+            }
+            6 if dice.coin() => immediate.publish_immediate(message),
+            6 => publishers[dice.place(kept)].publish_immediate(message),
             7 => _ = subscribers.iter_mut().map(|it| (it.available(), it.try_next_message())).count(),
             8 => _ = subscribers.last_mut().map(Subscriber::try_next_message_pure),
             9 | 10 => {
@@ -393,7 +414,8 @@ fn pubsub<const N: usize>(dice: &mut Dice) -> Run {
             11 => _ = (channel.len(), channel.is_full(), channel.is_empty(), channel.free_capacity()),
             12 if !clears && !dice.is_plain => {
                 // (what is available and isn't held was missed, so that the run shows whether this one lags)
-                _ = subscribers.pop().map(|subscriber| (subscriber.available(), channel.len()));
+                let left = subscribers.pop().map(|subscriber| (subscriber.available(), channel.len()));
+                joined -= usize::from(left.is_some());
             }
             12 if clears && !dice.is_plain => channel.clear(),
             _ => subscribers.extend(futures.poll(dice).flatten()),

@@ -4,19 +4,19 @@ use std::fmt;
 /// The greatest capacity of a primitive.
 pub const GREATEST_CAPACITY: usize = 4096;
 /// How many numbers there are for requests with guards and releasers.
-pub const REQUESTS: usize = 64;
+pub const REQUESTS: usize = 1024;
 /// How many numbers there are for requests of a pipe, each of which has a row of bytes.
 pub const PIPE_REQUESTS: usize = 16;
 /// How many numbers there are for each kind of handle.
 pub const NAMES: usize = 16;
-// A row of numbers has room for those of requests, and handles have the first of it.
-const _: () = assert!(NAMES <= REQUESTS);
 /// How many bytes a call of a pipe can name.
 pub const ROW: usize = 4096;
 // A longer buffer of a pipe is named by its first bytes: no more than these can go in or out.
 const _: () = assert!(GREATEST_CAPACITY <= ROW);
-/// How many subscribers, and how many publishers, a channel for them has.
-pub const HANDLES: usize = 4;
+/// The greatest number of subscribers, and of publishers, of a channel for them.
+pub const GREATEST_HANDLES: usize = 16;
+// Each of them has a number.
+const _: () = assert!(GREATEST_HANDLES <= NAMES);
 /// The greatest number of a message.
 pub const GREATEST_MESSAGE: i128 = u64::MAX as i128;
 /// The numbers from here on up to the greatest but one are given: to messages whose own number is none below these.
@@ -27,7 +27,7 @@ pub const FIRST_GIVEN: u64 = u64::MAX - 65_535;
 pub enum Stop {
     /// The primitive has a capacity that no run can have.
     Capacity(usize),
-    /// The channel has other numbers of subscribers and publishers than a run's.
+    /// The channel can have more subscribers or publishers than a run's.
     Handles {
         /// How many subscribers it can have.
         subscribers: usize,
@@ -60,10 +60,8 @@ impl fmt::Display for Stop {
                 write!(f, "a capacity of {capacity}, where 1 to {GREATEST_CAPACITY} can be recorded")
             }
             Stop::Handles { subscribers, publishers } => {
-                write!(
-                    f,
-                    "{subscribers} subscribers and {publishers} publishers, where {HANDLES} of each can be recorded"
-                )
+                write!(f, "{subscribers} subscribers and {publishers} publishers, ")?;
+                write!(f, "where 0 to {GREATEST_HANDLES} of each can be recorded")
             }
             Stop::Numbers => {
                 write!(
@@ -96,9 +94,9 @@ pub fn capacity(capacity: usize) -> Result<(), Stop> {
 
 /// Finds whether a run can have so many subscribers and publishers.
 pub fn handles(subscribers: usize, publishers: usize) -> Result<(), Stop> {
-    match (subscribers, publishers) {
-        (HANDLES, HANDLES) => Ok(()),
-        _ => Err(Stop::Handles { subscribers, publishers }),
+    match subscribers.max(publishers) <= GREATEST_HANDLES {
+        true => Ok(()),
+        false => Err(Stop::Handles { subscribers, publishers }),
     }
 }
 

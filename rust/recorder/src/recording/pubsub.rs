@@ -40,7 +40,13 @@ impl<M: RawMutex, T: Clone, const CAP: usize, const SUBS: usize, const PUBS: usi
     fn tape(&self) -> &Tape {
         self.recording.tape(|| {
             let head = Head::of_capacity("pubsub", CAP);
-            Head { limit: head.limit.and(limits::handles(SUBS, PUBS)), ..head }
+            let rest = match (SUBS, PUBS) {
+                // (line 1 without these numbers says four of each)
+                (4, 4) => head.rest,
+                // (upstream's first message is number 0)
+                _ => head.rest.text(format_args!(" 0 {SUBS} {PUBS}")),
+            };
+            Head { rest, limit: head.limit.and(limits::handles(SUBS, PUBS)), ..head }
         })
     }
 

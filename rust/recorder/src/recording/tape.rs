@@ -1,4 +1,5 @@
 //! The tape of one primitive: what was called, answered and woken, line for line.
+use std::collections::BTreeSet;
 use std::fmt;
 use std::panic::Location;
 use std::sync::{Arc, Mutex, OnceLock};
@@ -105,6 +106,35 @@ impl fmt::Display for Shown {
     }
 }
 
+/// The numbers of a table.
+struct Numbers {
+    count: usize,
+    // The numbers below this one were in use.
+    used: usize,
+    // Those of them that are free again.
+    freed: BTreeSet<usize>,
+}
+
+impl Numbers {
+    /// Returns so many numbers, all of them free.
+    fn new(count: usize) -> Self {
+        Numbers { count, used: 0, freed: BTreeSet::new() }
+    }
+
+    /// Takes the lowest number that is free.
+    fn take(&mut self) -> Option<usize> {
+        if self.freed.is_empty() && self.used < self.count {
+            self.used += 1;
+            return Some(self.used - 1);
+        }
+        self.freed.pop_first()
+    }
+
+    fn free(&mut self, number: usize) {
+        self.freed.insert(number);
+    }
+}
+
 /// The tape of one primitive.
 pub struct Tape {
     name: String,
@@ -115,8 +145,8 @@ pub struct Tape {
 struct Page {
     head: String,
     lines: Vec<String>,
-    in_use: [[bool; REQUESTS]; 4],
-    requests: usize,
+    // (in the order of the tables)
+    numbers: [Numbers; 4],
     tasks: Tasks,
     names: Names,
     stop: Option<Stop>,
@@ -127,19 +157,16 @@ impl Page {
         if self.stop.is_some() {
             return None;
         }
-        let numbers = if let Table::Requests = table { self.requests } else { NAMES };
-        let places = &mut self.in_use[table as usize][..numbers];
-        let Some(place) = places.iter().position(|in_use| !in_use) else {
+        let Some(place) = self.numbers[table as usize].take() else {
             self.stop = Some(Stop::Numbers);
             return None;
         };
-        places[place] = true;
         Some(Number { table, place })
     }
 
     fn free(&mut self, number: Option<Number>) {
         if let Some(Number { table, place }) = number {
-            self.in_use[table as usize][place] = false;
+            self.numbers[table as usize].free(place);
         }
     }
 
@@ -171,16 +198,8 @@ impl Tape {
             Err(stop) => (head.kind.to_string(), Some(stop)),
         };
         let stop = head.limit.err().or(unwritten);
-        let in_use = [[false; REQUESTS]; 4];
-        let page = Page {
-            head: text,
-            lines: Vec::new(),
-            in_use,
-            requests: head.requests,
-            tasks: Tasks::default(),
-            names,
-            stop,
-        };
+        let numbers = [head.requests, NAMES, NAMES, NAMES].map(Numbers::new);
+        let page = Page { head: text, lines: Vec::new(), numbers, tasks: Tasks::default(), names, stop };
         Tape { name, turns: Turns::default(), page: Mutex::new(page) }
     }
 
