@@ -161,7 +161,7 @@ fn more_requests_than_numbers() {
     assert_eq!((one.take_wakes(), one.poll(&mut receives[1024])), (1, Ready(1)));
     let starts: String = (0..1024).map(|number| format!("start {number} receive => Ok | -\n")).collect();
     let text = format!(
-        "channel 1\n{starts}# stopped at more than 1024 requests, 16 of a pipe, or 16 handles of a kind at a time\n"
+        "channel 1\n{starts}# stopped at a call for more than 1024 requests, 16 of a pipe, or 16 handles of a kind at a time\n"
     );
     expect_stop(&channel.run(), Stop::Numbers, &text);
     keep("stop_at_requests", &channel.run());

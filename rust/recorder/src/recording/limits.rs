@@ -13,7 +13,7 @@ pub const NAMES: usize = 16;
 pub const ROW: usize = 4096;
 // A longer buffer of a pipe is named by its first bytes: no more than these can go in or out.
 const _: () = assert!(GREATEST_CAPACITY <= ROW);
-/// The greatest number of subscribers, and of publishers, of a channel for them.
+/// The greatest number of subscribers, and of publishers, of a pub-sub channel.
 pub const GREATEST_HANDLES: usize = 16;
 // Each of them has a number.
 const _: () = assert!(GREATEST_HANDLES <= NAMES);
@@ -66,7 +66,7 @@ impl fmt::Display for Stop {
             Stop::Numbers => {
                 write!(
                     f,
-                    "more than {REQUESTS} requests, {PIPE_REQUESTS} of a pipe, or {NAMES} handles of a kind at a time"
+                    "a call for more than {REQUESTS} requests, {PIPE_REQUESTS} of a pipe, or {NAMES} handles of a kind at a time"
                 )
             }
             Stop::Message(number) => {
