@@ -447,6 +447,26 @@ fn the_handles_of_a_watch() {
 }
 
 #[test]
+fn a_watch_that_refuses_a_seventeenth_receiver() {
+    let watch: Watch<NoopRawMutex, u8, 16> = Watch::new();
+    let one = Task::new();
+    let mut first = watch.receiver().unwrap();
+    let mut others: Vec<_> = (1..16).map(|_| watch.receiver().unwrap()).collect();
+    let mut changed = Box::pin(first.changed());
+    assert_eq!(one.poll(&mut changed), Pending);
+    // (no number is free for these calls, so the run leaves them out)
+    assert!(watch.receiver().is_none() && watch.dyn_receiver().is_none());
+    watch.sender().send(1);
+    assert_eq!(one.poll(&mut changed), Ready(1));
+
+    drop(others.remove(2));
+    let mut again = watch.dyn_receiver().unwrap();
+    assert!(watch.receiver().is_none());
+    assert_eq!((again.try_changed(), again.try_changed()), (Some(1), None));
+    expect("each_watch_of_16", &watch.run());
+}
+
+#[test]
 fn a_pubsub_channel() {
     let channel: PubSubChannel<NoopRawMutex, u8, 2, 4, 4> = PubSubChannel::new();
     let (one, two) = (Task::new(), Task::new());
@@ -634,6 +654,35 @@ fn a_pubsub_channel_of_sixteen_and_sixteen() {
     assert_eq!(tasks[16].poll(&mut publishes[0]), Ready(()));
     assert!(tasks.iter().all(|task| task.take_wakes() == 2));
     expect("each_pubsub_of_16_and_16", &channel.run());
+}
+
+#[test]
+fn a_pubsub_channel_that_refuses_a_seventeenth_handle() {
+    let channel: PubSubChannel<NoopRawMutex, u8, 2, 16, 16> = PubSubChannel::new();
+    let one = Task::new();
+    let mut first = channel.subscriber().unwrap();
+    let mut others: Vec<_> = (1..16).map(|_| channel.subscriber().unwrap()).collect();
+    let mut publishers: Vec<_> = (0..16).map(|_| channel.publisher().unwrap()).collect();
+    let mut next = first.next_message();
+    assert_eq!(one.poll(&mut next), Pending);
+    // (no number is free for these calls, so the run leaves them out)
+    assert_eq!(channel.subscriber().err(), Some(Error::MaximumSubscribersReached));
+    assert_eq!(channel.dyn_subscriber().err(), Some(Error::MaximumSubscribersReached));
+    assert_eq!(channel.publisher().err(), Some(Error::MaximumPublishersReached));
+    assert_eq!(channel.dyn_publisher().err(), Some(Error::MaximumPublishersReached));
+    assert_eq!(publishers[15].try_publish(1), Ok(()));
+    assert_eq!(one.poll(&mut next), Ready(WaitResult::Message(1)));
+
+    drop(others.remove(2));
+    let mut again = channel.subscriber().unwrap();
+    assert_eq!(channel.subscriber().err(), Some(Error::MaximumSubscribersReached));
+    drop(publishers.remove(5));
+    let publisher = channel.publisher().unwrap();
+    assert_eq!(channel.publisher().err(), Some(Error::MaximumPublishersReached));
+    assert_eq!(publisher.try_publish(2), Ok(()));
+    assert_eq!(again.try_next_message(), Some(WaitResult::Message(2)));
+    assert_eq!(others[0].try_next_message(), Some(WaitResult::Message(1)));
+    expect("each_pubsub_of_16_again", &channel.run());
 }
 
 #[test]

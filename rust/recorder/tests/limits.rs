@@ -181,6 +181,31 @@ fn more_requests_of_a_pipe_than_numbers() {
 }
 
 #[test]
+fn more_receivers_than_numbers() {
+    let watch: Watch<NoopRawMutex, u8, 17> = Watch::new();
+    let mut receivers: Vec<_> = (0..17).map(|_| watch.receiver().unwrap()).collect();
+    watch.sender().send(1);
+    assert_eq!(receivers[16].try_changed(), Some(1));
+    let lines: String = (0..16).map(|number| format!("receiver {number} => Ok | -\n")).collect();
+    let text = format!(
+        "watch 17\n{lines}# stopped at a call for more than 1024 requests, 16 of a pipe, or 16 handles of a kind at a time\n"
+    );
+    expect_stop(&watch.run(), Stop::Numbers, &text);
+    keep("stop_at_receivers", &watch.run());
+}
+
+#[test]
+fn an_anonymous_receiver_more_than_numbers() {
+    let watch: Watch<NoopRawMutex, u8, 1> = Watch::new();
+    let _counted = watch.receiver().unwrap();
+    let _anonymous: Vec<_> = (0..15).map(|_| watch.anon_receiver()).collect();
+    assert!(watch.receiver().is_none());
+    assert_eq!(watch.run().stop, None);
+    assert_eq!(watch.dyn_anon_receiver().try_get(), None);
+    assert_eq!(watch.run().stop, Some(Stop::Numbers));
+}
+
+#[test]
 fn messages_of_64_bits() {
     let channel: Channel<NoopRawMutex, u64, 2> = Channel::new();
     assert_eq!((channel.try_send(u32::MAX.into()), channel.try_send(1 << 40)), (Ok(()), Ok(())));
@@ -352,6 +377,25 @@ fn a_static_that_two_threads_call() {
     sender.join().unwrap();
     assert_eq!(CHANNEL.run().stop, None);
     keep("threads", &CHANNEL.run());
+}
+
+#[test]
+fn two_threads_that_ask_for_the_last_handle() {
+    static CHANNEL: PubSubChannel<CriticalSectionRawMutex, u8, 1, 16, 0> = PubSubChannel::new();
+    let _others: Vec<_> = (0..15).map(|_| CHANNEL.subscriber().unwrap()).collect();
+    let ask = || {
+        for _ in 0..100 {
+            drop(CHANNEL.subscriber());
+            thread::yield_now();
+        }
+    };
+    thread::scope(|scope| {
+        scope.spawn(ask);
+        scope.spawn(ask);
+    });
+    // (now and then upstream refuses a thread, while the other one has the handle)
+    assert_eq!(CHANNEL.run().stop, None);
+    keep("threads_at_handles", &CHANNEL.run());
 }
 
 #[test]

@@ -3,41 +3,42 @@ use std::fmt;
 
 /// The greatest capacity of a primitive.
 pub const GREATEST_CAPACITY: usize = 4096;
-/// How many numbers there are for requests with guards and releasers.
+/// How many requests, guards and releasers a primitive can have at a time, all together.
 pub const REQUESTS: usize = 1024;
-/// How many numbers there are for requests of a pipe, each of which has a row of bytes.
+/// How many requests a pipe can have at a time. These are fewer: the checker keeps room for `ROW` bytes in each.
 pub const PIPE_REQUESTS: usize = 16;
-/// How many numbers there are for each kind of handle.
+/// How many receivers a watch can have at a time, and how many subscribers and publishers a pub-sub channel can.
 pub const NAMES: usize = 16;
 /// How many bytes a call of a pipe can name.
 pub const ROW: usize = 4096;
-// A longer buffer of a pipe is named by its first bytes: no more than these can go in or out.
+// A call that moves at most as many bytes as the capacity names the first `ROW` bytes of a longer buffer.
 const _: () = assert!(GREATEST_CAPACITY <= ROW);
-/// The greatest number of subscribers, and of publishers, of a pub-sub channel.
+/// The greatest S and the greatest P of line 1, `pubsub N f S P`: how many subscribers and publishers a channel allows.
 pub const GREATEST_HANDLES: usize = 16;
-// Each of them has a number.
+// Each subscriber and each publisher that such a channel grants has a number.
 const _: () = assert!(GREATEST_HANDLES <= NAMES);
 /// The greatest number of a message.
 pub const GREATEST_MESSAGE: i128 = u64::MAX as i128;
-/// The numbers from here on up to the greatest but one are given: to messages whose own number is none below these.
+/// The first number that replaces a message's own; the last is the greatest number but one. A number below 0, or from
+/// this one on, is replaced, except in a priority channel.
 pub const FIRST_GIVEN: u64 = u64::MAX - 65_535;
 
-/// Why a recording stopped. The calls behind it are made, and aren't recorded.
+/// Why a recording stopped. Later calls are made, but not recorded.
 #[derive(Clone, Debug, PartialEq, Eq)]
 pub enum Stop {
     /// The primitive has a capacity that no run can have.
     Capacity(usize),
-    /// The channel can have more subscribers or publishers than a run's.
+    /// The pub-sub channel allows more subscribers or publishers than line 1 of a run can say.
     Handles {
-        /// How many subscribers it can have.
+        /// How many subscribers it allows.
         subscribers: usize,
-        /// How many publishers it can have.
+        /// How many publishers it allows.
         publishers: usize,
     },
-    /// More requests, guards and releasers, or more handles of a kind, were there at a time than there are numbers.
+    /// A request, a guard, a releaser or a handle needed a number, and none was free.
     Numbers,
-    /// A message has a number below 0 or above the greatest one, and it is one of a priority channel, or all numbers
-    /// that are given have gone to others.
+    /// A message of a priority channel has a number below 0 or above the greatest one, or a message elsewhere has a
+    /// number that has to be replaced, and none is left for it.
     Message(i128),
     /// Some messages have numbers of their own, and others are named by a text.
     MixedNames,
@@ -92,7 +93,7 @@ pub fn capacity(capacity: usize) -> Result<(), Stop> {
     }
 }
 
-/// Finds whether a run can have so many subscribers and publishers.
+/// Finds whether line 1 of a run can say so many subscribers and publishers.
 pub fn handles(subscribers: usize, publishers: usize) -> Result<(), Stop> {
     match subscribers.max(publishers) <= GREATEST_HANDLES {
         true => Ok(()),

@@ -54,25 +54,16 @@ impl<M: RawMutex, T: Clone, const CAP: usize, const SUBS: usize, const PUBS: usi
         Handle { tape: self.tape(), naming: self.naming, number }
     }
 
-    /// Makes a call for a handle, which has a number of this table then.
+    /// Makes a call for a handle, which has a number of this table from then on.
     fn come<R>(
         &self,
         table: Table,
         command: &str,
         come: impl FnOnce() -> Result<R, Error>,
     ) -> Result<(R, Handle<'_, T>), Error> {
-        let number = self.tape().take(table);
-        let step = self.tape().step(phrase(format_args!("{command} {}", Shown(number))));
-        match come() {
-            Ok(inner) => {
-                step.end(phrase("Ok"), None);
-                Ok((inner, self.handle(number)))
-            }
-            Err(error) => {
-                step.end(phrase(format_args!("Err({error:?})")), number);
-                Err(error)
-            }
-        }
+        let refusal = |error: &Error| phrase(format_args!("Err({error:?})"));
+        let (inner, number) = self.tape().call_for_handle(table, command, come, refusal)?;
+        Ok((inner, self.handle(number)))
     }
 
     /// Returns a subscriber, where fewer than SUBS are there.

@@ -11,17 +11,17 @@ use super::runs::{self, Run};
 use super::tasks::Tasks;
 use super::turn::{Turn, Turns, lock};
 
-/// What line 1 of a run says of the primitive, and whether it is within the limits.
+/// What line 1 of a run says of the primitive, and the limits of such a run.
 pub struct Head {
     /// The primitive's name.
     pub kind: &'static str,
     /// What stands behind the name.
     pub rest: Phrase,
-    /// Messages are compared by their numbers.
+    /// Whether messages are compared by their numbers, as in a priority channel.
     pub has_order: bool,
-    /// How many requests a run can have at a time.
+    /// How many requests, guards and releasers a run can have at a time, all together.
     pub requests: usize,
-    /// What no run can say of it.
+    /// Why no run can have this primitive, if none can. Then the recording stops behind line 1.
     pub limit: Result<(), Stop>,
 }
 
@@ -71,16 +71,16 @@ impl Drop for Recording {
     }
 }
 
-/// What has numbers of its own in a run.
+/// What a run calls by a number. Each table has numbers of its own, from 0 on.
 #[derive(Clone, Copy, Debug)]
 pub enum Table {
     /// Requests, guards and releasers.
     Requests,
-    /// Receivers of a watch.
+    /// Receivers of a watch, also those that aren't counted.
     Receivers,
-    /// Subscribers.
+    /// Subscribers of a pub-sub channel.
     Subscribers,
-    /// Publishers.
+    /// Publishers of a pub-sub channel that are counted.
     Publishers,
 }
 
@@ -97,7 +97,7 @@ impl fmt::Display for Number {
     }
 }
 
-/// Writes a number that a recording may lack: then it has stopped, and nothing is written.
+/// Writes a number. If there is none, the recording has stopped, and this writes nothing.
 pub struct Shown(pub Option<Number>);
 
 impl fmt::Display for Shown {
@@ -106,23 +106,24 @@ impl fmt::Display for Shown {
     }
 }
 
-/// The numbers of a table.
+/// The numbers of a table, which are those below `count`.
 struct Numbers {
     count: usize,
-    // The numbers below this one were in use.
+    // The numbers below this one have been in use. Those from it on never were.
     used: usize,
-    // Those of them that are free again.
+    // The numbers that have been in use and are free again.
     freed: BTreeSet<usize>,
 }
 
 impl Numbers {
-    /// Returns so many numbers, all of them free.
+    /// Returns the numbers below this count, all of them free.
     fn new(count: usize) -> Self {
         Numbers { count, used: 0, freed: BTreeSet::new() }
     }
 
-    /// Takes the lowest number that is free.
+    /// Takes the lowest number that is free, and returns `None` if none is.
     fn take(&mut self) -> Option<usize> {
+        // (each freed number is below those that were never in use)
         if self.freed.is_empty() && self.used < self.count {
             self.used += 1;
             return Some(self.used - 1);
@@ -145,7 +146,7 @@ pub struct Tape {
 struct Page {
     head: String,
     lines: Vec<String>,
-    // (in the order of the tables)
+    // (in the order of `Table`)
     numbers: [Numbers; 4],
     tasks: Tasks,
     names: Names,
@@ -153,15 +154,21 @@ struct Page {
 }
 
 impl Page {
+    /// Takes the lowest number that is free. If none is, the recording stops.
     fn take(&mut self, table: Table) -> Option<Number> {
+        let number = self.try_take(table);
+        if number.is_none() {
+            self.stop.get_or_insert(Stop::Numbers);
+        }
+        number
+    }
+
+    /// Takes the lowest number that is free. Returns `None` if none is, or if the recording has stopped.
+    fn try_take(&mut self, table: Table) -> Option<Number> {
         if self.stop.is_some() {
             return None;
         }
-        let Some(place) = self.numbers[table as usize].take() else {
-            self.stop = Some(Stop::Numbers);
-            return None;
-        };
-        Some(Number { table, place })
+        self.numbers[table as usize].take().map(|place| Number { table, place })
     }
 
     fn free(&mut self, number: Option<Number>) {
@@ -233,7 +240,7 @@ impl Tape {
         }
     }
 
-    /// Takes the lowest number that is free. `None` where the recording has stopped, as it does where none is.
+    /// Takes the lowest number that is free. If none is, the recording stops. Returns `None` if it has stopped.
     pub fn take(&self, table: Table) -> Option<Number> {
         lock(&self.page).take(table)
     }
@@ -280,6 +287,31 @@ impl Tape {
     /// Makes a call and records that it is done.
     pub fn done(&self, command: Phrase, act: impl FnOnce()) {
         self.call(command, act, |()| phrase("Ok"));
+    }
+
+    /// Makes a call for a handle, and gives the handle the lowest number that is free. If no number is free, the
+    /// recording stops at a call that upstream grants. A call that it refuses changes nothing, and isn't recorded then.
+    pub fn call_for_handle<R, E>(
+        &self,
+        table: Table,
+        command: &str,
+        make: impl FnOnce() -> Result<R, E>,
+        refusal: impl FnOnce(&E) -> Phrase,
+    ) -> Result<(R, Option<Number>), E> {
+        let mut step = self.step(phrase(command));
+        // (in the turn: else another thread's call could have the last number, and this one get the last handle)
+        let number = lock(&self.page).try_take(table);
+        if let Some(number) = number {
+            step.command = phrase(format_args!("{command} {number}"));
+        }
+        let made = make();
+        match (&made, number) {
+            (Ok(_), Some(_)) => step.end(phrase("Ok"), None),
+            (Err(error), Some(_)) => step.end(refusal(error), number),
+            (Ok(_), None) => self.stop(Stop::Numbers),
+            (Err(_), None) => step.leave_out(),
+        }
+        made.map(|handle| (handle, number))
     }
 
     /// Makes a poll outside of a future, and records it as the one poll of a request.
@@ -337,6 +369,11 @@ impl Step<'_> {
     pub fn end_as(mut self, command: Phrase, answer: Phrase) {
         self.command = command;
         self.write(&answer, None);
+    }
+
+    /// Ends a call that changed nothing and woke nobody, and records nothing of it.
+    pub fn leave_out(mut self) {
+        self.turn = None;
     }
 
     fn write(&mut self, answer: &Phrase, frees: Option<Number>) {

@@ -145,14 +145,8 @@ impl<'a, T> Values<'a, T> {
 
     /// Makes a call for a receiver that is counted.
     fn count<R>(&self, receiver: impl FnOnce() -> Option<R>) -> Option<(R, Option<Number>)> {
-        let number = self.tape.take(Table::Receivers);
-        let step = self.tape.step(phrase(format_args!("receiver {}", Shown(number))));
-        let Some(receiver) = receiver() else {
-            step.end(phrase("None"), number);
-            return None;
-        };
-        step.end(phrase("Ok"), None);
-        Some((receiver, number))
+        let receiver = || receiver().ok_or(());
+        self.tape.call_for_handle(Table::Receivers, "receiver", receiver, |()| phrase("None")).ok()
     }
 
     /// Records a receiver that isn't counted.
