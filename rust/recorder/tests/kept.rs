@@ -1,7 +1,7 @@
 //! What is kept of a primitive's run and of its tasks, and for how long.
 #![cfg(feature = "record")]
 use std::sync::Arc;
-use std::sync::atomic::{AtomicBool, Ordering::SeqCst};
+use std::sync::atomic::{AtomicBool, AtomicUsize, Ordering::SeqCst};
 use std::sync::mpsc::channel as pair;
 use std::task::{Context, Waker};
 use std::thread;
@@ -9,6 +9,7 @@ use std::time::Duration;
 
 use critical_section as _;
 use embassy_sync::blocking_mutex::raw::{CriticalSectionRawMutex, NoopRawMutex};
+use embassy_sync::watch as upstream;
 use recorder::channel::Channel;
 use recorder::signal::Signal;
 use recorder::watch::Watch;
@@ -97,6 +98,31 @@ fn a_thread_that_waits_for_its_turn_gets_it() {
     let received = run.lines().position(|line| line == "try-receive => Ok(1) | -");
     let empty = run.lines().position(|line| line == "try-receive => Err(Empty) | -");
     assert!(received < empty, "{run}");
+}
+
+static LOOKS: AtomicUsize = AtomicUsize::new(0);
+
+/// Names the value that was sent, and once more when it was found: then another thread has had time to send.
+fn slow_once_found(value: &u8) -> Name {
+    if *value == 1 && LOOKS.fetch_add(1, SeqCst) == 1 {
+        thread::sleep(Duration::from_millis(50));
+    }
+    Name::number(*value)
+}
+
+#[test]
+fn a_value_is_found_before_another_thread_sends() {
+    static WATCH: Watch<CriticalSectionRawMutex, u8, 1> = Watch::named(upstream::Watch::new(), slow_once_found);
+    WATCH.sender().send(1);
+    let looks = thread::spawn(|| WATCH.try_get_and(|value| *value == 1));
+    while LOOKS.load(SeqCst) < 2 {
+        thread::yield_now();
+    }
+    WATCH.sender().send(2);
+    assert_eq!(looks.join().unwrap(), Some(1));
+    // (of a value that doesn't pass there is no line)
+    assert_eq!(WATCH.sender().try_get_and(|value| *value == 1), None);
+    assert_eq!(WATCH.run().text, "watch 1\nsend 1 => Ok | -\ntry-get => Some(1) | -\nsend 2 => Ok | -\n");
 }
 
 #[test]

@@ -259,7 +259,8 @@ impl Tape {
         lock(&self.page).tasks.find(waker)
     }
 
-    /// Records a call that wakes nobody, and was made in this turn or changes nothing.
+    /// Records a call that wakes nobody. It was made in this turn, or else it changes nothing and has one answer, whatever
+    /// other threads call meanwhile.
     pub fn note(&self, command: &Phrase, answer: &Phrase) {
         lock(&self.page).write(command, answer, &[]);
     }

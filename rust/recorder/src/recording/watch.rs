@@ -160,10 +160,13 @@ impl<'a, T> Values<'a, T> {
         self.tape.call(phrase("try-get"), get, |found| self.optional(found))
     }
 
+    /// Looks for a value that passes. A run has no line for one that doesn't.
     fn try_get_and(&self, get: impl FnOnce() -> Option<T>) -> Option<T> {
+        let step = self.tape.step(phrase("try-get"));
         let found = get();
-        if found.is_some() {
-            self.tape.note(&phrase("try-get"), &self.optional(&found));
+        match &found {
+            Some(_) => step.end(self.optional(&found), None),
+            None => step.leave_out(),
         }
         found
     }
