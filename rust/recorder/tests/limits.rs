@@ -7,7 +7,7 @@ use std::thread;
 use critical_section as _;
 use embassy_sync::blocking_mutex::raw::{CriticalSectionRawMutex, NoopRawMutex};
 use recorder::channel::Channel;
-use recorder::mutex::Mutex;
+use recorder::mutex::{MappedMutexGuard, Mutex, MutexGuard};
 use recorder::once_lock::OnceLock;
 use recorder::pipe::{Pipe, TryWriteError};
 use recorder::priority_channel::{Max, PriorityChannel};
@@ -353,6 +353,30 @@ fn a_panic_is_recorded() {
     assert_eq!(semaphore.run().text, format!("greedy 1 1\nrelease {} => Panic | -\n", usize::MAX));
     keep("free_consume_too_many", &pipe.run());
     keep("free_release_too_many", &semaphore.run());
+}
+
+#[test]
+fn a_second_map_that_panics_unlocks() {
+    let mutex: Mutex<NoopRawMutex, u8> = Mutex::new(1);
+    let task = Task::new();
+    let part = MutexGuard::map(mutex.try_lock().unwrap(), |byte| byte);
+    let part = MappedMutexGuard::map(part, |byte| byte);
+    let mut lock = Box::pin(mutex.lock());
+    assert!(task.poll(&mut lock).is_pending());
+    let map = || drop(MappedMutexGuard::map(part, |_| -> &mut u8 { panic!("no part of it") }));
+    assert!(catch_unwind(AssertUnwindSafe(map)).is_err());
+    assert_eq!((task.take_wakes(), task.poll(&mut lock).is_ready()), (1, true));
+    let text = "\
+mutex 1 0 0
+try-lock 0 => Ok | -
+map 0 => Ok | -
+start 1 lock => Ok | -
+poll 1 0 => Pending | -
+map 0 => Panic | 0
+poll 1 0 => Ready | -
+end 1 => Ok | -
+";
+    assert_eq!((mutex.run().text.as_str(), mutex.run().stop), (text, None));
 }
 
 #[test]

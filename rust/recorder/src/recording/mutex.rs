@@ -178,10 +178,13 @@ pub struct MappedMutexGuard<'a, M: RawMutex, T: ?Sized> {
 }
 
 impl<'a, M: RawMutex, T: ?Sized> MappedMutexGuard<'a, M, T> {
-    /// Returns a guard of a part of the part. A run maps a guard once, so that this is no line of it.
+    /// Returns a guard of a part of the part. A run maps a guard once, and has this only if `part` panics: then upstream
+    /// unlocks.
     pub fn map<U>(mut this: Self, part: impl FnOnce(&mut T) -> &mut U) -> MappedMutexGuard<'a, M, U> {
         let inner = this.inner.take().expect(HAS_GUARD);
-        MappedMutexGuard { inner: Some(upstream::MappedMutexGuard::map(inner, part)), held: this.held.take() }
+        let held = this.held.take().expect(HAS_GUARD);
+        let inner = held.record_panic("map", || upstream::MappedMutexGuard::map(inner, part));
+        MappedMutexGuard { inner: Some(inner), held: Some(held) }
     }
 }
 

@@ -118,6 +118,14 @@ impl<'a> Held<'a> {
         self.tape.call(self.command(command), act, answer)
     }
 
+    /// Makes a call that speaks of the number. A run has it only if it panics: else it changes nothing and wakes nobody.
+    pub fn record_panic<R>(&self, command: &str, act: impl FnOnce() -> R) -> R {
+        let step = self.tape.step(self.command(command));
+        let result = act();
+        step.leave_out();
+        result
+    }
+
     /// Makes a call after which nothing is held.
     pub fn end<R>(&self, command: &str, act: impl FnOnce() -> R, answer: impl FnOnce(&R) -> Phrase) -> R {
         let step = self.tape.step(self.command(command));
