@@ -1,8 +1,9 @@
 //! What is kept of a primitive's run and of its tasks, and for how long.
 #![cfg(feature = "record")]
-use std::sync::Arc;
+use std::collections::BTreeSet;
 use std::sync::atomic::{AtomicBool, AtomicUsize, Ordering::SeqCst};
 use std::sync::mpsc::channel as pair;
+use std::sync::{Arc, Barrier, Mutex, MutexGuard, PoisonError};
 use std::task::{Context, Waker};
 use std::thread;
 use std::time::Duration;
@@ -22,6 +23,12 @@ fn is_taken(name: &str) -> bool {
     recorder::take().iter().any(|run| run.name == name)
 }
 
+/// Lets one test take runs at a time: a run of a primitive that is gone is taken once.
+fn lock_takes() -> MutexGuard<'static, ()> {
+    static TAKES: Mutex<()> = Mutex::new(());
+    TAKES.lock().unwrap_or_else(PoisonError::into_inner)
+}
+
 #[test]
 fn two_primitives_of_one_line_have_two_names() {
     let signals: [Signal<NoopRawMutex, u8>; 2] = std::array::from_fn(|_| Signal::new());
@@ -31,14 +38,38 @@ fn two_primitives_of_one_line_have_two_names() {
 
 #[test]
 fn a_primitive_is_forgotten_once_it_is_gone() {
+    let _only_one = lock_takes();
     let signal: Signal<NoopRawMutex, u8> = Signal::new();
     signal.signal(1);
     let name = signal.run().name;
-    // (another test may take the runs too: of a primitive that is there each has one)
     assert!(is_taken(&name) && is_taken(&name));
     drop(signal);
     is_taken(&name);
     assert!(!is_taken(&name));
+}
+
+#[test]
+fn the_last_call_of_a_primitive_that_ends_beside_take_is_taken() {
+    let _only_one = lock_takes();
+    let ending: Vec<Signal<NoopRawMutex, u8>> = (0..1000).map(|_| Signal::new()).collect();
+    let names: Vec<String> = ending.iter().map(|signal| signal.run().name).collect();
+    // (the run of this one is read last, and that takes a while)
+    let long: Signal<NoopRawMutex, u8> = Signal::new();
+    (0..40_000).for_each(|_| long.signal(1));
+    let begins = Barrier::new(2);
+    let mut runs = thread::scope(|scope| {
+        let takes = scope.spawn(|| {
+            begins.wait();
+            recorder::take()
+        });
+        begins.wait();
+        ending.into_iter().for_each(|signal| signal.signal(7));
+        takes.join().unwrap()
+    });
+    runs.extend(recorder::take());
+    let has_last: BTreeSet<String> =
+        runs.into_iter().filter(|run| run.text.contains("signal 7")).map(|run| run.name).collect();
+    assert_eq!(names.iter().filter(|name| !has_last.contains(*name)).count(), 0);
 }
 
 #[test]

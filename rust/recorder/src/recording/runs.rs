@@ -90,11 +90,15 @@ pub(crate) fn add(origin: &Location<'_>, head: Head) -> Arc<Tape> {
 
 /// Returns the runs of all primitives that were called, in the order of their first calls.
 ///
-/// Forgets the primitives that are gone.
+/// Forgets the primitives that are gone, of which these runs have the last calls.
 pub fn take() -> Vec<Run> {
-    let mut known = lock(&KNOWN);
-    let runs = known.tapes.iter().map(|tape| tape.run()).collect();
-    known.tapes.retain(|tape| Arc::strong_count(tape) > 1);
+    let mut runs = Vec::new();
+    lock(&KNOWN).tapes.retain(|tape| {
+        // (asked before the run is read: a primitive that is gone by then makes no call after it)
+        let is_there = Arc::strong_count(tape) > 1;
+        runs.push(tape.run());
+        is_there
+    });
     runs
 }
 
