@@ -97,9 +97,20 @@ impl<'a, K> Futures<'a, K> {
 
     /// Adds the future that this makes, where there is room.
     pub fn add<F: Future<Output = K> + 'a>(&mut self, make: impl FnOnce() -> F) {
-        if self.kept.len() < self.room {
+        if self.has_room() {
             self.kept.push(Box::pin(make()));
         }
+    }
+
+    /// Takes the last of these and adds the future that this makes of it, where there is room and one to take.
+    pub fn add_with<H, F: Future<Output = K> + 'a>(&mut self, handles: &mut Vec<H>, make: impl FnOnce(H) -> F) {
+        if self.has_room() {
+            self.kept.extend(handles.pop().map(|handle| Box::pin(make(handle)) as Kept<'a, K>));
+        }
+    }
+
+    fn has_room(&self) -> bool {
+        self.kept.len() < self.room
     }
 
     /// Polls one of the futures, and returns what it leaves.

@@ -344,9 +344,7 @@ fn watch<const N: usize>(dice: &mut Dice) -> Run {
             8 => _ = (anonymous.try_get(), anonymous.try_changed_and(|value| *value > 1)),
             9 => _ = receivers.iter_mut().map(|it| (it.try_changed(), it.try_get_and(|value| *value > 3))).count(),
             10 | 11 => {
-                if let Some(receiver) = receivers.pop() {
-                    futures.add(|| watch_for(receiver, 1 + dice.place(3), dice.below(4)));
-                }
+                futures.add_with(&mut receivers, |receiver| watch_for(receiver, 1 + dice.place(3), dice.below(4)));
             }
             _ => receivers.extend(futures.poll(dice)),
         }
@@ -385,16 +383,10 @@ fn pubsub<const N: usize, const S: usize, const P: usize>(dice: &mut Dice) -> Ru
     let clears = dice.coin();
     let mut futures = Futures::new(dice);
     let mut subscribers: Vec<Subscriber<'_, N, S, P>> = Vec::new();
-    let mut joined = 0;
     for _ in 0..steps(dice) {
         let message = dice.message();
         match dice.below(16) {
-            // (a run has no number for one more to ask with)
-            0 | 1 if joined < HANDLES => {
-                let subscriber = channel.subscriber();
-                joined += usize::from(subscriber.is_ok());
-                subscribers.extend(subscriber);
-            }
+            0 | 1 => subscribers.extend(channel.subscriber()),
             2 => drop(channel.publisher()),
             3..=6 if publishers.is_empty() => immediate.publish_immediate(message),
             3 => _ = publishers[dice.place(kept)].try_publish(message),
@@ -407,15 +399,12 @@ fn pubsub<const N: usize, const S: usize, const P: usize>(dice: &mut Dice) -> Ru
             7 => _ = subscribers.iter_mut().map(|it| (it.available(), it.try_next_message())).count(),
             8 => _ = subscribers.last_mut().map(Subscriber::try_next_message_pure),
             9 | 10 => {
-                if let Some(subscriber) = subscribers.pop() {
-                    futures.add(|| read_next(subscriber, 1 + dice.place(3), dice.coin()));
-                }
+                futures.add_with(&mut subscribers, |subscriber| read_next(subscriber, 1 + dice.place(3), dice.coin()));
             }
             11 => _ = (channel.len(), channel.is_full(), channel.is_empty(), channel.free_capacity()),
             12 if !clears && !dice.is_plain => {
                 // (what is available and isn't held was missed, so that the run shows whether this one lags)
-                let left = subscribers.pop().map(|subscriber| (subscriber.available(), channel.len()));
-                joined -= usize::from(left.is_some());
+                _ = subscribers.pop().map(|subscriber| (subscriber.available(), channel.len()));
             }
             12 if clears && !dice.is_plain => channel.clear(),
             _ => subscribers.extend(futures.poll(dice).flatten()),
