@@ -4,8 +4,8 @@
 #     rust/recorder/run.sh [--upstream FOLDER] [COUNT [SEED]]
 #
 # FOLDER is the package embassy-sync, for where no registry is reached. COUNT is the number of random programs, 1000
-# where it isn't said, and SEED another number for others. The last line says what was found, and the status is 1 where
-# a run has another verdict than it should.
+# where it isn't said, and SEED another number for others. ESYNC names the program that judges, as for judge.sh. The
+# last line says what was found, and the status is 1 where a run has another verdict than it should.
 set -eu
 upstream=
 if [ "${1-}" = --upstream ]; then
@@ -14,6 +14,10 @@ if [ "${1-}" = --upstream ]; then
 fi
 count=${1-1000}
 seed=${2-1}
+if [ "${ESYNC-}" ]; then
+    ESYNC=$(realpath "$ESYNC")
+    export ESYNC
+fi
 cd "$(dirname "$0")"
 with_upstream() {
     if [ "$upstream" ]; then
@@ -37,5 +41,6 @@ rm -rf "$runs"
 with_upstream test --quiet
 with_upstream test --quiet --features record
 example random "$runs" "$count" "$seed"
-./judge.sh "$runs"/*.run >"$target/tmp/verdicts"
+# (some of these are rightly no: the example knows which)
+./judge.sh "$runs"/*.run >"$target/tmp/verdicts" || true
 example verdicts verdicts "$runs" <"$target/tmp/verdicts"
