@@ -17,6 +17,8 @@ use recorder::signal::Signal;
 use recorder::watch::Watch;
 use recorder::{Name, Recorded, Run, Stop, Unsaved, named_by_debug, zerocopy_channel};
 
+#[path = "dotted/two.signals.rs"]
+mod dotted;
 mod executor;
 use executor::Task;
 mod keep;
@@ -431,6 +433,8 @@ fn what_is_saved() {
     pipe.clear();
     let word: Signal<NoopRawMutex, Word> = Signal::new();
     word.signal(Word::No(3));
+    let dotted = dotted::signals();
+    dotted.iter().zip([1, 2]).for_each(|(signal, number)| signal.signal(number));
     let Err(Unsaved::Stopped(stopped)) = recorder::save(&folder) else {
         panic!("a pipe of 5000 bytes stops a recording")
     };
@@ -439,9 +443,15 @@ fn what_is_saved() {
     assert!(reason.ends_with("stopped at a capacity of 5000, where 1 to 4096 can be recorded"), "{reason}");
     let run = signal.run();
     assert!(run.name.starts_with("signal-limits-"), "{}", run.name);
-    let saved = std::fs::read_to_string(folder.join(&run.name).with_extension("run")).unwrap();
+    let file = |run: &Run, extension: &str| folder.join(format!("{}.{extension}", run.name));
+    let saved = std::fs::read_to_string(file(&run, "run")).unwrap();
     assert_eq!(saved, "signal 1\nsignal 1 => Ok | -\n");
-    assert!(!folder.join(&run.name).with_extension("legend").exists());
-    let legend = std::fs::read_to_string(folder.join(&word.run().name).with_extension("legend")).unwrap();
-    assert_eq!(legend, "0 No(3)\n");
+    assert!(!file(&run, "legend").exists());
+    assert_eq!(std::fs::read_to_string(file(&word.run(), "legend")).unwrap(), "0 No(3)\n");
+    // (both were made in a file whose name has a dot)
+    for signal in dotted {
+        let run = signal.run();
+        assert!(run.name.starts_with("signal-two.signals-"), "{}", run.name);
+        assert_eq!(std::fs::read_to_string(file(&run, "run")).unwrap(), run.text);
+    }
 }

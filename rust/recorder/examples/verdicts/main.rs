@@ -73,11 +73,11 @@ fn count(found: &BTreeMap<Found, usize>, what: Found) -> usize {
 /// Returns what was found of a run, where that is right.
 fn judged(entry: &str, kept: &Path) -> Option<Found> {
     let (file, verdict) = entry.trim_end().split_once('\n')?;
-    let name = Path::new(file).file_stem()?;
-    if let Ok(expected) = fs::read_to_string(kept.join(name).with_extension("verdict")) {
+    let name = Path::new(file).file_stem()?.to_string_lossy();
+    if let Ok(expected) = fs::read_to_string(kept.join(format!("{name}.verdict"))) {
         return (expected.trim_end() == verdict).then_some(Found::Kept);
     }
-    let is_free = name.to_string_lossy().starts_with("free_");
+    let is_free = name.starts_with("free_");
     match verdict.rsplit_once('\n')?.1 {
         "status 0" => Some(Found::Run),
         "status 1" if is_free => met(&fs::read_to_string(file).ok()?, verdict).map(Found::Meets),

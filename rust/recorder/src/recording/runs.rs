@@ -107,14 +107,14 @@ pub fn take() -> Vec<Run> {
 ///
 /// An error says which recordings stopped, or that a file couldn't be written.
 pub fn save(folder: impl AsRef<Path>) -> Result<usize, Unsaved> {
+    let folder = folder.as_ref();
+    fs::create_dir_all(folder)?;
     let runs = take();
-    fs::create_dir_all(&folder)?;
     for run in &runs {
-        let file = folder.as_ref().join(&run.name);
-        fs::write(file.with_extension("run"), &run.text)?;
+        fs::write(folder.join(format!("{}.run", run.name)), &run.text)?;
         if !run.legend.is_empty() {
             let lines: String = run.legend.iter().map(|(number, said)| format!("{number} {said}\n")).collect();
-            fs::write(file.with_extension("legend"), lines)?;
+            fs::write(folder.join(format!("{}.legend", run.name)), lines)?;
         }
     }
     let count = runs.len();

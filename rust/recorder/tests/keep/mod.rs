@@ -8,5 +8,5 @@ use recorder::Run;
 pub fn keep(name: &str, run: &Run) {
     let folder = Path::new(env!("CARGO_TARGET_TMPDIR")).join("runs");
     fs::create_dir_all(&folder).unwrap();
-    fs::write(folder.join(name).with_extension("run"), &run.text).unwrap();
+    fs::write(folder.join(format!("{name}.run")), &run.text).unwrap();
 }
