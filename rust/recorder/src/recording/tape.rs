@@ -154,11 +154,17 @@ struct Page {
 }
 
 impl Page {
+    /// Stops the recording, where it hasn't stopped.
+    fn stop(&mut self, stop: Stop) {
+        self.stop.get_or_insert(stop);
+        self.tasks.stop_noting();
+    }
+
     /// Takes the lowest number that is free. If none is, the recording stops.
     fn take(&mut self, table: Table) -> Option<Number> {
         let number = self.try_take(table);
         if number.is_none() {
-            self.stop.get_or_insert(Stop::Numbers);
+            self.stop(Stop::Numbers);
         }
         number
     }
@@ -183,7 +189,7 @@ impl Page {
         }
         match self.line(command, answer, woken) {
             Ok(line) => self.lines.push(line),
-            Err(stop) => self.stop = Some(stop),
+            Err(stop) => self.stop(stop),
         }
     }
 
@@ -204,9 +210,11 @@ impl Tape {
             Ok(text) => (text, None),
             Err(stop) => (head.kind.to_string(), Some(stop)),
         };
-        let stop = head.limit.err().or(unwritten);
         let numbers = [head.requests, NAMES, NAMES, NAMES].map(Numbers::new);
-        let page = Page { head: text, lines: Vec::new(), numbers, tasks: Tasks::default(), names, stop };
+        let mut page = Page { head: text, lines: Vec::new(), numbers, tasks: Tasks::new(), names, stop: None };
+        if let Some(stop) = head.limit.err().or(unwritten) {
+            page.stop(stop);
+        }
         Tape { name, turns: Turns::default(), page: Mutex::new(page) }
     }
 
@@ -226,7 +234,7 @@ impl Tape {
 
     /// Stops the recording, where it hasn't stopped.
     pub fn stop(&self, stop: Stop) {
-        lock(&self.page).stop.get_or_insert(stop);
+        lock(&self.page).stop(stop);
     }
 
     /// Puts this in place of line 1: what it says is known now.
@@ -234,9 +242,7 @@ impl Tape {
         let mut page = lock(&self.page);
         match head.written(&mut page.names) {
             Ok(text) => page.head = text,
-            Err(stop) => {
-                page.stop.get_or_insert(stop);
-            }
+            Err(stop) => page.stop(stop),
         }
     }
 
@@ -392,5 +398,25 @@ impl Step<'_> {
 impl Drop for Step<'_> {
     fn drop(&mut self) {
         self.write(&phrase("Panic"), None);
+    }
+}
+
+#[cfg(test)]
+mod tests {
+    use super::*;
+
+    fn woken_by_one_wake(tape: &Tape) -> Vec<u64> {
+        tape.task(Waker::noop()).1.wake();
+        lock(&tape.page).tasks.take_woken()
+    }
+
+    #[test]
+    fn wakes_are_noted_until_the_recording_stops() {
+        let tape = Tape::new("signal".to_string(), Head::new("signal", 1));
+        assert_eq!(woken_by_one_wake(&tape), [0]);
+        tape.task(Waker::noop()).1.wake();
+        tape.stop(Stop::Nested);
+        assert_eq!(woken_by_one_wake(&tape), []);
+        assert_eq!(woken_by_one_wake(&Tape::new("pipe".to_string(), Head::of_capacity("pipe", 0))), []);
     }
 }

@@ -5,8 +5,8 @@ use std::task::{Wake, Waker};
 
 use super::turn::lock;
 
-/// The tasks that were woken, in order, each as often as it was woken.
-type Woken = Arc<Mutex<Vec<u64>>>;
+/// The tasks that were woken, in order, each as often as it was woken. `None` where none is noted any more.
+type Woken = Arc<Mutex<Option<Vec<u64>>>>;
 
 /// A task's own waker, with the number of the task.
 struct Note {
@@ -21,19 +21,25 @@ impl Wake for Note {
     }
 
     fn wake_by_ref(self: &Arc<Self>) {
-        lock(&self.woken).push(self.number);
+        if let Some(woken) = &mut *lock(&self.woken) {
+            woken.push(self.number);
+        }
         self.own.wake_by_ref();
     }
 }
 
 /// The tasks in the order of their first polls. Two wakers are of one task where one would wake the other's.
-#[derive(Default)]
 pub struct Tasks {
     known: Vec<(Waker, Waker)>,
     woken: Woken,
 }
 
 impl Tasks {
+    /// Returns no tasks.
+    pub fn new() -> Self {
+        Tasks { known: Vec::new(), woken: Arc::new(Mutex::new(Some(Vec::new()))) }
+    }
+
     /// Returns the number of the task, and the waker that upstream gets in place of its own.
     pub fn find(&mut self, own: &Waker) -> (u64, Waker) {
         let place = self.known.iter().position(|(known, _)| known.will_wake(own));
@@ -49,7 +55,12 @@ impl Tasks {
 
     /// Returns who was woken since this was last called.
     pub fn take_woken(&mut self) -> Vec<u64> {
-        mem::take(&mut *lock(&self.woken))
+        lock(&self.woken).as_mut().map(mem::take).unwrap_or_default()
+    }
+
+    /// Notes nobody who is woken from now on: nobody asks for it.
+    pub fn stop_noting(&mut self) {
+        *lock(&self.woken) = None;
     }
 
     /// Lets go of the tasks' own wakers. No waker is known after it.
