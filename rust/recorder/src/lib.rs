@@ -18,6 +18,8 @@ mod unrecorded;
 #[cfg(not(feature = "record"))]
 pub use unrecorded::*;
 
+mod foreign;
+
 /// Names messages of these types by their `Debug`, as `named_by_debug!(Event, Reading);`.
 #[macro_export]
 macro_rules! named_by_debug {

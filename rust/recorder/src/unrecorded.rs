@@ -39,7 +39,7 @@ macro_rules! named {
     };
 }
 
-named!(u8, u16, u32, u64, usize, i8, i16, i32, i64, isize, bool, char, (), str);
+named!(u8, u16, u32, u64, usize, i8, i16, i32, i64, isize, bool, char, ());
 
 impl<T: Named + ?Sized> Named for &T {
     fn name(&self) -> Name {

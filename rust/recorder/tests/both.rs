@@ -93,6 +93,25 @@ fn a_channel_and_a_mutex() {
 }
 
 /// Takes a permit of any semaphore.
+/// Returns what a channel gives of a message whose type has a name.
+fn through_a_channel<T: Named>(message: T) -> Option<T> {
+    let channel: Channel<Raw, T, 1> = Channel::new();
+    channel.try_send(message).ok()?;
+    channel.try_receive().ok()
+}
+
+#[test]
+fn messages_of_foreign_types() {
+    assert_eq!(through_a_channel(()), Some(()));
+    assert_eq!(through_a_channel((true, 'a')), Some((true, 'a')));
+    assert_eq!(through_a_channel((1.5_f32,)), Some((1.5,)));
+    assert_eq!(through_a_channel([1_u8, 2, 3, 4]), Some([1, 2, 3, 4]));
+    assert_eq!(through_a_channel("ready"), Some("ready"));
+    assert_eq!(through_a_channel(&[0.5_f64][..]), Some(&[0.5][..]));
+    assert_eq!(through_a_channel(Some((1_u8, 2_i8, 3_u16))), Some(Some((1, 2, 3))));
+    assert_eq!(through_a_channel((1_u8, 2.5_f64, Some(3), "four")), Some((1, 2.5, Some(3), "four")));
+}
+
 async fn take<S: Semaphore>(semaphore: &S) -> SemaphoreReleaser<'_, S> {
     match semaphore.acquire(1).await {
         Ok(releaser) => releaser,

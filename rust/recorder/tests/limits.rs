@@ -60,6 +60,21 @@ try-take => Some(2) | -
 }
 
 #[test]
+fn messages_of_foreign_types_go_by_their_debug() {
+    let channel: Channel<NoopRawMutex, (Option<f32>, [u8; 2], String), 2> = Channel::new();
+    let messages = [(Some(21.5), [1, 2], "in".to_string()), (None, [3, 4], "out".to_string())];
+    for message in messages.clone() {
+        assert_eq!(channel.try_send(message), Ok(()));
+    }
+    assert_eq!(channel.try_receive(), Ok(messages[0].clone()));
+    let run = channel.run();
+    assert_eq!(run.text, "channel 2\ntry-send 0 => Ok | -\ntry-send 1 => Ok | -\ntry-receive => Ok(0) | -\n");
+    let texts = [r#"(Some(21.5), [1, 2], "in")"#, r#"(None, [3, 4], "out")"#];
+    assert_eq!(run.legend, [(0, texts[0].to_string()), (1, texts[1].to_string())]);
+    keep("each_channel_of_tuples", &run);
+}
+
+#[test]
 fn a_closure_names_messages() {
     let channel: Channel<NoopRawMutex, f32, 1> = Channel::named(|celsius| Name::number((celsius * 10.0) as u32));
     assert_eq!(channel.try_send(21.5), Ok(()));

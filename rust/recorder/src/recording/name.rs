@@ -64,7 +64,7 @@ impl Named for char {
     }
 }
 
-crate::named_by_debug!(str, String);
+crate::named_by_debug!(String);
 
 impl<T: Named + ?Sized> Named for &T {
     fn name(&self) -> Name {
