@@ -1,12 +1,13 @@
 -- The entries of a queue.
-use Rattle.std.proofs.Common.{◌≡◌, ℕ, zero, suc, ◌+◌, ◌<◌, ◌≤◌, Bool, true, false, List, [], ◌∷◌, ◌++◌, length, take, drop, refl, sym, ◌∙◌, ap, subst, arith, add-one, inl, inr}
+use Rattle.std.proofs.Common.{◌≡◌, ℕ, zero, suc, ◌+◌, ◌<◌, ◌≤◌, Bool, true, false, List, [], ◌∷◌, ◌++◌, length, take, drop, refl, sym, ◌∙◌, ap, arith, inl, inr}
 use Rattle.std.specs.Prelude.{◌==◌, map, slice_get, slice_set, Some, None, IsTrue, ◌↔◌, if◌then◌else◌}
 use Rattle.std.specs.List.{remove}
-use Rattle.std.proofs.lemmas.List.{length-append}
+use Rattle.std.proofs.lemmas.List.{length-append, map_more}
+use Rattle.std.proofs.lemmas.Option.{slice_get_within, get_or_from_slice_get}
 use Rattle.esync_permits.specs.declared.queue.Entry.{Entry}
 use Rattle.esync_base.specs.Listed.{is_in}
 use Rattle.esync_permits.specs.Queue.{without, is_front, is_next, numbers, wakers_at, front_wakers, entered, with_waker, left_by, StandsAt}
-use Rattle.esync_base.specs.ListedLaws.{true_or_false, neither, equal_number, unequal_number}
+use Rattle.esync_base.specs.ListedLaws.{true_or_false, neither, equal_number, has_number-before}
 use Rattle.esync_permits.proofs.Numbers.{not_another}
 
 module _ {W : Type 0} where
@@ -125,13 +126,15 @@ module _ {W : Type 0} where
   pub stands_found : (t i : ℕ) (es : List (Entry W)) (e : Entry W) → Some e ≡ slice_get es i → is_in t (numbers (take i es)) ≡ false → e.number ≡ t → StandsAt t i es
   stands_found t i es e h f n = record { before = take i es; entry = e; behind = drop (suc i) es; split = split_at es i e h; count = count_at es i e h; first = f; number = n }
 
-  not_in_more : (t i : ℕ) (es : List (Entry W)) (e : Entry W) → Some e ≡ slice_get es i → is_in t (numbers (take i es)) ≡ false → (e.number == t) ≡ false → is_in t (numbers (take (suc i) es)) ≡ false
-  not_in_more t i [] e h f n = absurd cc
-  not_in_more t zero (x ∷ es) e h f n = (let s : e ≡ x = cc in let m : (x.number == t) ≡ false = subst (λ y. (y.number == t) ≡ false) s n in rw m refl)
-  not_in_more t (suc i) (x ∷ es) e h f n = (let o = neither (x.number == t) (is_in t (numbers (take i es))) f in rw o.0 (not_in_more t i es e h o.1 n))
+  -- the numbers of the first entries, with one more entry
+  pub numbers-take : (i : ℕ) (es : List (Entry W)) (e : Entry W) → Some e ≡ slice_get es i → numbers (take (i + 1) es) ≡ numbers (take i es) ++ e.number ∷ []
+  numbers-take i es e h =
+      let l = slice_get_within es i e (sym h) in
+      map_more (λ x. x.number) es i e l ∙ ap (λ (x : Entry W). numbers (take i es) ++ x.number ∷ []) (get_or_from_slice_get es i e e (sym h))
 
+  -- an entry with another number makes no difference
   pub not_found : (t i : ℕ) (es : List (Entry W)) (e : Entry W) → Some e ≡ slice_get es i → is_in t (numbers (take i es)) ≡ false → (e.number ≡ t → ⊥) → is_in t (numbers (take (i + 1) es)) ≡ false
-  not_found t i es e h f n = ap (λ k. is_in t (numbers (take k es))) (add-one i) ∙ not_in_more t i es e h f (unequal_number e.number t n)
+  not_found t i es e h f n = ap (is_in t) (numbers-take i es e h) ∙ has_number-before (λ k. k) t (numbers (take i es)) e.number (λ s. n (sym s)) ∙ f
 
   -- the entry in front
   pub front_is : (t : ℕ) (es : List (Entry W)) (e : Entry W) → Some e ≡ slice_get es 0 → (e.number == t) ≡ is_front t (numbers es)

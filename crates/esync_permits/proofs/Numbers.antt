@@ -1,11 +1,12 @@
 -- Numbers in a list.
-use Rattle.std.proofs.Common.{◌≡◌, ℕ, ◌+◌, ◌<◌, ◌≤◌, true, false, List, [], ◌∷◌, ◌++◌, length, inl, inr, refl, sym, ◌∙◌, ap, arith, below_more}
-use Rattle.std.specs.Prelude.{◌==◌, ◌||◌, eqb}
+use Rattle.std.proofs.Common.{◌≡◌, ℕ, ◌+◌, ◌<◌, ◌≤◌, Bool, true, false, List, [], ◌∷◌, ◌++◌, length, get_or, inl, inr, refl, sym, ◌∙◌, ap, arith, below_more}
+use Rattle.std.specs.Prelude.{◌==◌, ◌||◌, eqb, slice_set}
 use Rattle.std.specs.List.{list_any}
+use Rattle.std.proofs.lemmas.List.{get_or-set_same, get_or-set_other}
 use Rattle.std.proofs.lemmas.Map.Steps.{le-length_from_below}
 use Rattle.std.proofs.lemmas.Bool.Decides.{nat_tests}
 use Rattle.esync_base.specs.Listed.{is_in}
-use Rattle.esync_base.specs.ListedLaws.{true_or_false, same_number, equal_number, unequal_number}
+use Rattle.esync_base.specs.ListedLaws.{true_or_false, same_number, equal_number, unequal_number, same_or_not, has_number-before}
 use Rattle.esync_permits.specs.Queue.{without, is_front, IsLeastFree}
 
 -- a number that equals one is not another
@@ -38,6 +39,13 @@ is_front-without t u (x ∷ xs) h = rw h refl
 -- a number that is free is none of those in the list
 pub is_fresh : (t u : ℕ) (xs : List ℕ) → is_in t xs ≡ false → is_in u xs ≡ true → t ≡ u → ⊥
 is_fresh t u xs f h e = (let k = sym (ap (λ x. is_in x xs) e) ∙ f in let j = sym h ∙ k in cc)
+
+-- marks of the numbers in a list, with one more number
+pub is_in-set : (n number : ℕ) (used : List Bool) (xs : List ℕ) → number < length used → get_or used n false ≡ is_in n xs → get_or (slice_set used number true) n false ≡ is_in n (xs ++ number ∷ [])
+is_in-set n number used xs l h = elim (same_or_not n number) [
+  | inl e ↦ rw e (get_or-set_same used number true false l ∙ sym (is_in-back number xs))
+  | inr ne ↦ get_or-set_other used number n true false ne ∙ h ∙ sym (has_number-before (λ k. k) n xs number ne)
+]
 
 -- a list that has every number below n has at least n
 is_in-any : (k : ℕ) (xs : List ℕ) → list_any (eqb k) xs ≡ is_in k xs

@@ -1,5 +1,5 @@
 //! The queue of a fair semaphore: the requests that wait, in order.
-ghost use Rattle.std.specs.Prelude.{◌≡◌, ◌<◌, ◌≤◌, [], Some, None, false, length, drop, map, slice_get, IfSome, IfNone};
+ghost use Rattle.std.specs.Prelude.{◌≡◌, ℕ, ◌<◌, ◌≤◌, [], Some, None, false, length, get_or, drop, map, slice_get, IfSome, IfNone};
 ghost use Rattle.esync_base.specs.Listed.{is_in};
 ghost use Rattle.esync_permits.specs.Queue.{is_front, is_next, numbers, entered, with_waker, left_by, IsLeastFree, StandsAt};
 
@@ -31,12 +31,27 @@ fn place_of<W: Copy, const N: usize>(entries: &Deque<Entry<W>, N>, number: usize
     None
 }
 
-// The least number that no entry has.
+// Returns, for each number below `N`, whether an entry has it.
+fn used_numbers<W: Copy, const N: usize>(entries: &Deque<Entry<W>, N>) -> [bool; N]
+    ensures { (n : ℕ) → n < N → get_or result n false ≡ is_in n (numbers entries.now.items) }
+{
+    let mut used = [false; N];
+    for place in 0..entries.len() {
+        let number = entries.get(place).number;
+        if number < N {
+            used[number] = true;
+        }
+    }
+    used
+}
+
+// Returns the least number that no entry has. One of the numbers from 0 to `entries.len()` is always free.
 fn free_number<W: Copy, const N: usize>(entries: &Deque<Entry<W>, N>) -> usize
     ensures { IsLeastFree result (numbers entries.now.items) }
 {
+    let used = used_numbers(entries);
     for number in 0..entries.len() {
-        if place_of(entries, number).is_none() {
+        if !used[number] {
             return number;
         }
     }
