@@ -1,6 +1,7 @@
 -- The object of a primitive with its requests, and the steps that it allows.
 use Rattle.std.specs.Prelude.{◌≡◌, ℕ, Bool, true, List, Option, Some, None, ◌⊎◌, slice_get, slice_set}
-use Rattle.esync_machine.specs.Runs.{Meaning}
+use Rattle.esync_machine.specs.Runs.{Meaning, GoodRun}
+use Rattle.esync_machine.specs.Tabled.{Tabled}
 use Rattle.esync_machine.specs.Numbers.{at_number, swept}
 use Rattle.esync_machine.specs.declared.run.Reply.{Reply}
 use Rattle.esync_machine.specs.declared.primitive.Answer.{Answer}
@@ -111,3 +112,9 @@ module _ {Ask Held C A : Type 0} (R : Rules Ask Held C A) where
     IsRefused = λ a. a.answer ≡ NoMemory;
     WakesItself = R.WakesItself;
   }
+
+  -- The answers of a run over a primitive with its requests are those of a good run. The primitive's states show their
+  -- object and their registered wakers so.
+  abbrev pub GoodRunOver : {S W : Type 0} → (S → R.Core) → (T : Wakings R.Core Held C A W) → (S → T.Registered) → (W → W → Bool) → (K : ℕ) → Tabled S Held → List (Command Ask W C) → List (Reply (Answer A) W K) → Tabled S Held → Type 0
+  GoodRunOver core T registered same K old commands replies new =
+      GoodRun (requests_meaning T same K) (record { core = core old.state; requests = old.requests }) (registered old.state) commands replies (record { core = core new.state; requests = new.requests }) (registered new.state)

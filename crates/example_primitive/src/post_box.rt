@@ -1,7 +1,6 @@
 //! A post box for one subscriber, which may leave: leaving ends all requests that wait for a message.
 ghost use Rattle.std.specs.Prelude.{◌≡◌, [], None, false, IfOk, OnErr};
-ghost use Rattle.esync_machine.specs.Runs.{GoodRun};
-ghost use Rattle.esync_machine.specs.Object.{requests_meaning};
+ghost use Rattle.esync_machine.specs.Object.{GoodRunOver};
 ghost use Rattle.example_primitive.specs.PostBox.{post_rules, post_wakings};
 
 use embassy_sync::run::primitive::{Answer, Command, Primitive, Reach, Turn};
@@ -160,7 +159,7 @@ pub fn run_post<W: Copy + Eq>(
     machine: &mut PostRun<W>,
     commands: Vec<Command<NextMessage, W, PostCall>>,
 ) -> Result<Vec<Reply<Answer<u32>, W, 1>>, AllocError>
-    ensures run { IfOk result (λ replies. GoodRun (requests_meaning post_rules (post_wakings W.eq) W.eq 1) (record { core = record { is_live = machine.old.state.is_live; message = machine.old.state.message }; requests = machine.old.requests }) machine.old.state.reader commands.items replies.items (record { core = record { is_live = machine.new.state.is_live; message = machine.new.state.message }; requests = machine.new.requests }) machine.new.state.reader) }
+    ensures run { IfOk result (λ replies. GoodRunOver post_rules (λ m. record { is_live = m.is_live; message = m.message }) (post_wakings W.eq) (λ m. m.reader) W.eq 1 machine.old commands.items replies.items machine.new) }
     ensures refused { OnErr result (machine.new ≡ machine.old) }
 {
     run(alloc, machine, commands)

@@ -1,7 +1,6 @@
 //! A value that is made when it is first asked for, as a machine that takes commands.
 ghost use Rattle.std.specs.Prelude.{◌≡◌, Option, IfOk, OnErr, None, Some};
-ghost use Rattle.esync_machine.specs.Runs.{GoodRun};
-ghost use Rattle.esync_machine.specs.Object.{requests_meaning};
+ghost use Rattle.esync_machine.specs.Object.{GoodRunOver};
 ghost use Rattle.std.specs.Option.{option_copied};
 ghost use Rattle.esync_cells.specs.LazyLock.{Lazy};
 ghost use Rattle.esync_cells.specs.LazyRules.{lazy_rules, lazy_wakings};
@@ -196,7 +195,7 @@ pub fn run_lazy<T: Copy, M: Maker<T> + Drop, W: Copy + Eq, const REQS: usize, co
     machine: &mut LazyRun<T, M, W, REQS, K>,
     commands: Vec<LazyCommand<W>>,
 ) -> Result<Vec<LazyReply<T, W, K>>, AllocError>
-    ensures run { IfOk result (λ replies. GoodRun (requests_meaning (lazy_rules M.Makes) (lazy_wakings (Option (Lazy T M)) T W) W.eq K) (record { core = machine.old.state; requests = machine.old.requests }) tt commands.items replies.items (record { core = machine.new.state; requests = machine.new.requests }) tt) }
+    ensures run { IfOk result (λ replies. GoodRunOver (lazy_rules M.Makes) (λ m. m) (lazy_wakings (Option (Lazy T M)) T W) (λ m. tt) W.eq K machine.old commands.items replies.items machine.new) }
     ensures refused { OnErr result (machine.new ≡ machine.old) }
 {
     run(alloc, machine, commands)

@@ -1,7 +1,6 @@
 //! A value that is set once, as a machine that takes commands.
 ghost use Rattle.std.specs.Prelude.{◌≡◌, IfOk, OnErr};
-ghost use Rattle.esync_machine.specs.Runs.{GoodRun};
-ghost use Rattle.esync_machine.specs.Object.{requests_meaning};
+ghost use Rattle.esync_machine.specs.Object.{GoodRunOver};
 ghost use Rattle.esync_cells.specs.OnceRules.{once_rules, once_wakings};
 ghost use Rattle.esync_cells.specs.OnceSet.{StaysSet};
 
@@ -141,7 +140,7 @@ pub fn run_once<T: Copy, W: Copy + Eq, const REQS: usize, const K: usize>(
     machine: &mut OnceRun<T, W, REQS, K>,
     commands: Vec<OnceCommand<T, W>>,
 ) -> Result<Vec<OnceReply<T, W, K>>, AllocError>
-    ensures run { IfOk result (λ replies. GoodRun (requests_meaning (once_rules T) (once_wakings T W) W.eq K) (record { core = machine.old.state; requests = machine.old.requests }) tt commands.items replies.items (record { core = machine.new.state; requests = machine.new.requests }) tt) }
+    ensures run { IfOk result (λ replies. GoodRunOver (once_rules T) (λ m. m) (once_wakings T W) (λ m. tt) W.eq K machine.old commands.items replies.items machine.new) }
     ensures set { IfOk result (λ replies. StaysSet machine.old.state machine.old.requests commands.items replies.items) }
     ensures refused { OnErr result (machine.new ≡ machine.old) }
 {

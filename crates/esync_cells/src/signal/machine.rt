@@ -1,7 +1,6 @@
 //! The signal as a machine that takes commands.
 ghost use Rattle.std.specs.Prelude.{◌≡◌, [], None, IfOk, OnErr};
-ghost use Rattle.esync_machine.specs.Runs.{GoodRun};
-ghost use Rattle.esync_machine.specs.Object.{Object, requests_meaning};
+ghost use Rattle.esync_machine.specs.Object.{GoodRunOver};
 ghost use Rattle.esync_cells.specs.SignalRules.{signal_rules, signal_wakings};
 
 use super::SignalState;
@@ -138,7 +137,7 @@ pub fn run_signal<T: Drop, W: Copy + Eq, const REQS: usize, const K: usize>(
     machine: &mut SignalRun<T, W, REQS, K>,
     commands: Vec<SignalCommand<T, W>>,
 ) -> Result<Vec<SignalReply<T, W, K>>, AllocError>
-    ensures run { IfOk result (λ replies. GoodRun (requests_meaning (signal_rules T) (signal_wakings W.eq) W.eq K) (record { core = machine.old.state.value; requests = machine.old.requests }) machine.old.state.waiter commands.items replies.items (record { core = machine.new.state.value; requests = machine.new.requests }) machine.new.state.waiter) }
+    ensures run { IfOk result (λ replies. GoodRunOver (signal_rules T) (λ m. m.value) (signal_wakings W.eq) (λ m. m.waiter) W.eq K machine.old commands.items replies.items machine.new) }
     ensures refused { OnErr result (machine.new ≡ machine.old) }
 {
     run(alloc, machine, commands)

@@ -1,8 +1,7 @@
 //! The channel, and the priority channel, as machines that take commands.
 ghost use Rattle.std.specs.Prelude.{◌≡◌, ℕ, [], IfOk, OnErr};
 ghost use Rattle.esync_base.specs.Keeping.{BoundedList};
-ghost use Rattle.esync_machine.specs.Runs.{GoodRun};
-ghost use Rattle.esync_machine.specs.Object.{Object, requests_meaning};
+ghost use Rattle.esync_machine.specs.Object.{GoodRunOver};
 ghost use Rattle.esync_channel.specs.ChannelRules.{channel_rules, channel_wakings};
 ghost use Rattle.esync_channel.specs.Order.{InOrder};
 ghost use Rattle.esync_channel.specs.Sizes.{SizesAddUp};
@@ -193,7 +192,7 @@ pub fn run_channel<T: Drop, W: Copy + Eq, const N: usize, const REQS: usize, con
     machine: &mut ChannelRun<T, W, N, REQS, K>,
     commands: Vec<ChannelCommand<T, W>>,
 ) -> Result<Vec<ChannelReply<T, W, K>>, AllocError>
-    ensures run { IfOk result (λ replies. GoodRun (requests_meaning (channel_rules (BoundedList T N)) (channel_wakings W.eq (BoundedList T N)) W.eq K) (record { core = machine.old.state.store.items; requests = machine.old.requests }) machine.old.state.slots commands.items replies.items (record { core = machine.new.state.store.items; requests = machine.new.requests }) machine.new.state.slots) }
+    ensures run { IfOk result (λ replies. GoodRunOver (channel_rules (BoundedList T N)) (λ m. m.store.items) (channel_wakings W.eq (BoundedList T N)) (λ m. m.slots) W.eq K machine.old commands.items replies.items machine.new) }
     ensures order { IfOk result (λ replies. InOrder machine.old.requests machine.old.state.store.items commands.items replies.items machine.new.state.store.items) }
     ensures sizes { IfOk result (λ replies. SizesAddUp N machine.old.requests machine.old.state.store.items commands.items replies.items) }
     ensures refused { OnErr result (machine.new ≡ machine.old) }

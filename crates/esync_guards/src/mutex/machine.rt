@@ -1,7 +1,6 @@
 //! The mutex as a machine that takes commands.
 ghost use Rattle.std.specs.Prelude.{◌≡◌, [], false, IfOk, OnErr};
-ghost use Rattle.esync_machine.specs.Runs.{GoodRun};
-ghost use Rattle.esync_machine.specs.Object.{requests_meaning};
+ghost use Rattle.esync_machine.specs.Object.{GoodRunOver};
 ghost use Rattle.esync_guards.specs.MutexRules.{mutex_rules, mutex_wakings, Tries, Reads, Writes, WritesPart, OneGuard};
 
 use super::{MutexState, Projection, TryLockError, put_part};
@@ -325,7 +324,7 @@ pub fn run_mutex<
     machine: &mut MutexRun<T, U, P, W, REQS, K>,
     commands: Vec<MutexCommand<T, U, W>>,
 ) -> Result<Vec<MutexReply<T, U, W, K>>, AllocError>
-    ensures run { IfOk result (λ replies. GoodRun (requests_meaning (mutex_rules P.get P.set) (mutex_wakings W.eq) W.eq K) (record { core = record { held = machine.old.state.lock.held; value = machine.old.state.value }; requests = machine.old.requests }) machine.old.state.lock.waiter commands.items replies.items (record { core = record { held = machine.new.state.lock.held; value = machine.new.state.value }; requests = machine.new.requests }) machine.new.state.lock.waiter) }
+    ensures run { IfOk result (λ replies. GoodRunOver (mutex_rules P.get P.set) (λ m. record { held = m.lock.held; value = m.value }) (mutex_wakings W.eq) (λ m. m.lock.waiter) W.eq K machine.old commands.items replies.items machine.new) }
     ensures one { OneGuard machine.new.requests }
     ensures refused { OnErr result (machine.new ≡ machine.old) }
 {

@@ -1,7 +1,6 @@
 //! The pipe as a machine that takes commands.
 ghost use Rattle.std.specs.Prelude.{◌≡◌, ◌<◌, ◌≤◌, ◌++◌, [], None, is_ok, length, IfOk, OnErr};
-ghost use Rattle.esync_machine.specs.Runs.{GoodRun};
-ghost use Rattle.esync_machine.specs.Object.{Object, requests_meaning};
+ghost use Rattle.esync_machine.specs.Object.{GoodRunOver};
 ghost use Rattle.esync_machine.specs.Wakings.{IsHanded, called};
 ghost use Rattle.esync_pipe.specs.PipeRules.{pipe_rules, pipe_wakings, poll_hands, Polls, Calls, TakesOut, Fills};
 ghost use Rattle.esync_pipe.specs.PipeOrder.{InOrder, SizesAddUp};
@@ -422,7 +421,7 @@ pub fn run_pipe<W: Copy + Eq, const N: usize, const L: usize, const REQS: usize,
     machine: &mut PipeRun<W, N, L, REQS, K>,
     commands: Vec<PipeCommand<W, L>>,
 ) -> Result<Vec<PipeReply<W, L, K>>, AllocError>
-    ensures run { IfOk result (λ replies. GoodRun (requests_meaning (pipe_rules N) (pipe_wakings W.eq N) W.eq K) (record { core = machine.old.state.ring; requests = machine.old.requests }) machine.old.state.slots commands.items replies.items (record { core = machine.new.state.ring; requests = machine.new.requests }) machine.new.state.slots) }
+    ensures run { IfOk result (λ replies. GoodRunOver (pipe_rules N) (λ m. m.ring) (pipe_wakings W.eq N) (λ m. m.slots) W.eq K machine.old commands.items replies.items machine.new) }
     ensures order { IfOk result (λ replies. InOrder N machine.old.requests machine.old.state.ring.items commands.items replies.items machine.new.state.ring.items) }
     ensures sizes { IfOk result (λ replies. SizesAddUp N machine.old.requests machine.old.state.ring.items commands.items replies.items) }
     ensures refused { OnErr result (machine.new ≡ machine.old) }

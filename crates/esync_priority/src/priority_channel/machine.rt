@@ -1,8 +1,7 @@
 //! The priority channel as a machine that takes the commands of a channel.
 ghost use Rattle.std.specs.Prelude.{◌≡◌, IfOk, OnErr};
 ghost use Rattle.esync_priority.specs.Prio.{Bag};
-ghost use Rattle.esync_machine.specs.Runs.{GoodRun};
-ghost use Rattle.esync_machine.specs.Object.{requests_meaning};
+ghost use Rattle.esync_machine.specs.Object.{GoodRunOver};
 ghost use Rattle.esync_channel.specs.ChannelRules.{channel_rules, channel_wakings};
 ghost use Rattle.esync_channel.specs.Sizes.{SizesAddUp};
 
@@ -41,7 +40,7 @@ pub fn run_priority_channel<
     machine: &mut PriorityRun<T, W, O, N, REQS, K>,
     commands: Vec<ChannelCommand<T, W>>,
 ) -> Result<Vec<ChannelReply<T, W, K>>, AllocError>
-    ensures run { IfOk result (λ replies. GoodRun (requests_meaning (channel_rules (Bag T O.above N)) (channel_wakings W.eq (Bag T O.above N)) W.eq K) (record { core = machine.old.state.store; requests = machine.old.requests }) machine.old.state.slots commands.items replies.items (record { core = machine.new.state.store; requests = machine.new.requests }) machine.new.state.slots) }
+    ensures run { IfOk result (λ replies. GoodRunOver (channel_rules (Bag T O.above N)) (λ m. m.store) (channel_wakings W.eq (Bag T O.above N)) (λ m. m.slots) W.eq K machine.old commands.items replies.items machine.new) }
     ensures sizes { IfOk result (λ replies. SizesAddUp N machine.old.requests machine.old.state.store commands.items replies.items) }
     ensures refused { OnErr result (machine.new ≡ machine.old) }
 {

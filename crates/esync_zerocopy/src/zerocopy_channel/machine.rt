@@ -1,7 +1,6 @@
 //! The zero-copy channel as a machine that takes commands.
 ghost use Rattle.std.specs.Prelude.{◌≡◌, [], IfOk, OnErr};
-ghost use Rattle.esync_machine.specs.Runs.{GoodRun};
-ghost use Rattle.esync_machine.specs.Object.{requests_meaning};
+ghost use Rattle.esync_machine.specs.Object.{GoodRunOver};
 ghost use Rattle.esync_zerocopy.specs.Slots.{EachOnce};
 ghost use Rattle.esync_zerocopy.specs.ZeroRules.{zero_rules, zero_wakings};
 
@@ -263,7 +262,7 @@ pub fn run_zerocopy<S: Row, W: Copy + Eq, const REQS: usize, const K: usize>(
 ) -> Result<Vec<ZeroReply<S::Item, W, K>>, AllocError>
 where
     S::Item: Copy,
-    ensures run { IfOk result (λ replies. GoodRun (requests_meaning (zero_rules S.Item) (zero_wakings W.eq) W.eq K) (record { core = machine.old.state.slots; requests = machine.old.requests }) machine.old.state.waiting commands.items replies.items (record { core = machine.new.state.slots; requests = machine.new.requests }) machine.new.state.waiting) }
+    ensures run { IfOk result (λ replies. GoodRunOver (zero_rules S.Item) (λ m. m.slots) (zero_wakings W.eq) (λ m. m.waiting) W.eq K machine.old commands.items replies.items machine.new) }
     ensures once { EachOnce machine.new.state.slots.sides }
     ensures refused { OnErr result (machine.new ≡ machine.old) }
 {

@@ -1,8 +1,7 @@
 //! The fair semaphore as a machine that takes commands.
 ghost use Rattle.std.specs.Prelude.{◌≡◌, [], IfOk, OnErr, None};
 ghost use Rattle.std.proofs.Math.ListN.{replicate};
-ghost use Rattle.esync_machine.specs.Runs.{GoodRun};
-ghost use Rattle.esync_machine.specs.Object.{requests_meaning};
+ghost use Rattle.esync_machine.specs.Object.{GoodRunOver};
 ghost use Rattle.esync_permits.specs.FairRules.{fair, fair_rules, fair_wakings, object_of};
 ghost use Rattle.esync_permits.specs.FairOrder.{NobodyOvertakes};
 ghost use Rattle.esync_permits.specs.FairTurns.{answer_of, place_of};
@@ -194,7 +193,7 @@ pub fn run_fair<W: Copy + Eq, const N: usize, const REQS: usize, const K: usize>
     machine: &mut FairRun<W, N, REQS, K>,
     commands: Vec<FairCommand<W>>,
 ) -> Result<Vec<FairReply<W, K>>, AllocError>
-    ensures run { IfOk result (λ replies. GoodRun (requests_meaning (fair_rules N) fair_wakings W.eq K) (record { core = object_of machine.old.state; requests = machine.old.requests }) machine.old.state.entries commands.items replies.items (record { core = object_of machine.new.state; requests = machine.new.requests }) machine.new.state.entries) }
+    ensures run { IfOk result (λ replies. GoodRunOver (fair_rules N) object_of fair_wakings (λ m. m.entries) W.eq K machine.old commands.items replies.items machine.new) }
     ensures total { IfOk result (λ replies. AddsUp (total (fair N) (record { core = object_of machine.old.state; requests = machine.old.requests })) commands.items (total (fair N) (record { core = object_of machine.new.state; requests = machine.new.requests }))) }
     ensures order { IfOk result (λ replies. machine.old.state.entries ≡ [] → machine.old.requests ≡ replicate REQS None → NobodyOvertakes [] commands.items replies.items) }
     ensures refused { OnErr result (machine.new ≡ machine.old) }

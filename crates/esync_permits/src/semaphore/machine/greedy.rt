@@ -1,7 +1,6 @@
 //! The greedy semaphore as a machine that takes commands.
 ghost use Rattle.std.specs.Prelude.{◌≡◌, ◌≤◌, IfOk, OnErr};
-ghost use Rattle.esync_machine.specs.Runs.{GoodRun};
-ghost use Rattle.esync_machine.specs.Object.{requests_meaning};
+ghost use Rattle.esync_machine.specs.Object.{GoodRunOver};
 ghost use Rattle.esync_permits.specs.GreedyRules.{greedy, greedy_rules, greedy_wakings};
 ghost use Rattle.esync_permits.specs.PermitRules.{Tries};
 ghost use Rattle.esync_permits.specs.PermitSums.{AddsUp, total};
@@ -168,7 +167,7 @@ pub fn run_greedy<W: Copy + Eq, const REQS: usize, const K: usize>(
     machine: &mut GreedyRun<W, REQS, K>,
     commands: Vec<GreedyCommand<W>>,
 ) -> Result<Vec<GreedyReply<W, K>>, AllocError>
-    ensures run { IfOk result (λ replies. GoodRun (requests_meaning greedy_rules (greedy_wakings W.eq) W.eq K) (record { core = machine.old.state.permits; requests = machine.old.requests }) machine.old.state.waiter commands.items replies.items (record { core = machine.new.state.permits; requests = machine.new.requests }) machine.new.state.waiter) }
+    ensures run { IfOk result (λ replies. GoodRunOver greedy_rules (λ m. m.permits) (greedy_wakings W.eq) (λ m. m.waiter) W.eq K machine.old commands.items replies.items machine.new) }
     ensures total { IfOk result (λ replies. AddsUp (total greedy (record { core = machine.old.state.permits; requests = machine.old.requests })) commands.items (total greedy (record { core = machine.new.state.permits; requests = machine.new.requests }))) }
     ensures refused { OnErr result (machine.new ≡ machine.old) }
 {
