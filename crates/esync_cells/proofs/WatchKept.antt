@@ -8,13 +8,14 @@ use Rattle.esync_base.specs.Registration.{IsAmong, registered, displaced}
 use Rattle.esync_base.specs.RegistrationLaws.{has_registered, kept_or_displaced, not_displaced}
 use Rattle.esync_machine.specs.Numbers.{at_number}
 use Rattle.esync_machine.specs.NumbersLaws.{set_there, there_of, at_set_other}
+use Rattle.esync_machine.specs.Names.{is_free}
 use Rattle.esync_machine.specs.Rules.{ended, IsApart}
 use Rattle.esync_machine.specs.Wakings.{IsHanded, nothing, unless_refused, called, polled}
 use Rattle.esync_machine.specs.declared.primitive.Answer.{Answer}
 use Rattle.esync_machine.specs.declared.primitive.Answer.TheVariants.{Done, Pending, NoSuch, NoMemory, Gives}
 use Rattle.esync_cells.specs.Watch.{Watching, Answers, found, seen_after, last_version, sent, woken_by, sent_if, woken_if}
-use Rattle.esync_cells.specs.Receivers.{Followed, is_counted, version_of, seen_at, is_free, with_seen, with_seen_if}
-use Rattle.esync_cells.specs.ReceiversLaws.{at_marked, counted_elsewhere}
+use Rattle.esync_cells.specs.Receivers.{Followed, is_counted, version_of, seen_at, with_seen, with_seen_if}
+use Rattle.esync_cells.specs.ReceiversLaws.{someone, free_elsewhere, at_marked}
 use Rattle.esync_cells.specs.WatchRules.{Watch, watch_of, sought, marks, with_read, with_receiver, Polls, PollsAs, Calls, Joins, JoinsAnon, Leaves, Puts, Tried, Reads, reach, leaves, watch_rules, watch_wakings, sent_hands, answer_hands, IsReceiving, OwesNews}
 use Rattle.esync_cells.specs.declared.watch.machine.Seen.{Seen}
 use Rattle.esync_cells.specs.declared.watch.machine.Reading.{Reading}
@@ -190,14 +191,18 @@ module _ {T C J W : Type 0} (n : ℕ) (IsClone : T → T → Type 0) (IsInfallib
   elsewhere h s k other is e = kept_stays passes eq o o2 waiters waiters2 wakes k (subst (λ x. Stays passes o x k) (sym is) (stays_at passes o (slice_set o.receivers h s) k (at_set_other o.receivers h k.receiver s other))) e
 
   module _ (k : Await J) (receives : IsReceiving o k) (a : Answer (WatchHeard T)) where
+    -- a receiver is made at a free number, which isn't that of the request's receiver
+    made : (h : ℕ) (s : Option Seen) → is_free h o.receivers ≡ true → o2 ≡ with_receiver h s o → waiters2 ≡ waiters → Kept passes eq o waiters wakes o2 waiters2 k
+    made h s free is e = (let x = someone (at_number o.receivers k.receiver) receives in elsewhere h s k (free_elsewhere h k.receiver o.receivers x.0 free x.1) is e)
+
     joined : (free room : Bool) (h : ℕ) → is_free h o.receivers ≡ free → Joins free room h o a o2 → waiters2 ≡ waiters → Kept passes eq o waiters wakes o2 waiters2 k
     joined false room h free joins e = kept_same k joins.1 e
-    joined true true h free joins e = elsewhere h _ k (counted_elsewhere h k.receiver o.receivers free receives) joins.1 e
+    joined true true h free joins e = made h _ free joins.1 e
     joined true false h free joins e = kept_same k joins.1 e
 
     joined_anon : (free : Bool) (h : ℕ) → is_free h o.receivers ≡ free → JoinsAnon free h o a o2 → waiters2 ≡ waiters → Kept passes eq o waiters wakes o2 waiters2 k
     joined_anon false h free joins e = kept_same k joins.1 e
-    joined_anon true h free joins e = elsewhere h _ k (counted_elsewhere h k.receiver o.receivers free receives) joins.1 e
+    joined_anon true h free joins e = made h _ free joins.1 e
 
     -- a request that isn't ended belongs to another receiver
     other_stays : (h : ℕ) (p : Option Seen) → at_number o.receivers h ≡ p → (nat_eq k.receiver h && is_some p) ≡ false → (s : Seen) → p ≡ Some s → h ≡ k.receiver → ⊥

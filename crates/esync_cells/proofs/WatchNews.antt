@@ -1,12 +1,14 @@
 -- A change is told once.
 use Rattle.std.proofs.Common.{◌≡◌, ℕ, ◌==◌, ◌&&◌, Bool, true, false, List, Option, Some, None, nat_lt, ◌⊎◌, inl, inr, refl, sym, ap, ◌∙◌, subst}
-use Rattle.std.specs.Prelude.{[], ◌∷◌, Result, Ok, Err, is_none, is_some, nat_eq, length, slice_get, slice_set, if◌then◌else◌}
+use Rattle.std.specs.Prelude.{[], ◌∷◌, Result, Ok, Err, is_some, nat_eq, slice_get, slice_set, if◌then◌else◌}
 use Rattle.std.specs.declared.alloc.AllocError.{AllocError}
+use Rattle.std.proofs.lemmas.Bool.{and_parts}
 use Rattle.std.proofs.Math.Bool.{and-true, and-false}
 use Rattle.esync_base.specs.ListedLaws.{same_number, equal_number, unequal_number, same_or_not}
 use Rattle.esync_machine.specs.AccountLaws.{of_any_kind, KeepsTold, law_run}
 use Rattle.esync_machine.specs.Numbers.{flat, at_number, swept, swept_place, AllAt}
 use Rattle.esync_machine.specs.NumbersLaws.{set_there, there_of, at_of, at_set, at_set_here, at_set_other, swept_at, swept_nothing}
+use Rattle.esync_machine.specs.Names.{is_free}
 use Rattle.esync_machine.specs.Runs.{GoodRun}
 use Rattle.esync_machine.specs.Object.{Object, Allows, AllowsAt, requests_meaning}
 use Rattle.esync_machine.specs.ObjectLaws.{EachStep, each_step}
@@ -19,8 +21,8 @@ use Rattle.esync_machine.specs.declared.primitive.Reach.TheVariants.{Nobody, Num
 use Rattle.esync_machine.specs.declared.primitive.Command.{Command}
 use Rattle.esync_machine.specs.declared.primitive.Command.TheVariants.{Start, Poll, End, Call}
 use Rattle.esync_cells.specs.Watch.{Answers, seen_after}
-use Rattle.esync_cells.specs.Receivers.{is_counted, is_free, seen_at, version_of, with_seen, with_seen_if}
-use Rattle.esync_cells.specs.ReceiversLaws.{and_first, and_second, nobody, at_marked}
+use Rattle.esync_cells.specs.Receivers.{is_counted, seen_at, version_of, with_seen, with_seen_if}
+use Rattle.esync_cells.specs.ReceiversLaws.{someone, free_elsewhere, at_marked}
 use Rattle.esync_cells.specs.WatchRules.{Watch, sought, marks, with_read, with_receiver, Begins, PollsAs, Polls, Calls, Joins, JoinsAnon, Leaves, Tried, Reads, reach, leaves, watch_rules, watch_wakings, IsReceiving}
 use Rattle.esync_cells.specs.WatchLaws.{only_waits}
 use Rattle.esync_cells.specs.Asked.{requests_after}
@@ -34,13 +36,6 @@ use Rattle.esync_cells.specs.declared.watch.machine.WatchCall.TheVariants.{Recei
 use Rattle.esync_cells.specs.declared.watch.machine.WatchHeard.{WatchHeard}
 use Rattle.esync_cells.specs.declared.watch.machine.WatchHeard.TheVariants.{Found}
 use Rattle.esync_cells.proofs.WatchKept.{not_newer, seen_or_not, seen_same, called_kept, polled_kept}
-
--- a free number is another one than that of somebody
-free_elsewhere : (r h : ℕ) (q : List (Option Seen)) (s : Seen) → is_free r q ≡ true → at_number q h ≡ Some s → r ≡ h → ⊥
-free_elsewhere r h q s free there same =
-    let some : at_number q r ≡ Some s = ap (at_number q) same ∙ there in
-    let none : at_number q r ≡ None = nobody (at_number q r) (and_second (nat_lt r (length q)) (is_none (at_number q r)) free) in
-    absurd cc
 
 -- a read that marks a newer version leaves no newer one
 marked_newer : {T : Type 0} (b : Bool) (version seen : ℕ) (p : Option T) → nat_lt seen version ≡ b → nat_lt (seen_after {E = AllocError} b version seen (Ok p)) version ≡ false
@@ -63,10 +58,6 @@ told_seen (ChangedAnd judge) version seen None e = absurd cc
 seen_here : (q : List (Option Seen)) (r version : ℕ) (s : Seen) → at_number q r ≡ Some s → at_number (with_seen r version q) r ≡ Some (record s { version = version })
 seen_here q r version s there =
     ap (λ p. at_number (with_seen_if r version p q) r) there ∙ at_set_here q r (Some s) (Some (record s { version = version })) (there_of q r s there)
-
-someone : (p : Option Seen) → is_counted p ≡ true → (s : Seen) × (p ≡ Some s)
-someone None e = absurd cc
-someone (Some s) e = (s, refl)
 
 -- tests that say the same end the same
 swept_as : {A : Type 0} (f g : A → Bool) (q : List (Option A)) → ((x : A) → f x ≡ g x) → swept f q ≡ swept g q
@@ -161,7 +152,7 @@ module _ {T : Type 0} (h : ℕ) where
 
       found_as : (p : Option T) (b : Bool) → (r == h && is_told read p) ≡ b → IsThere o k → IsThere (after_read p) (if b then true else k)
       found_as p true e there =
-          told_here p (same_number r h (and_first (r == h) (is_told read p) e)) (and_second (r == h) (is_told read p) e)
+          (let both = and_parts (r == h) (is_told read p) e in told_here p (same_number r h both.0) both.1)
       found_as p false e there =
           read_at o r _ s k at (seen_or_not {E = AllocError} (marks o.version s.version read) o.version s.version (Ok p)) there
 

@@ -1,8 +1,9 @@
 -- The receivers of a watch: a table of numbers, each free or in use by a receiver that has seen some version.
-use Rattle.std.specs.Prelude.{◌≡◌, ℕ, ◌&&◌, Bool, false, List, [], ◌∷◌, length, Option, Some, None, is_none, nat_lt, slice_set, refl}
+use Rattle.std.specs.Prelude.{◌≡◌, ℕ, Bool, false, List, length, Option, Some, None, slice_set, refl}
 use Rattle.std.specs.Coded.{Coded, code_by, coded×, coded_list, coded_option, coded_bool, coded_ℕ}
 use Rattle.esync_machine.specs.Numbers.{at_number}
-use Rattle.esync_cells.specs.Watch.{Watching, watching_code, counted}
+use Rattle.esync_machine.specs.Names.{used_by}
+use Rattle.esync_cells.specs.Watch.{Watching, watching_code}
 use Rattle.esync_cells.specs.declared.watch.machine.Seen.{Seen}
 
 abbrev pub seen_code : Coded Seen
@@ -24,8 +25,7 @@ is_counted (Some s) = s.is_counted
 
 -- how many receivers are counted
 abbrev pub count : List (Option Seen) → ℕ
-count [] = 0
-count (p ∷ q) = counted (is_counted p) (count q)
+count q = used_by (λ s. s.is_counted) q
 
 -- k receivers are counted of a table of n numbers
 abbrev pub IsCounted : ℕ → ℕ → List (Option Seen) → Type 0
@@ -38,10 +38,6 @@ version_of (Some s) = s.version
 
 abbrev pub seen_at : List (Option Seen) → ℕ → ℕ
 seen_at q h = version_of (at_number q h)
-
--- whether the number is one of the table, and free
-abbrev pub is_free : ℕ → List (Option Seen) → Bool
-is_free h q = nat_lt h (length q) && is_none (at_number q h)
 
 -- the table after the receiver at a number, if there is one, has seen this version
 abbrev pub with_seen_if : ℕ → ℕ → Option Seen → List (Option Seen) → List (Option Seen)

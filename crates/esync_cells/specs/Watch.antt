@@ -81,8 +81,3 @@ abbrev pub woken_if : {A E W : Type 0} → Bool → Result A E → List W → Li
 woken_if tells (Err e) waiters = []
 woken_if true (Ok done) waiters = waiters
 woken_if false (Ok done) waiters = []
-
--- how many receivers are counted, if one more may have been counted
-abbrev pub counted : Bool → ℕ → ℕ
-counted true n = n + 1
-counted false n = n

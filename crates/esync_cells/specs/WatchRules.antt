@@ -1,16 +1,17 @@
 -- What a watch allows for each request and each call, and which wakers it hands out.
-use Rattle.std.specs.Prelude.{◌≡◌, ℕ, ◌+◌, ◌<◌, ◌&&◌, Bool, true, false, List, Option, Some, None, Result, Ok, Err, IfErr, is_some, nat_lt, nat_eq, slice_set}
+use Rattle.std.specs.Prelude.{◌≡◌, ℕ, ◌+◌, ◌<◌, ◌&&◌, Bool, true, false, List, Option, Some, None, Result, Ok, Err, IfErr, is_some, nat_lt, nat_eq, slice_set, if◌then◌else◌}
 use Rattle.std.specs.declared.alloc.AllocError.{AllocError}
 use Rattle.esync_base.specs.Registration.{IsAmong, registered, displaced}
 use Rattle.esync_machine.specs.declared.primitive.Answer.{Answer}
-use Rattle.esync_machine.specs.declared.primitive.Answer.TheVariants.{Done, Pending, NoSuch, NoMemory, Gives}
+use Rattle.esync_machine.specs.declared.primitive.Answer.TheVariants.{Done, Pending, NoMemory, Gives}
 use Rattle.esync_machine.specs.declared.primitive.Reach.{Reach}
 use Rattle.esync_machine.specs.declared.primitive.Reach.TheVariants.{Nobody, Leavers}
 use Rattle.esync_machine.specs.Numbers.{at_number}
+use Rattle.esync_machine.specs.Names.{is_free, Where}
 use Rattle.esync_machine.specs.Rules.{Rules, Alone}
 use Rattle.esync_machine.specs.Wakings.{Wakings, Handed, nothing, hands_out, is_pending}
 use Rattle.esync_cells.specs.Watch.{judged, found, Answers, seen_after, last_version}
-use Rattle.esync_cells.specs.Receivers.{Followed, is_counted, count, seen_at, is_free, with_seen}
+use Rattle.esync_cells.specs.Receivers.{Followed, is_counted, count, version_of, seen_at, with_seen}
 use Rattle.esync_cells.specs.declared.watch.Exhausted.{Exhausted}
 use Rattle.esync_cells.specs.declared.watch.machine.Seen.{Seen}
 use Rattle.esync_cells.specs.declared.watch.machine.Reading.{Reading}
@@ -72,25 +73,18 @@ leaves o (Leave h) held = nat_eq held.receiver h && is_some (at_number o.receive
 leaves o call held = false
 
 module _ {T : Type 0} where
-  -- a call names what isn't there, and nothing changes
-  abbrev pub Nowhere : Watch T → Answer (WatchHeard T) → Watch T → Type 0
-  Nowhere o a o2 = (a ≡ NoSuch) × (o2 ≡ o)
-
   -- a counted receiver is made, if its number is free and there is room for one more
   abbrev pub Joins : Bool → Bool → ℕ → Watch T → Answer (WatchHeard T) → Watch T → Type 0
-  Joins false room h o a o2 = Nowhere o a o2
-  Joins true true h o a o2 = (a ≡ Gives (Counted true)) × (o2 ≡ with_receiver h (Some (record { is_counted = true; version = 0 })) o)
-  Joins true false h o a o2 = (a ≡ Gives (Counted false)) × (o2 ≡ o)
+  Joins free room h o a o2 =
+      Where free o ((a ≡ Gives (Counted room)) × (o2 ≡ (if room then with_receiver h (Some (record { is_counted = true; version = 0 })) o else o))) a o2
 
   -- an anonymous receiver is made, if its number is free
   abbrev pub JoinsAnon : Bool → ℕ → Watch T → Answer (WatchHeard T) → Watch T → Type 0
-  JoinsAnon false h o a o2 = Nowhere o a o2
-  JoinsAnon true h o a o2 = (a ≡ Done) × (o2 ≡ with_receiver h (Some (record { is_counted = false; version = 0 })) o)
+  JoinsAnon free h o a o2 = Where free o ((a ≡ Done) × (o2 ≡ with_receiver h (Some (record { is_counted = false; version = 0 })) o)) a o2
 
   -- the receiver at the number leaves, if there is one
   abbrev pub Leaves : Option Seen → ℕ → Watch T → Answer (WatchHeard T) → Watch T → Type 0
-  Leaves None h o a o2 = Nowhere o a o2
-  Leaves (Some s) h o a o2 = (a ≡ Done) × (o2 ≡ with_receiver h None o)
+  Leaves p h o a o2 = Where (is_some p) o ((a ≡ Done) × (o2 ≡ with_receiver h None o)) a o2
 
   -- a value is put under the next version, unless a change says that it did nothing, or versions have run out
   abbrev pub Puts : {A E : Type 0} → Option T → Bool → Result A E → Watch T → Watch T → Type 0
@@ -126,11 +120,10 @@ module _ {T J : Type 0} (IsClone : T → T → Type 0) (IsInfallible : T → Typ
 
   -- a read for the receiver at the number, if there is one
   abbrev pub Reads : Option Seen → ℕ → Reading J → Watch T → Answer (WatchHeard T) → Watch T → Type 0
-  Reads None h read o a o2 = Nowhere o a o2
-  Reads (Some s) h read o a o2 =
-      (got : Result (Option T) AllocError)
-      × Answers IsClone IsInfallible (sought passes o.value o.version s.version read) got
-      × Tried got o (with_read h (seen_after (marks o.version s.version read) o.version s.version got) o) a o2
+  Reads p h read o a o2 =
+      Where (is_some p) o ((got : Result (Option T) AllocError)
+      × Answers IsClone IsInfallible (sought passes o.value o.version (version_of p) read) got
+      × Tried got o (with_read h (seen_after (marks o.version (version_of p) read) o.version (version_of p) got) o) a o2) a o2
 
 -- What calls do with at most n counted receivers, by what a clone is and what changes and tests mean.
 module _ {T C J : Type 0} (n : ℕ) (IsClone : T → T → Type 0) (IsInfallible : T → Type 0) (changed : C → Option T → Option T) (tells : C → Option T → Bool) (passes : J → T → Bool) where

@@ -6,7 +6,8 @@
 ghost use Rattle.std.specs.Prelude.{◌≡◌, ℕ, Bool, Option, ◌+◌, ◌-◌, ◌<◌, ◌≤◌, ◌++◌, ◌&&◌, [], None, Some, true, false, length, is_some, nat_lt, OnOk, OnErr, IfErr};
 ghost use Rattle.std.specs.Fn.{FnReturnsAt};
 ghost use Rattle.esync_base.specs.Registration.{registered_if, displaced_if};
-ghost use Rattle.esync_cells.specs.Watch.{fresh, judged, found, Answers, seen_after, polled, waiter_where_pending, last_version, sent, woken_by, sent_if, woken_if, counted};
+ghost use Rattle.esync_cells.specs.Watch.{fresh, judged, found, Answers, seen_after, polled, waiter_where_pending, last_version, sent, woken_by, sent_if, woken_if};
+ghost use Rattle.esync_machine.specs.Names.{counted};
 ghost use Rattle.esync_cells.specs.Watched.{Tells, TellsIf};
 
 use esync_base::kept::Kept;

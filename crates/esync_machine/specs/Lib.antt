@@ -4,6 +4,8 @@ pub mod Histories
 pub mod HistoriesLaws
 pub mod Numbers
 pub mod NumbersLaws
+pub mod Names
+pub mod NamesLaws
 pub mod Rules
 pub mod RulesLaws
 pub mod Wakings

@@ -2,6 +2,7 @@
 ghost use Rattle.std.specs.Prelude.{◌≡◌, ◌<◌, None, slice_set};
 ghost use Rattle.std.proofs.Math.ListN.{replicate};
 ghost use Rattle.esync_machine.specs.Numbers.{at_number};
+ghost use Rattle.esync_machine.specs.Names.{is_free};
 
 use crate::table::Table;
 use esync_base::kept::Kept;
@@ -50,6 +51,14 @@ impl<A: Copy, const N: usize> Names<A, N> {
         ensures { result ≡ at_number self.now r }
     {
         self.table.get(r)
+    }
+
+    /// Returns whether the number is below `N` and free.
+    #[tactic(auto, using(crate::specs::NamesLaws::free_or_not))]
+    pub fn is_free(&self, r: usize) -> bool
+        ensures { result ≡ is_free r self.now }
+    {
+        r < N && self.table.get(r).is_none()
     }
 
     /// Returns what each number names, by number.

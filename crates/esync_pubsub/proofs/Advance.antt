@@ -1,11 +1,12 @@
 -- What the answers tell of the channel is the channel.
 use Rattle.std.proofs.Common.{◌≡◌, ℕ, zero, suc, ◌-◌, ◌<◌, Bool, true, false, List, [], ◌∷◌, Option, Some, None, inl, inr, refl, sym, ap, ◌∙◌, subst, arith}
 use Rattle.std.specs.Prelude.{is_some, slice_get, slice_set, slice_index_or, if◌then◌else◌, Ok, Err}
+use Rattle.esync_machine.specs.Names.{is_free}
 use Rattle.esync_machine.specs.declared.primitive.Answer.{Answer}
 use Rattle.esync_machine.specs.declared.primitive.Answer.TheVariants.{Done, Pending, NoSuch, NoMemory, Gives}
 use Rattle.esync_log.specs.Log.{Log, oldest, has_subscribers, position, published, with_room, moved, lags, caught, caught_if, gap, found, Accepts}
 use Rattle.esync_pubsub.specs.Advance.{least_free, log_after_poll, topic_after_poll, topic_after_call}
-use Rattle.esync_pubsub.specs.PubSubRules.{Topic, place_at, is_subscriber, is_free, is_publisher, names_it, departed, read_log, WithLog, PollsLog, Polls, Comes, Counts, TriesPublish, AtOnce, Tries, TriesPure, Calls}
+use Rattle.esync_pubsub.specs.PubSubRules.{Topic, place_at, is_subscriber, is_publisher, names_it, departed, read_log, WithLog, PollsLog, Polls, Comes, Counts, TriesPublish, AtOnce, Tries, TriesPure, Calls}
 use Rattle.esync_log.specs.declared.log.TryPublishError.TheVariants.{Full, Exhausted}
 use Rattle.esync_pubsub.specs.declared.pubsub.Error.TheVariants.{MaximumSubscribersReached, MaximumPublishersReached}
 use Rattle.esync_log.specs.declared.log.WaitResult.TheVariants.{Message as Given}

@@ -7,13 +7,14 @@ use Rattle.esync_machine.specs.declared.primitive.Answer.{Answer}
 use Rattle.esync_machine.specs.declared.primitive.Answer.TheVariants.{Done, Pending, NoSuch, NoMemory, Gives}
 use Rattle.esync_machine.specs.Numbers.{at_number}
 use Rattle.esync_machine.specs.NumbersLaws.{at_set_other}
+use Rattle.esync_machine.specs.Names.{is_free, Where}
+use Rattle.esync_machine.specs.NamesLaws.{free_number}
 use Rattle.esync_machine.specs.Rules.{ended, Finds}
 use Rattle.esync_machine.specs.Wakings.{Handed, IsHanded, unless_refused, nothing}
 use Rattle.esync_log.specs.Log.{Log, has_subscribers, is_live, published, with_room, left, cleared, number_of, Accepts, Publishes, PublishesAtOnce}
 use Rattle.esync_pubsub.specs.PubSub.{Lists, frees, lists_after_room, wakes_of_room}
-use Rattle.esync_pubsub.specs.PubSubRules.{Topic, Where, WithLog, Calls, Comes, Counts, Tries, TriesPure, TriesPublish, AtOnce, departed, names_it, place_at, is_subscriber, is_publisher, is_free, is_of_subscriber, is_of_publisher, reach, call_hands, OwesNews, OwesRoom, OwesFor, pubsub_rules}
+use Rattle.esync_pubsub.specs.PubSubRules.{Topic, WithLog, Calls, Comes, Counts, Tries, TriesPure, TriesPublish, AtOnce, departed, names_it, place_at, is_subscriber, is_publisher, is_of_subscriber, is_of_publisher, reach, call_hands, OwesNews, OwesRoom, OwesFor, pubsub_rules}
 use Rattle.esync_pubsub.proofs.Kept.{Keeps, keeps_same, keeps_publish, keeps_immediate, keeps_read, keeps_pure, keeps_clear, left_room, left_news, join_news, join_room, read_goes, pure_goes}
-use Rattle.esync_pubsub.proofs.Named.{free_number}
 use Rattle.esync_pubsub.proofs.Turns.{AreHere, log_names}
 use Rattle.esync_log.specs.declared.log.TryPublishError.TheVariants.{Full, Exhausted}
 use Rattle.esync_pubsub.specs.declared.pubsub.Error.TheVariants.{MaximumSubscribersReached, MaximumPublishersReached}

@@ -1,15 +1,16 @@
 -- The numbers name all subscribers and publishers, as these come and go.
-use Rattle.std.proofs.Common.{◌≡◌, ℕ, zero, suc, ◌+◌, ◌-◌, ◌<◌, ◌≤◌, true, false, List, [], ◌∷◌, length, replicate, cond, Option, Some, None, refl, sym, ap, subst, arith, ◌∙◌, inl, inr}
+use Rattle.std.proofs.Common.{◌≡◌, ℕ, zero, suc, ◌+◌, ◌-◌, ◌<◌, ◌≤◌, true, false, List, replicate, Option, Some, None, refl, sym, ap, subst, arith, ◌∙◌, inl, inr}
 use Rattle.std.specs.Prelude.{Err, is_some, slice_get, slice_set, slice_index_or}
 use Rattle.std.proofs.lemmas.List.{length-set, length-replicate}
-use Rattle.std.proofs.lemmas.List.Sums.{sum_by-cons}
 use Rattle.esync_base.specs.ListedLaws.{same_or_not}
 use Rattle.esync_machine.specs.Numbers.{at_number}
-use Rattle.esync_machine.specs.NumbersLaws.{there_of, at_of, at_set, at_set_here, at_set_other, nothing_there}
-use Rattle.esync_pubsub.specs.Events.{Tables, AreNamed, used}
+use Rattle.esync_machine.specs.NumbersLaws.{there_of, at_set, at_set_here, at_set_other, nothing_there}
+use Rattle.esync_machine.specs.Names.{is_free, used}
+use Rattle.esync_machine.specs.NamesLaws.{free_is, free_number, used_none, used_some, used_taken, used_freed}
+use Rattle.esync_pubsub.specs.Events.{Tables, AreNamed}
 use Rattle.esync_log.specs.Log.{Log, is_live, left, Joins}
 use Rattle.esync_pubsub.specs.PubSub.{PubSub, fresh, Subscribes, Adds}
-use Rattle.esync_pubsub.specs.PubSubRules.{topic_of, Counts, is_place, is_free}
+use Rattle.esync_pubsub.specs.PubSubRules.{topic_of, Counts}
 use Rattle.esync_machine.specs.declared.primitive.Answer.TheVariants.{Gives}
 use Rattle.esync_pubsub.specs.declared.pubsub.Error.{Error}
 use Rattle.esync_pubsub.specs.declared.pubsub.Error.TheVariants.{MaximumSubscribersReached, MaximumPublishersReached}
@@ -17,61 +18,9 @@ use Rattle.esync_pubsub.specs.declared.pubsub.machine.PubSubHeard.TheVariants.{C
 use Rattle.esync_pubsub.proofs.Kept.{left_live, gone_live, join_here, join_live}
 use Rattle.esync_log.specs.LogLaws.{free_there}
 
--- who stands at a free number, and at one that isn't
-pub free_is : {N : Type 0} (p : Option (Option N)) → is_place p ≡ true → p ≡ Some None
-free_is (Some None) e = refl
-free_is (Some (Some x)) e = absurd cc
-free_is None e = absurd cc
-
-pub free_number : {N : Type 0} (names : List (Option N)) (r : ℕ) → is_free r names ≡ true → at_number names r ≡ None
-free_number names r e = at_of names r None (free_is (slice_get names r) e)
-
-pub place_is : {N : Type 0} (names : List (Option N)) (r : ℕ) → r < length names → at_number names r ≡ None → is_free r names ≡ true
-place_is [] r l e = absurd (omega (arith, l))
-place_is (None ∷ names) zero l e = refl
-place_is (Some x ∷ names) zero l e = absurd cc
-place_is (p ∷ names) (suc r) l e = place_is names r (omega (arith, l)) e
-
-pub no_place : {N : Type 0} (names : List (Option N)) (r : ℕ) → length names ≤ r → is_free r names ≡ false
-no_place [] r l = refl
-no_place (p ∷ names) zero l = absurd (omega (arith, l))
-no_place (p ∷ names) (suc r) l = no_place names r (omega (arith, l))
-
-pub taken_place : {N : Type 0} (names : List (Option N)) (r : ℕ) (x : N) → at_number names r ≡ Some x → is_free r names ≡ false
-taken_place names r x e = ap is_place (there_of names r x e)
-
--- how many numbers are in use after a write
-abbrev one_if : {N : Type 0} → Option N → ℕ
-one_if q = cond (is_some q) 1 0
-
-used_set : {N : Type 0} (names : List (Option N)) (r : ℕ) (q p : Option N) → r < length names → at_number names r ≡ p → used (slice_set names r q) + one_if p ≡ used names + one_if q
-used_set [] r q p l e = absurd (omega (arith, l))
-used_set (x ∷ names) zero q p l e = (let f : x ≡ p = e in omega (arith, sum_by-cons (λ y. one_if y) q names, sum_by-cons (λ y. one_if y) x names, ap (λ y. one_if y) f))
-used_set (x ∷ names) (suc r) q p l e = omega (arith, sum_by-cons (λ y. one_if y) x (slice_set names r q), sum_by-cons (λ y. one_if y) x names, used_set names r q p (omega (arith, l)) e)
-
-pub number_below : {N : Type 0} (names : List (Option N)) (r : ℕ) (x : N) → at_number names r ≡ Some x → r < length names
-number_below [] r x e = absurd cc
-number_below (p ∷ names) zero x e = omega arith
-number_below (p ∷ names) (suc r) x e = omega (arith, number_below names r x e)
-
-pub free_number_below : {N : Type 0} (names : List (Option N)) (r : ℕ) → is_free r names ≡ true → r < length names
-free_number_below [] r e = absurd cc
-free_number_below (p ∷ names) zero e = omega arith
-free_number_below (p ∷ names) (suc r) e = omega (arith, free_number_below names r e)
-
-pub used_some : {N : Type 0} (names : List (Option N)) (r : ℕ) (x : N) → at_number names r ≡ Some x → 1 ≤ used names
-used_some names r x e = (let f : one_if (Some x) ≡ 1 = refl in omega (arith, used_set names r None (Some x) (number_below names r x e) e, f))
-
--- nobody, of the publishers and of the subscribers
-abbrev no_publisher : Option (Unit {0})
-no_publisher = None
-
+-- no place of a new channel has a subscriber
 abbrev no_subscriber : Option ℕ
 no_subscriber = None
-
-used_none : (n : ℕ) → used (replicate n no_publisher) ≡ 0
-used_none zero = refl
-used_none (suc n) = omega (arith, sum_by-cons (λ y. one_if y) no_publisher (replicate n None), used_none n)
 
 nobody_live : (n q : ℕ) → is_some (slice_index_or (replicate n no_subscriber) q None) ≡ false
 nobody_live zero q = refl
@@ -88,7 +37,7 @@ module _ {T W : Type 0} (cap pubs names : ℕ) where
     live = λ s place e. absurd (nothing_there names s place e);
     apart = λ s t place e f. absurd (nothing_there names s place e);
     named = λ place h. absurd (let f = nobody_live subs place in cc);
-    counted = sym (used_none names);
+    counted = sym (used_none (λ x. true) names);
   }
 
   module _ (s s2 : PubSub T W) (ns : List (Option ℕ)) (ps : List (Option (Unit {0}))) (m : AreNamed cap pubs names (s) (record { subscribers = ns; publishers = ps })) where
@@ -201,8 +150,6 @@ module _ {T W : Type 0} (cap pubs names : ℕ) where
     named_publisher p f l e =
         let n : s2.publishers ≡ s.publishers + 1 = ap (λ x. x.publishers) e in
         let log : s2.log ≡ s.log = ap (λ x. x.log) e in
-        let one : one_if (Some (tt {0})) ≡ 1 = refl in
-        let none : one_if no_publisher ≡ 0 = refl in
         record {
           room = m.room;
           at_most = omega (arith, n, l);
@@ -211,15 +158,13 @@ module _ {T W : Type 0} (cap pubs names : ℕ) where
           live = λ r place h. ap (λ x. is_live place x) log ∙ m.live r place h;
           apart = m.apart;
           named = λ place h. m.named place (sym (ap (λ x. is_live place x) log) ∙ h);
-          counted = omega (arith, n, m.counted, used_set ps p (Some tt) None (free_number_below ps p f) (free_number ps p f), one, none);
+          counted = omega (arith, n, m.counted, used_taken (λ x. true) ps p tt f);
         }
 
     pub named_retire : (p : ℕ) (x : Unit {0}) → at_number ps p ≡ Some x → s2 ≡ record s { publishers = s.publishers - 1 } → AreNamed cap pubs names (s2) (record { subscribers = ns; publishers = slice_set ps p None })
     named_retire p x f e =
         let n : s2.publishers ≡ s.publishers - 1 = ap (λ x. x.publishers) e in
         let log : s2.log ≡ s.log = ap (λ x. x.log) e in
-        let one : one_if (Some x) ≡ 1 = refl in
-        let none : one_if no_publisher ≡ 0 = refl in
         record {
           room = m.room;
           at_most = omega (arith, n, m.at_most);
@@ -228,31 +173,16 @@ module _ {T W : Type 0} (cap pubs names : ℕ) where
           live = λ r place h. ap (λ x. is_live place x) log ∙ m.live r place h;
           apart = m.apart;
           named = λ place h. m.named place (sym (ap (λ x. is_live place x) log) ∙ h);
-          counted = omega (arith, n, m.counted, used_set ps p None (Some x) (number_below ps p x f) f, one, none);
+          counted = omega (arith, n, m.counted, used_freed (λ x. true) ps p x f);
         }
 
 pub some_there : {N : Type 0} (q : Option N) → is_some q ≡ true → (x : N) × (q ≡ Some x)
 some_there (Some x) e = (x, refl)
 some_there None e = absurd cc
 
--- where a number names a publisher, one is counted, and there may be one
-module _ {T W : Type 0} (cap pubs names : ℕ) (s : PubSub T W) (t : Tables) (m : AreNamed cap pubs names s t) (p : ℕ) (e : is_some (at_number t.publishers p) ≡ true) where
-  pub one_counted : 1 ≤ s.publishers
-  one_counted = (let k = some_there (at_number t.publishers p) e in omega (arith, used_some t.publishers p k.0 k.1, m.counted))
-
-  pub publisher_below : p < names
-  publisher_below = (let k = some_there (at_number t.publishers p) e in omega (arith, number_below t.publishers p k.0 k.1, m.publishers))
-
--- a number that is free or names a subscriber is one of the table
-module _ {T W : Type 0} (cap pubs names : ℕ) (s : PubSub T W) (t : Tables) (m : AreNamed cap pubs names s t) (r : ℕ) where
-  pub subscriber_free_below : is_free r t.subscribers ≡ true → r < names
-  subscriber_free_below f = omega (arith, free_number_below t.subscribers r f, m.subscribers)
-
-  pub publisher_free_below : is_free r t.publishers ≡ true → r < names
-  publisher_free_below f = omega (arith, free_number_below t.publishers r f, m.publishers)
-
-  pub subscriber_below : (place : ℕ) → at_number t.subscribers r ≡ Some place → r < names
-  subscriber_below place e = omega (arith, number_below t.subscribers r place e, m.subscribers)
+-- where a number names a publisher, one is counted
+pub one_counted : {T W : Type 0} (cap pubs names : ℕ) (s : PubSub T W) (t : Tables) → AreNamed cap pubs names s t → (p : ℕ) → is_some (at_number t.publishers p) ≡ true → 1 ≤ s.publishers
+one_counted cap pubs names s t m p e = (let k = some_there (at_number t.publishers p) e in omega (arith, used_some (λ x. true) t.publishers p k.0 k.1 refl, m.counted))
 
 -- who is refused changes nothing
 pub refused_same : {T : Type 0} (e : Error) (log log2 : Log T) → Subscribes log (Err e) log2 → log2 ≡ log

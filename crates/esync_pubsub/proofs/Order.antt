@@ -10,6 +10,8 @@ use Rattle.esync_machine.specs.SizesLaws.{TellsSizes, sizes_requests}
 use Rattle.esync_machine.specs.Runs.{GoodRun}
 use Rattle.esync_machine.specs.Numbers.{at_number}
 use Rattle.esync_machine.specs.NumbersLaws.{at_of, at_set_here, at_set_other}
+use Rattle.esync_machine.specs.Names.{is_free}
+use Rattle.esync_machine.specs.NamesLaws.{free_is}
 use Rattle.esync_machine.specs.Object.{Object, requests_meaning}
 use Rattle.esync_machine.specs.ObjectLaws.{EachStep}
 use Rattle.esync_machine.specs.Rules.{Rules}
@@ -23,7 +25,7 @@ use Rattle.esync_machine.specs.declared.primitive.Command.TheVariants.{Start, Po
 use Rattle.esync_pubsub.specs.Events.{Eventing, AreNamed}
 use Rattle.esync_log.specs.Log.{Log, oldest, number_of, has_subscribers, is_live, position, published, with_room, moved, without, left, cleared, lags, caught, gap, Accepts, Joins, Publishes, PublishesAtOnce, Reads, ReadsOn}
 use Rattle.esync_pubsub.specs.PubSub.{PubSub}
-use Rattle.esync_pubsub.specs.PubSubRules.{Topic, topic_of, place_at, is_subscriber, is_free, is_publisher, names_it, reach, rest_of, departed, WithLog, Begins, IsBelow, PollsLog, Polls, Comes, Counts, TriesPublish, AtOnce, Tries, TriesPure, Calls, pubsub_rules}
+use Rattle.esync_pubsub.specs.PubSubRules.{Topic, topic_of, place_at, is_subscriber, is_publisher, names_it, reach, rest_of, departed, WithLog, Begins, IsBelow, PollsLog, Polls, Comes, Counts, TriesPublish, AtOnce, Tries, TriesPure, Calls, pubsub_rules}
 use Rattle.esync_pubsub.specs.Advance.{gone, topic_after, topic_after_poll}
 use Rattle.esync_pubsub.specs.Order.{Reading, Told, Account, and, published_by_poll, published_by_call, given_by, reading_of, read_by_poll, read_by_call, more, told_by_call, told_after, after, known_at_first, AreUnread, Follow, HasRead, IsInOrder, ReadsInOrder, unread_by_poll, unread_by_call, unread_told, IsExact, IsExactPoll, IsExactCall, TellsUnread, TellsGone, HasUnread, CountsAreTrue}
 use Rattle.esync_pubsub.specs.Sizes.{IsHeld, SizesAddUp}
@@ -41,7 +43,7 @@ use Rattle.esync_pubsub.proofs.Advance.{no_poll as no_topic_poll, no_call as no_
 use Rattle.esync_pubsub.proofs.Calls.{where_done}
 use Rattle.esync_pubsub.proofs.Kept.{GoesOn, read_goes, pure_goes}
 use Rattle.esync_log.specs.LogLaws.{free_below, free_there, some_number}
-use Rattle.esync_pubsub.proofs.Named.{free_is, named_new, named_same, named_join, named_leave}
+use Rattle.esync_pubsub.proofs.Named.{named_new, named_same, named_join, named_leave}
 use Rattle.esync_pubsub.proofs.Unread.{IsEnd, end_same, end_none, end_settled, end_room, IsNumbered, numbered_end, unread_end, unread_published, Tells, read_tells, pure_tells, stream_tells, read_end, pure_end, follow_published, follow_reading}
 
 -- one who is live is somebody

@@ -8,11 +8,12 @@ use Rattle.esync_base.specs.declared.waitqueue.Poll.TheVariants.{Pending as NotY
 use Rattle.esync_machine.specs.declared.primitive.Answer.{Answer}
 use Rattle.esync_machine.specs.declared.primitive.Answer.TheVariants.{Pending, NoMemory, Gives}
 use Rattle.esync_machine.specs.Numbers.{at_number}
+use Rattle.esync_machine.specs.Names.{Where}
 use Rattle.esync_machine.specs.Rules.{IsApart, IsOwed}
 use Rattle.esync_machine.specs.Wakings.{Handed, IsHanded, unless_refused}
 use Rattle.esync_log.specs.Log.{Log, is_live, position, oldest, moved, lags, gap, settled, Reads, number_of}
 use Rattle.esync_pubsub.specs.PubSub.{Lists, tried, frees, lists_after_stream, wakes_of_stream}
-use Rattle.esync_pubsub.specs.PubSubRules.{Topic, IsBelow, Where, WithLog, PollsLog, Polls, names_it, place_at, is_subscriber, rest_of, poll_hands, OwesNews, OwesRoom, OwesFor, PollsMessage, PollsPure, PollsStream, read_hands, pure_hands, stream_hands, read_of, pure_of, stream_of}
+use Rattle.esync_pubsub.specs.PubSubRules.{Topic, IsBelow, WithLog, PollsLog, Polls, names_it, place_at, is_subscriber, rest_of, poll_hands, OwesNews, OwesRoom, OwesFor, PollsMessage, PollsPure, PollsStream, read_hands, pure_hands, stream_hands, read_of, pure_of, stream_of}
 use Rattle.esync_pubsub.proofs.Kept.{Keeps, keeps_same, keeps_publish, keeps_read, keeps_pure, keeps_stream}
 use Rattle.esync_log.specs.LogLaws.{place_below, some_number}
 use Rattle.esync_pubsub.specs.declared.pubsub.machine.PubSubAsk.{PubSubAsk}

@@ -1,9 +1,9 @@
 -- A pub-sub channel in which subscribers and publishers have numbers.
-use Rattle.std.specs.Prelude.{◌≡◌, ℕ, ◌≤◌, true, List, length, Option, Some, is_some, refl}
-use Rattle.std.specs.List.{count_by}
+use Rattle.std.specs.Prelude.{◌≡◌, ℕ, ◌≤◌, true, List, length, Option, Some, refl}
 use Rattle.std.specs.Coded.{Coded, code_by, coded×, coded_ℕ, coded_list, coded_option}
 use base.Stored.{coded_unit}
 use Rattle.esync_machine.specs.Numbers.{at_number}
+use Rattle.esync_machine.specs.Names.{used}
 use Rattle.esync_log.specs.Log.{is_live}
 use Rattle.esync_pubsub.specs.PubSub.{PubSub}
 
@@ -23,10 +23,6 @@ pub record Eventing (S : Type 0) : Type 0 where
 
 abbrev pub eventing_code : {S : Type 0} → Coded S → Coded (Eventing S)
 eventing_code {S} s = code_by (S × Tables) (coded× s tables_code) (λ m. (m.state, m.tables)) (λ p. record { state = p.0; tables = p.1 }) (λ _. refl)
-
--- how many numbers are in use
-abbrev pub used : {A : Type 0} → List (Option A) → ℕ
-used names = count_by is_some names
 
 -- the numbers name all subscribers, each by one number, and as many publishers as are counted
 pub record AreNamed {T W : Type 0} (cap pubs names : ℕ) (s : PubSub T W) (t : Tables) : Type 0 where

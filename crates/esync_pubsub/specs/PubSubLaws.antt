@@ -3,12 +3,13 @@ use Rattle.std.proofs.Common.{◌≡◌, ℕ, ◌-◌, ◌<◌, ◌≤◌, Bool,
 use Rattle.std.specs.Prelude.{Ok, Err}
 use Rattle.std.proofs.lemmas.Bool.Decides.{nat_tests}
 use Rattle.esync_base.specs.declared.waitqueue.Poll.TheVariants.{Ready}
+use Rattle.esync_machine.specs.Names.{Where}
 use Rattle.esync_machine.specs.Rules.{IsIdle, IdleIsPending}
 use Rattle.esync_machine.specs.declared.primitive.Answer.{Answer}
 use Rattle.esync_machine.specs.declared.primitive.Answer.TheVariants.{Pending, NoMemory, Gives}
 use Rattle.esync_log.specs.Log.{Log, oldest, position, lags, caught_if, gap, Publishes, Reads}
 use Rattle.esync_pubsub.specs.PubSub.{Lists, tried}
-use Rattle.esync_pubsub.specs.PubSubRules.{Topic, pubsub_rules, place_at, names_it, Where, WithLog, PollsLog, PollsMessage, PollsPure, PollsStream, PollsPublish, OwesFor, rest_of}
+use Rattle.esync_pubsub.specs.PubSubRules.{Topic, pubsub_rules, place_at, names_it, WithLog, PollsLog, PollsMessage, PollsPure, PollsStream, PollsPublish, OwesFor, rest_of}
 use Rattle.esync_log.specs.declared.log.TryPublishError.TheVariants.{Full, Exhausted}
 use Rattle.esync_pubsub.specs.declared.pubsub.machine.PubSubAsk.{PubSubAsk}
 use Rattle.esync_pubsub.specs.declared.pubsub.machine.PubSubAsk.TheVariants.{Publish, Message, MessagePure, Stream}
@@ -35,7 +36,7 @@ module _ {T : Type 0} (C : T → T → Type 0) (I : T → Type 0) (cap : ℕ) wh
 
   pub pubsub_idle : {W : Type 0} (pubs : ℕ) (eq : W → W → Bool) (o : Topic T) (l : Lists W) (ask : PubSubAsk T) (w : W) → names_it ask o ≡ true → OwesFor eq cap o l ask w → IsIdle (pubsub_rules C I cap pubs) o ask
   pubsub_idle pubs eq o l ask w f h =
-      (subst (λ b. Where b o (PollsLog C I cap o ask Pending o.log × WithLog o o) Pending o) (sym f) (idle_log eq o l ask w h, refl), refl)
+      (subst (λ b. Where {A = PubSubHeard T} b o (PollsLog C I cap o ask Pending o.log × WithLog o o) Pending o) (sym f) (idle_log eq o l ask w h, refl), refl)
 
   -- the answer is Pending, and the log stays
   abbrev pub Idles : Log T → Answer (PubSubHeard T) → Log T → Type 0
@@ -94,7 +95,7 @@ module _ {T : Type 0} (C : T → T → Type 0) (I : T → Type 0) (cap : ℕ) wh
   pending_log o (MessagePure s) a log2 h j = pending_pure (place_at s o) o.log log2 a h j
   pending_log o (Stream s) a log2 h j = pending_stream (place_at s o) o.log log2 a h j
 
-  pending_named : (b : Bool) (o : Topic T) (ask : PubSubAsk T) (a : Answer (PubSubHeard T)) (o2 : Topic T) → Where b o (PollsLog C I cap o ask Pending o.log × WithLog o o) Pending o → Where b o (PollsLog C I cap o ask a o2.log × WithLog o o2) a o2 → (a ≡ Pending) × (o2 ≡ o)
+  pending_named : (b : Bool) (o : Topic T) (ask : PubSubAsk T) (a : Answer (PubSubHeard T)) (o2 : Topic T) → Where {A = PubSubHeard T} b o (PollsLog C I cap o ask Pending o.log × WithLog o o) Pending o → Where b o (PollsLog C I cap o ask a o2.log × WithLog o o2) a o2 → (a ≡ Pending) × (o2 ≡ o)
   pending_named true o ask a o2 h j =
       let i = pending_log o ask a o2.log h.0 j.0 in
       (i.0, j.1 ∙ ap (λ log. record o { log = log }) i.1)

@@ -1,16 +1,17 @@
 -- What a pub-sub channel allows, and which wakers it hands out, for each request and each call.
-use Rattle.std.specs.Prelude.{◌≡◌, ℕ, ◌+◌, ◌-◌, ◌<◌, ◌==◌, ◌&&◌, Bool, true, false, List, length, Option, Some, None, is_some, Result, Ok, Err, slice_get, slice_set}
+use Rattle.std.specs.Prelude.{◌≡◌, ℕ, ◌+◌, ◌-◌, ◌<◌, ◌==◌, ◌&&◌, Bool, true, false, List, length, Option, Some, None, is_some, Result, Ok, Err, slice_set}
 use Rattle.esync_base.specs.Registration.{IsAmong}
 use Rattle.esync_base.specs.declared.waitqueue.Poll.{Poll}
 use Rattle.esync_base.specs.declared.waitqueue.Poll.TheVariants.{Pending as NotYet, Ready}
 use Rattle.esync_machine.specs.declared.primitive.Answer.{Answer}
-use Rattle.esync_machine.specs.declared.primitive.Answer.TheVariants.{Done, Pending, NoSuch, NoMemory, Gives}
+use Rattle.esync_machine.specs.declared.primitive.Answer.TheVariants.{Done, Pending, NoMemory, Gives}
 use Rattle.esync_machine.specs.declared.primitive.Reach.{Reach}
 use Rattle.esync_machine.specs.declared.primitive.Reach.TheVariants.{Nobody, Leavers}
 use Rattle.esync_machine.specs.Numbers.{at_number}
+use Rattle.esync_machine.specs.Names.{is_free, used, Where}
 use Rattle.esync_machine.specs.Rules.{Rules, Alone}
 use Rattle.esync_machine.specs.Wakings.{Wakings, Handed, nothing}
-use Rattle.esync_pubsub.specs.Events.{Tables, used}
+use Rattle.esync_pubsub.specs.Events.{Tables}
 use Rattle.esync_log.specs.Log.{Log, oldest, has_subscribers, position, number_of, moved, settled, left, cleared, lags, caught, found, Publishes, PublishesAtOnce, Reads, ReadsOn, Streams, IsRefused}
 use Rattle.esync_pubsub.specs.PubSub.{PubSub, Lists, Subscribes, frees, tried, lists_after_room, wakes_of_room, lists_after_publish, wakes_of_publish, lists_after_immediate, wakes_of_immediate, lists_after_read, wakes_of_read, lists_after_stream, wakes_of_stream}
 use Rattle.esync_pubsub.specs.declared.pubsub.Error.TheVariants.{MaximumPublishersReached}
@@ -33,15 +34,6 @@ pub record Topic (T : Type 0) : Type 0 where
 
 abbrev pub topic_of : {T W : Type 0} → PubSub T W → Tables → Topic T
 topic_of s t = record { log = s.log; subscribers = t.subscribers; publishers = t.publishers }
-
--- the place exists and is free
-abbrev pub is_place : {N : Type 0} → Option (Option N) → Bool
-is_place (Some None) = true
-is_place _ = false
-
--- the number stands in the table, and is free
-abbrev pub is_free : {N : Type 0} → ℕ → List (Option N) → Bool
-is_free r names = is_place (slice_get names r)
 
 -- which numbers a call concerns
 abbrev pub reach : {T : Type 0} → PubSubCall T → Reach
@@ -88,11 +80,6 @@ module _ {T : Type 0} where
   -- only the log changes
   abbrev pub WithLog : Topic T → Topic T → Type 0
   WithLog o o2 = o2 ≡ record o { log = o2.log }
-
-  -- a command acts if the subscriber, the publisher or the free number that it names is there, and else changes nothing
-  abbrev pub Where : Bool → Topic T → Type 0 → Answer (PubSubHeard T) → Topic T → Type 0
-  Where true o Does a o2 = Does
-  Where false o Does a o2 = (a ≡ NoSuch) × (o2 ≡ o)
 
   -- a start is refused unless its subscriber or publisher is here
   abbrev pub Begins : Bool → PubSubAsk T → Option (PubSubAsk T) → Type 0

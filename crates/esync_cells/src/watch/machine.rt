@@ -2,12 +2,12 @@
 ghost use Rattle.std.specs.Prelude.{◌≡◌, ℕ, ◌+◌, ◌<◌, ◌≤◌, ◌++◌, List, Option, slice_set, [], None, Some, true, false, length, nat_lt, max, IfOk, OnErr};
 ghost use Rattle.std.proofs.Math.ListN.{replicate};
 ghost use Rattle.esync_base.specs.Registration.{registered_if, displaced_if};
+ghost use Rattle.esync_machine.specs.Names.{is_free, counted};
 ghost use Rattle.esync_machine.specs.Numbers.{at_number};
-ghost use Rattle.esync_machine.specs.Object.{requests_meaning};
-ghost use Rattle.esync_machine.specs.Runs.{GoodRun};
+ghost use Rattle.esync_machine.specs.Object.{GoodRunOver};
 ghost use Rattle.esync_machine.specs.Wakings.{IsHanded, polled as poll_handed, called};
-ghost use Rattle.esync_cells.specs.Watch.{fresh, Answers, seen_after, polled, waiter_where_pending, counted};
-ghost use Rattle.esync_cells.specs.Receivers.{count, is_counted, is_free, seen_at, with_seen};
+ghost use Rattle.esync_cells.specs.Watch.{fresh, Answers, seen_after, polled, waiter_where_pending};
+ghost use Rattle.esync_cells.specs.Receivers.{count, is_counted, seen_at, with_seen};
 ghost use Rattle.esync_cells.specs.WatchRules.{watch_rules, watch_wakings, watch_of, shows, marks, Polls, Calls, Joins, JoinsAnon, Leaves, TriesGet, Reads, Sends, Modifies, IsReceiving, answer_hands};
 ghost use Rattle.esync_cells.specs.WatchNews.{TellsOnce};
 
@@ -224,7 +224,6 @@ impl<
     }
 
     // Marks the version as seen by the receiver at the number, if one is there.
-    #[tactic(auto, using(crate::specs::ReceiversLaws::in_table))]
     fn mark(&mut self, h: usize, version: u64)
         ensures { self.new ≡ record self.old { receivers = with_seen h version self.old.receivers } }
     {
@@ -235,13 +234,6 @@ impl<
             };
             self.receivers.put(h, Some(marked));
         }
-    }
-
-    // Whether the number is one of the table, and free.
-    fn is_free(&self, h: usize) -> bool
-        ensures { result ≡ is_free h self.now.receivers }
-    {
-        h < NAMES && self.receivers.get(h).is_none()
     }
 
     /// Returns a watch without receivers over this list, in which no waker may be, and with the value at the version, if
@@ -335,7 +327,7 @@ impl<
         ensures allowed { Joins (is_free h self.old.receivers) (nat_lt (count self.old.receivers) L.room) h (watch_of self.old) result (watch_of self.new) }
         ensures waiters { self.new.state.waiters ≡ self.old.state.waiters }
     {
-        if !self.is_free(h) {
+        if !self.receivers.is_free(h) {
             return Answer::NoSuch;
         }
         if !self.state.add_receiver() {
@@ -354,7 +346,7 @@ impl<
         ensures allowed { JoinsAnon (is_free h self.old.receivers) h (watch_of self.old) result (watch_of self.new) }
         ensures waiters { self.new.state.waiters ≡ self.old.state.waiters }
     {
-        if !self.is_free(h) {
+        if !self.receivers.is_free(h) {
             return Answer::NoSuch;
         }
         let receiver = Seen {
@@ -366,7 +358,6 @@ impl<
     }
 
     // Ends the receiver at the number.
-    #[tactic(auto, using(crate::specs::ReceiversLaws::in_table))]
     fn leave(&mut self, h: usize) -> Answer<WatchHeard<T>>
         ensures allowed { Leaves (at_number self.old.receivers h) h (watch_of self.old) result (watch_of self.new) }
         ensures waiters { self.new.state.waiters ≡ self.old.state.waiters }
@@ -619,7 +610,7 @@ pub fn run_watch<
     machine: &mut WatchRun<T, W, C, J, N, NAMES, REQS, K>,
     commands: Vec<WatchCommand<T, W, C, J>>,
 ) -> Result<Vec<WatchReply<T, W, K>>, AllocError>
-    ensures run { IfOk result (λ replies. GoodRun (requests_meaning (watch_rules N T.is_clone T.is_infallible C.changed C.tells J.passes) (watch_wakings W.eq N C.tells) W.eq K) (record { core = watch_of machine.old.state; requests = machine.old.requests }) machine.old.state.state.waiters commands.items replies.items (record { core = watch_of machine.new.state; requests = machine.new.requests }) machine.new.state.state.waiters) }
+    ensures run { IfOk result (λ replies. GoodRunOver (watch_rules N T.is_clone T.is_infallible C.changed C.tells J.passes) watch_of (watch_wakings W.eq N C.tells) (λ m. m.state.waiters) W.eq K machine.old commands.items replies.items machine.new) }
     ensures news { IfOk result (λ replies. (h : ℕ) → TellsOnce h machine.old.requests commands.items replies.items) }
     ensures refused { OnErr result (machine.new ≡ machine.old) }
 {

@@ -2,8 +2,8 @@
 ghost use Rattle.std.specs.Prelude.{◌≡◌, ℕ, ◌+◌, ◌-◌, ◌<◌, ◌≤◌, IsTrue, [], true, Some, None, is_some, length, slice_set, IfSome, IfOk, OnErr};
 ghost use Rattle.std.proofs.Math.ListN.{replicate};
 ghost use Rattle.esync_machine.specs.Numbers.{at_number};
-ghost use Rattle.esync_machine.specs.Object.{requests_meaning};
-ghost use Rattle.esync_machine.specs.Runs.{GoodRun};
+ghost use Rattle.esync_machine.specs.Names.{is_free, Where};
+ghost use Rattle.esync_machine.specs.Object.{GoodRunOver};
 ghost use Rattle.esync_machine.specs.Wakings.{IsHanded, unless_refused};
 ghost use Rattle.esync_pubsub.specs.Events.{AreNamed};
 ghost use Rattle.esync_log.specs.Log.{Log, is_live, position, left};
@@ -11,7 +11,7 @@ ghost use Rattle.esync_pubsub.specs.Order.{ReadsInOrder, CountsAreTrue, topic_in
 ghost use Rattle.esync_pubsub.specs.Sizes.{SizesAddUp};
 ghost use Rattle.esync_pubsub.specs.PubSub.{fresh, frees};
 ghost use Rattle.esync_pubsub.specs.Steps.{most_wakes};
-ghost use Rattle.esync_pubsub.specs.PubSubRules.{topic_of, is_free, is_subscriber, is_publisher, is_of_subscriber, is_of_publisher, leaves, place_at, names_it, departed, Where, WithLog, Comes, Counts, TriesPublish, AtOnce, Tries, TriesPure, Calls, Polls, room_hands, immediate_of, immediate_hands, call_hands, reach, rest_of, publish_of, read_of, pure_of, stream_of, publish_hands, read_hands, pure_hands, stream_hands, poll_hands, pubsub_rules, pubsub_wakings, PollsPublish, PollsMessage, PollsPure, PollsStream, PollsLog};
+ghost use Rattle.esync_pubsub.specs.PubSubRules.{topic_of, is_subscriber, is_publisher, is_of_subscriber, is_of_publisher, leaves, place_at, names_it, departed, WithLog, Comes, Counts, TriesPublish, AtOnce, Tries, TriesPure, Calls, Polls, room_hands, immediate_of, immediate_hands, call_hands, reach, rest_of, publish_of, read_of, pure_of, stream_of, publish_hands, read_hands, pure_hands, stream_hands, poll_hands, pubsub_rules, pubsub_wakings, PollsPublish, PollsMessage, PollsPure, PollsStream, PollsLog};
 
 use super::{Error, Exhausted, PubSubOver, PublishRequest, SubId, TryPublishError, WaitResult};
 use esync_base::waitqueue::{Context, FixedList, Poll, Registered, WakerList, Wakes};
@@ -247,18 +247,16 @@ impl<const NAMES: usize> Tables<NAMES> {
 
     // Returns whether the number is free for a subscriber.
     fn is_subscriber_free(&self, s: usize) -> bool
-        requires { length self.now.subscribers ≡ NAMES }
         ensures { result ≡ is_free s self.now.subscribers }
     {
-        s < NAMES && self.subscribers.get(s).is_none()
+        self.subscribers.is_free(s)
     }
 
     // Returns whether the number is free for a publisher.
     fn is_publisher_free(&self, p: usize) -> bool
-        requires { length self.now.publishers ≡ NAMES }
         ensures { result ≡ is_free p self.now.publishers }
     {
-        p < NAMES && self.publishers.get(p).is_none()
+        self.publishers.is_free(p)
     }
 
     fn put_subscriber(&mut self, s: usize, place: Option<usize>)
@@ -924,7 +922,7 @@ pub fn run_pubsub<
     machine: &mut PubSubRun<T, W, CAP, SUBS, PUBS, NAMES, REQS, K>,
     commands: Vec<PubSubCommand<T, W>>,
 ) -> Result<Vec<PubSubReply<T, W, K>>, AllocError>
-    ensures run { IfOk result (λ replies. GoodRun (requests_meaning (pubsub_rules T.is_clone T.is_infallible CAP PUBS) (pubsub_wakings W.eq SUBS PUBS) W.eq K) (record { core = topic_of machine.old.state.state machine.old.state.tables; requests = machine.old.requests }) machine.old.state.state.lists commands.items replies.items (record { core = topic_of machine.new.state.state machine.new.state.tables; requests = machine.new.requests }) machine.new.state.state.lists) }
+    ensures run { IfOk result (λ replies. GoodRunOver (pubsub_rules T.is_clone T.is_infallible CAP PUBS) topic_in (pubsub_wakings W.eq SUBS PUBS) (λ m. m.state.lists) W.eq K machine.old commands.items replies.items machine.new) }
     ensures order { IfOk result (λ replies. (s : ℕ) → ReadsInOrder T.is_clone CAP s machine.old.requests (topic_in machine.old.state) commands.items replies.items (topic_in machine.new.state)) }
     ensures counts { IfOk result (λ replies. (s : ℕ) → CountsAreTrue T.is_clone CAP s machine.old.requests (topic_in machine.old.state) commands.items replies.items) }
     ensures sizes { IfOk result (λ replies. (s : ℕ) → SizesAddUp CAP s machine.old.requests (topic_in machine.old.state) commands.items replies.items) }

@@ -1,14 +1,15 @@
-use Rattle.std.proofs.Common.{rules, sym, ap, ◌∙◌}
+use Rattle.std.proofs.Common.{rules, arith, sym, ap, ◌∙◌}
+use Rattle.esync_machine.specs.NamesLaws.{free_below}
 use Rattle.esync_log.specs.Log.{is_live}
 use Rattle.esync_pubsub.specs.PubSubRules.{topic_of}
-use Rattle.esync_pubsub.proofs.Named.{publisher_free_below, counted_as, refused_count, refused_publisher, named_same, named_publisher}
+use Rattle.esync_pubsub.proofs.Named.{counted_as, refused_count, refused_publisher, named_same, named_publisher}
 use Rattle.esync_pubsub.proofs.Turns.{where_true}
 use Rattle.esync_pubsub.proofs.pubsub.PubSubOver.add_named.Goals as goal
 
 pub put_publisher-requires : goal.put_publisher-requires
 put_publisher-requires g c =
     let free = sym c.is_publisher_free.ensures ∙ c.if-not-is_publisher_free.false in
-    (search rules, publisher_free_below g.G.LogStore.capacity g.P.WakerList.room g.row.NAMES c.args.self.now c.args.tables.now c.requires.named c.args.p free)
+    (search rules, omega (arith, free_below c.args.tables.now.publishers c.args.p free, c.requires.named.publishers))
 
 pub returns-in-Ok : goal.returns-in-Ok
 returns-in-Ok g c = record {

@@ -1,14 +1,15 @@
-use Rattle.std.proofs.Common.{rules, sym, ap, ◌∙◌}
+use Rattle.std.proofs.Common.{rules, arith, sym, ap, ◌∙◌}
+use Rattle.esync_machine.specs.NamesLaws.{free_below}
 use Rattle.esync_log.specs.Log.{is_live}
 use Rattle.esync_pubsub.specs.PubSubRules.{topic_of}
-use Rattle.esync_pubsub.proofs.Named.{subscriber_free_below, refused_same, named_same, named_join}
+use Rattle.esync_pubsub.proofs.Named.{refused_same, named_same, named_join}
 use Rattle.esync_pubsub.proofs.Turns.{where_true}
 use Rattle.esync_pubsub.proofs.pubsub.PubSubOver.join_named.Goals as goal
 
 pub put_subscriber-requires : goal.put_subscriber-requires
 put_subscriber-requires g c =
     let free = sym c.is_subscriber_free.ensures ∙ c.if-not-is_subscriber_free.false in
-    (search rules, subscriber_free_below g.G.LogStore.capacity g.P.WakerList.room g.row.NAMES c.args.self.now c.args.tables.now c.requires.named c.args.s free)
+    (search rules, omega (arith, free_below c.args.tables.now.subscribers c.args.s free, c.requires.named.subscribers))
 
 pub returns-in-Ok : goal.returns-in-Ok
 returns-in-Ok g c =

@@ -1,5 +1,6 @@
-use Rattle.std.proofs.Common.{◌≡◌, None, refl, sym, ap, rules, ◌∙◌}
+use Rattle.std.proofs.Common.{◌≡◌, None, refl, sym, ap, rules, arith, ◌∙◌}
 use Rattle.std.specs.Prelude.{slice_set}
+use Rattle.esync_machine.specs.NamesLaws.{number_below}
 use Rattle.esync_machine.specs.Wakings.{IsHanded}
 use Rattle.esync_machine.specs.declared.primitive.Answer.{Answer}
 use Rattle.esync_machine.specs.declared.primitive.Answer.TheVariants.{Done}
@@ -7,7 +8,7 @@ use Rattle.esync_log.specs.Log.{left}
 use Rattle.esync_pubsub.specs.PubSub.{frees}
 use Rattle.esync_pubsub.specs.PubSubRules.{topic_of, room_hands}
 use Rattle.esync_pubsub.specs.declared.pubsub.machine.PubSubHeard.{PubSubHeard}
-use Rattle.esync_pubsub.proofs.Named.{subscriber_below, named_leave}
+use Rattle.esync_pubsub.proofs.Named.{named_leave}
 use Rattle.esync_pubsub.proofs.Told.{leave_told}
 use Rattle.esync_pubsub.proofs.Turns.{at_named, where_named}
 use Rattle.esync_pubsub.proofs.pubsub.PubSubOver.leave_named.Goals as goal
@@ -15,7 +16,7 @@ use Rattle.esync_pubsub.proofs.pubsub.PubSubOver.leave_named.Goals as goal
 pub put_subscriber-requires : goal.put_subscriber-requires
 put_subscriber-requires g c =
     let here = sym c.subscriber.ensures.place ∙ c.in-Some.is in
-    (search rules, subscriber_below g.G.LogStore.capacity g.P.WakerList.room g.row.NAMES c.args.self.now c.args.tables.now c.requires.named c.args.s c.in-Some.id here)
+    (search rules, omega (arith, number_below c.args.tables.now.subscribers c.args.s c.in-Some.id here, c.requires.named.subscribers))
 
 pub returns : goal.returns
 returns g c =

@@ -1,6 +1,7 @@
 use Rattle.std.proofs.Common.{rules, refl, sym, ap, ◌∙◌, subst, ◌≤◌, ◌<◌}
+use Rattle.esync_machine.specs.NamesLaws.{number_below}
 use Rattle.esync_cells.specs.Receivers.{Followed, is_counted}
-use Rattle.esync_cells.specs.ReceiversLaws.{one_counted, counts_left, in_table}
+use Rattle.esync_cells.specs.ReceiversLaws.{one_counted, counts_left}
 use Rattle.esync_cells.specs.Watch.{Watching}
 use Rattle.esync_cells.proofs.WatchKept.{table_object}
 use Rattle.esync_cells.proofs.watch.machine.Watched.leave.Goals as goal
@@ -15,7 +16,7 @@ invariant_of-self g c =
 
 pub put-requires : goal.put-requires
 put-requires g c =
-    (search rules, subst (λ n. c.args.h < n) c.self.invariant.0 (in_table c.args.h c.self.inside.receivers c.in-Some.receiver (sym c.get.ensures ∙ c.in-Some.is)))
+    (search rules, subst (λ n. c.args.h < n) c.self.invariant.0 (number_below c.self.inside.receivers c.args.h c.in-Some.receiver (sym c.get.ensures ∙ c.in-Some.is)))
 
 pub returns : goal.returns
 returns g c = record {

@@ -1,11 +1,12 @@
 use Rattle.std.proofs.Common.{rules, ◌<◌, refl, sym, subst, ◌∙◌}
-use Rattle.esync_cells.specs.ReceiversLaws.{counts_marked, in_table}
+use Rattle.esync_machine.specs.NamesLaws.{number_below}
+use Rattle.esync_cells.specs.ReceiversLaws.{counts_marked}
 use Rattle.esync_cells.proofs.WatchKept.{marked_watch}
 use Rattle.esync_cells.proofs.watch.machine.Watched.mark.Goals as goal
 
 pub put-requires : goal.put-requires
 put-requires g c =
-    (search rules, subst (λ n. c.args.h < n) c.self.invariant.0 (in_table c.args.h c.self.inside.receivers c.in-Some.receiver (sym c.get.ensures ∙ c.in-Some.is)))
+    (search rules, subst (λ n. c.args.h < n) c.self.invariant.0 (number_below c.self.inside.receivers c.args.h c.in-Some.receiver (sym c.get.ensures ∙ c.in-Some.is)))
 
 pub invariant_of-self : goal.invariant_of-self
 invariant_of-self g c =
