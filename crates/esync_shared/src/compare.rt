@@ -1,6 +1,6 @@
 //! Whether a shared form answers and wakes as the machine does.
+use crate::form::{Door, Doors};
 use crate::play::play;
-use esync_forms::form::{Door, Doors};
 use esync_script::capacity::Capacity;
 use esync_script::opening::play_lines;
 use esync_words::fault::Fault;

@@ -1,76 +1,41 @@
 //! The shared form of each primitive that a script is played over.
-ghost use Rattle.std.specs.Prelude.{◌<◌, ◌≤◌, IfOk, length};
+ghost use Rattle.std.specs.Prelude.{◌≤◌};
 
-use crate::play::{Script, Stage, serve};
+use crate::channel::Channel;
+use crate::form::Door;
+use crate::mutex::Guarded;
+use crate::once::Once;
+use crate::pipe::{Lasting, Lent, Split, Tasks};
+use crate::play::Stage;
+use crate::pubsub::{PubSub, Topic};
+use crate::semaphore::{Granted, Permits};
+use crate::signal::Signaling;
+use crate::watch::{Watches, Watching};
+use crate::zerocopy::{Numbered, Zerocopy};
 use bumpalo::Bump;
 use esync_base::deque::Deque;
 use esync_base::store::{FixedBytes, FixedStore};
-use esync_base::waitqueue::{Hand, TaskId, WakerList};
+use esync_base::waitqueue::{Hand, TaskId};
 use esync_cells::signal::Signal;
-use esync_cells::watch::{SharedWatch, Watch};
+use esync_cells::watch::Watch;
 use esync_channel::channel::SharedMailbox;
-use esync_forms::channel::Channel;
-use esync_forms::form::Door;
-use esync_forms::mutex::{Guarded, Pair};
-use esync_forms::once::Once;
-use esync_forms::pipe::{Lasting, Lent, Split, Tasks};
-use esync_forms::pubsub::PubSub;
-use esync_forms::semaphore::{Granted, Permits};
-use esync_forms::signal::Signaling;
-use esync_forms::watch::Watching;
-use esync_forms::zerocopy::{Numbered, Zerocopy};
 use esync_guards::mutex::Mutex;
 use esync_notes::Notes;
 use esync_permits::semaphore::machine::{PermitCall, PermitHeard};
 use esync_permits::semaphore::{Amount, FairState, GreedyState, PermitState, SharedSemaphore};
 use esync_pipe::pipe::{DynamicReader, DynamicWriter, SharedPipe};
 use esync_pipe::ring::Ring;
-use esync_priority::prio::{Kind, Max, Min, PrioQueue};
-use esync_pubsub::pubsub::{FixedLog, PubSubChannel, SharedPubSub};
-use esync_script::capacity::Capacity;
-use esync_script::channel::ChannelWords;
-use esync_script::mutex::MutexWords;
-use esync_script::once::OnceWords;
+use esync_priority::prio::{Max, Min, PrioQueue};
+use esync_pubsub::pubsub::PubSubChannel;
+use esync_script::capacity::{Capacity, Size};
 use esync_script::opening::Opening;
-use esync_script::pipe::PipeWords;
-use esync_script::pubsub::PubSubWords;
 use esync_script::semaphore::{FairWords, GreedyWords};
-use esync_script::signal::SignalWords;
-use esync_script::watch::WatchWords;
-use esync_script::zerocopy::ZeroWords;
 use esync_words::fault::Fault;
 use esync_words::vocabulary::Vocabulary;
 use esync_zerocopy::zerocopy_channel::{Channel as SlotChannel, Slot};
 use std::alloc::{AllocError, Global};
 use std::io::Write;
 use std::sync::Wait;
-
-/// Plays the script over the shared form of the primitive that line 1 names.
-pub fn named<R: Wait, W: Write>(
-    stage: Stage<'_, '_, R>,
-    opening: Opening,
-    script: &mut Script<'_>,
-    output: &mut W,
-) -> Result<(), Fault> {
-    match opening {
-        Opening::Channel(capacity) => channel(stage, capacity, script, output),
-        Opening::Max(capacity) => priority::<Max, R, W>(stage, capacity, script, output),
-        Opening::Min(capacity) => priority::<Min, R, W>(stage, capacity, script, output),
-        Opening::Signal => signal(stage, script, output),
-        Opening::Greedy(permits) => greedy(stage, permits, script, output),
-        Opening::Fair(capacity, permits) => fair(stage, capacity, permits, script, output),
-        Opening::Pipe(capacity) => pipe(stage, capacity, script, output),
-        // (a script of `syncrun` says no numbers of subscribers and publishers: there are four of each)
-        Opening::PubSub(capacity, first, _) => pubsub(stage, capacity, first, script, output),
-        Opening::Once => once(stage, script, output),
-        // The calls of a lazy value ask that its closure can be called, which can't be said of a value that a form
-        // keeps. Tests show what it does.
-        Opening::Lazy(_) => Err(Fault::NotACommand(1)),
-        Opening::Mutex(value, part) => mutex(stage, value, part, script, output),
-        Opening::Watch(capacity, value) => watch(stage, capacity, value, script, output),
-        Opening::Zerocopy(capacity) => zerocopy(stage, capacity, script, output),
-    }
-}
 
 // An expression over a capacity, written out for each capacity: a number of places is part of a type. The number stands
 // in place of `N`, or first among a macro's arguments.
@@ -95,55 +60,50 @@ macro_rules! at_capacity {
     };
 }
 
+/// Plays the script over the shared form of the primitive that line 1 names.
+pub fn named<R: Wait, W: Write>(stage: Stage<'_, R, W>, opening: Opening) -> Result<(), Fault> {
+    match opening {
+        Opening::Channel(n) => at_capacity!(n, [channel::<Deque<u64,] N [>, R, W>(stage)]),
+        Opening::Max(n) => at_capacity!(n, [channel::<PrioQueue<u64, Max,] N [>, R, W>(stage)]),
+        Opening::Min(n) => at_capacity!(n, [channel::<PrioQueue<u64, Min,] N [>, R, W>(stage)]),
+        Opening::Signal => signal(stage),
+        Opening::Greedy(permits) => {
+            semaphore::<GreedyState<u64>, GreedyWords, _, R, W>(stage, permits)
+        }
+        Opening::Fair(n, permits) => at_capacity!(n, [fair::<] N [, R, W>(stage, permits)]),
+        Opening::Pipe(n) => at_capacity!(n, [pipe::<Ring<] N [>, R, W>(stage)]),
+        // A shared channel begins at no other number. (A script of `syncrun` says no numbers of subscribers and
+        // publishers: there are four of each.)
+        Opening::PubSub(n, 0, _) => pubsub(stage, n),
+        Opening::PubSub(..) => Err(Fault::NotACommand(1)),
+        Opening::Once => once(stage),
+        // The calls of a lazy value ask that its closure can be called, which can't be said of a value that a form
+        // keeps. Tests show what it does.
+        Opening::Lazy(_) => Err(Fault::NotACommand(1)),
+        Opening::Mutex(value, part) => mutex(stage, value, part),
+        Opening::Watch(n, value) => at_capacity!(n, [watch::<] N [, R, W>(stage, value)]),
+        Opening::Zerocopy(n) => zerocopy(stage, n),
+    }
+}
+
 // Plays the script over a channel that keeps its messages in this way.
-fn mailbox<S: FixedStore<Message = u64>, R: Wait, W: Write>(
-    stage: Stage<'_, '_, R>,
-    script: &mut Script<'_>,
-    output: &mut W,
+fn channel<S: FixedStore<Message = u64>, R: Wait, W: Write>(
+    stage: Stage<'_, R, W>,
 ) -> Result<(), Fault> {
     let channel: SharedMailbox<S, u64, &Notes<'_, R>> = SharedMailbox::new(stage.notes);
     let form = Channel::new(&channel, stage.doors);
-    serve::<ChannelWords<Capacity>, _, R, W>(stage, form, script, output)
-}
-
-// Plays the script over a channel.
-fn channel<R: Wait, W: Write>(
-    stage: Stage<'_, '_, R>,
-    capacity: Capacity,
-    script: &mut Script<'_>,
-    output: &mut W,
-) -> Result<(), Fault> {
-    at_capacity!(capacity, [mailbox::<Deque<u64,] N [>, R, W>(stage, script, output)])
-}
-
-// Plays the script over a priority channel of this kind.
-fn priority<K: Kind<u64>, R: Wait, W: Write>(
-    stage: Stage<'_, '_, R>,
-    capacity: Capacity,
-    script: &mut Script<'_>,
-    output: &mut W,
-) -> Result<(), Fault> {
-    at_capacity!(capacity, [mailbox::<PrioQueue<u64, K,] N [>, R, W>(stage, script, output)])
+    stage.serve(form)
 }
 
 // Plays the script over a signal.
-fn signal<R: Wait, W: Write>(
-    stage: Stage<'_, '_, R>,
-    script: &mut Script<'_>,
-    output: &mut W,
-) -> Result<(), Fault> {
+fn signal<R: Wait, W: Write>(stage: Stage<'_, R, W>) -> Result<(), Fault> {
     let signal: Signal<u64, u64, &Notes<'_, R>> = Signal::new(stage.notes);
     let form = Signaling::new(&signal, stage.doors);
-    serve::<SignalWords<Capacity>, _, R, W>(stage, form, script, output)
+    stage.serve(form)
 }
 
 // Plays the script over a semaphore with this state, in these words.
-fn semaphore<S, V, G, R, W>(
-    stage: Stage<'_, '_, R>,
-    permits: usize,
-    script: &mut Script<'_>,
-    output: &mut W,
-) -> Result<(), Fault>
+fn semaphore<S, V, G, R, W>(stage: Stage<'_, R, W>, permits: usize) -> Result<(), Fault>
 where
     S: PermitState<Waker = u64>,
     V: Vocabulary<Ask = Amount, Call = PermitCall, Heard = PermitHeard<G>>,
@@ -153,178 +113,94 @@ where
 {
     let hand = stage.notes;
     let semaphore: SharedSemaphore<S, u64, &Notes<'_, R>> = SharedSemaphore::new(permits, hand);
-    let form: Permits<'_, S, &Notes<'_, R>, G> = Permits::new(&semaphore, stage.doors);
-    serve::<V, _, R, W>(stage, form, script, output)
-}
-
-// Plays the script over a greedy semaphore.
-fn greedy<R: Wait, W: Write>(
-    stage: Stage<'_, '_, R>,
-    permits: usize,
-    script: &mut Script<'_>,
-    output: &mut W,
-) -> Result<(), Fault> {
-    semaphore::<GreedyState<u64>, GreedyWords, _, R, W>(stage, permits, script, output)
+    let form: Permits<'_, S, &Notes<'_, R>, V, G> = Permits::new(&semaphore, stage.doors);
+    stage.serve(form)
 }
 
 // Plays the script over a fair semaphore with a queue of `N` places.
-fn queue<const N: usize, R: Wait, W: Write>(
-    stage: Stage<'_, '_, R>,
+fn fair<const N: usize, R: Wait, W: Write>(
+    stage: Stage<'_, R, W>,
     permits: usize,
-    script: &mut Script<'_>,
-    output: &mut W,
 ) -> Result<(), Fault>
     requires { N ≤ 8 }
 {
-    semaphore::<FairState<u64, N>, FairWords, _, R, W>(stage, permits, script, output)
+    semaphore::<FairState<u64, N>, FairWords, _, R, W>(stage, permits)
 }
 
-// Plays the script over a fair semaphore.
-fn fair<R: Wait, W: Write>(
-    stage: Stage<'_, '_, R>,
-    capacity: Capacity,
-    permits: usize,
-    script: &mut Script<'_>,
-    output: &mut W,
-) -> Result<(), Fault> {
-    at_capacity!(capacity, [queue::<] N [, R, W>(stage, permits, script, output)])
+// Plays the script over a pipe with this buffer: the first way says whether it is split anew or its futures last.
+fn pipe<B: FixedBytes, R: Wait, W: Write>(stage: Stage<'_, R, W>) -> Result<(), Fault> {
+    let mut doors = stage.doors;
+    match doors.next() {
+        Door::Handle => split::<B, R, W>(stage),
+        Door::Own | Door::Dynamic => lasting::<B, R, W>(stage),
+    }
 }
 
 // Plays the script over a pipe that is split anew for each call.
-fn split<B: FixedBytes, R: Wait, W: Write>(
-    stage: Stage<'_, '_, R>,
-    script: &mut Script<'_>,
-    output: &mut W,
-) -> Result<(), Fault> {
+fn split<B: FixedBytes, R: Wait, W: Write>(stage: Stage<'_, R, W>) -> Result<(), Fault> {
     let pipe: SharedPipe<B, u64, &Notes<'_, R>> = SharedPipe::new(stage.notes);
-    let form = Split::new(pipe, stage.doors);
-    serve::<PipeWords<Capacity, 16>, _, R, W>(stage, form, script, output)
+    let form = Split {
+        pipe,
+        doors: stage.doors,
+    };
+    stage.serve(form)
 }
 
 // Plays the script over a pipe whose futures last.
-fn lasting<B: FixedBytes, R: Wait, W: Write>(
-    stage: Stage<'_, '_, R>,
-    script: &mut Script<'_>,
-    output: &mut W,
-) -> Result<(), Fault> {
+fn lasting<B: FixedBytes, R: Wait, W: Write>(stage: Stage<'_, R, W>) -> Result<(), Fault> {
     let hand = Tasks::new(stage.notes);
     let pipe: SharedPipe<B, TaskId, Tasks<&Notes<'_, R>>> = SharedPipe::new(hand);
     let written = Bump::new(stage.alloc);
     let lent = Lent::new(&pipe);
     let writer = DynamicWriter::new(lent);
     let reader = DynamicReader::new(stage.alloc, lent).map_err(|_| Fault::OutOfMemory)?;
-    let form = Lasting::new(&pipe, &written, &writer, reader, stage.doors);
-    serve::<PipeWords<Capacity, 16>, _, R, W>(stage, form, script, output)
-}
-
-// Plays the script over a pipe with this buffer: the first way says whether it is split anew or its futures last.
-fn bytes<B: FixedBytes, R: Wait, W: Write>(
-    stage: Stage<'_, '_, R>,
-    script: &mut Script<'_>,
-    output: &mut W,
-) -> Result<(), Fault> {
-    let mut doors = stage.doors;
-    match doors.next() {
-        Door::Handle => split::<B, R, W>(stage, script, output),
-        Door::Own | Door::Dynamic => lasting::<B, R, W>(stage, script, output),
-    }
-}
-
-// Plays the script over a pipe.
-fn pipe<R: Wait, W: Write>(
-    stage: Stage<'_, '_, R>,
-    capacity: Capacity,
-    script: &mut Script<'_>,
-    output: &mut W,
-) -> Result<(), Fault> {
-    at_capacity!(capacity, [bytes::<Ring<] N [>, R, W>(stage, script, output)])
-}
-
-// Plays the script over this pub-sub channel, which has no subscribers and publishers.
-fn log<
-    G: FixedLog<Message = u64>,
-    S: WakerList<Waker = u64>,
-    P: WakerList<Waker = u64>,
-    H: Hand<u64>,
-    R: Wait,
-    W: Write,
-    const K: usize,
->(
-    stage: Stage<'_, '_, R>,
-    channel: &SharedPubSub<G, S, P, H, K>,
-    script: &mut Script<'_>,
-    output: &mut W,
-) -> Result<(), Fault> {
-    match PubSub::new(stage.alloc, channel, stage.doors) {
-        Ok(form) => serve::<PubSubWords<Capacity>, _, R, W>(stage, form, script, output),
-        Err(AllocError) => Err(Fault::OutOfMemory),
-    }
+    let form = Lasting {
+        pipe: &pipe,
+        written: &written,
+        writer: &writer,
+        reader,
+        doors: stage.doors,
+    };
+    stage.serve(form)
 }
 
 // A pub-sub channel of so many messages. It is spelled out, so that its size in bytes is known.
 macro_rules! topic {
-    ($n:literal, $of:ident, $stage:ident, $script:ident, $output:ident) => {{
+    ($n:literal, $stage:ident, $of:ident) => {{
         let channel: PubSubChannel<u64, u64, &Notes<'_, $of>, $n, 4, 4, 4> =
             PubSubChannel::new($stage.notes);
-        log($stage, &channel, $script, $output)
+        log($stage, &channel)
     }};
 }
 
-// Plays the script over a pub-sub channel whose first message has the number 0: a shared channel begins nowhere else.
-fn pubsub<R: Wait, W: Write>(
-    stage: Stage<'_, '_, R>,
-    capacity: Capacity,
-    first: u64,
-    script: &mut Script<'_>,
-    output: &mut W,
-) -> Result<(), Fault> {
-    if first != 0 {
-        return Err(Fault::NotACommand(1));
-    }
-    at_capacity!(capacity, topic!(R, stage, script, output))
+// Plays the script over a pub-sub channel.
+fn pubsub<R: Wait, W: Write>(stage: Stage<'_, R, W>, capacity: Capacity) -> Result<(), Fault> {
+    at_capacity!(capacity, topic!(stage, R))
+}
+
+// Plays the script over this pub-sub channel, which has no subscribers and publishers.
+fn log<B: Topic, R: Wait, W: Write>(stage: Stage<'_, R, W>, channel: &B) -> Result<(), Fault> {
+    let form = PubSub::new(stage.alloc, channel, stage.doors).map_err(|_| Fault::OutOfMemory)?;
+    stage.serve(form)
 }
 
 // Plays the script over a value that is set once.
-fn once<R: Wait, W: Write>(
-    stage: Stage<'_, '_, R>,
-    script: &mut Script<'_>,
-    output: &mut W,
-) -> Result<(), Fault> {
+fn once<R: Wait, W: Write>(stage: Stage<'_, R, W>) -> Result<(), Fault> {
     let form: Once<&Notes<'_, R>> = Once::new(stage.notes, stage.doors);
-    serve::<OnceWords<Capacity>, _, R, W>(stage, form, script, output)
+    stage.serve(form)
 }
 
 // Plays the script over a mutex.
-fn mutex<R: Wait, W: Write>(
-    stage: Stage<'_, '_, R>,
-    value: u64,
-    part: u64,
-    script: &mut Script<'_>,
-    output: &mut W,
-) -> Result<(), Fault> {
-    let mutex: Mutex<Pair, u64, &Notes<'_, R>> = Mutex::new((value, part), stage.notes);
-    serve::<MutexWords<Capacity>, _, R, W>(stage, Guarded::new(&mutex), script, output)
-}
-
-// Plays the script over this watch, which has no receivers.
-fn latest<L: WakerList<Waker = u64>, H: Hand<u64>, R: Wait, W: Write, const K: usize>(
-    stage: Stage<'_, '_, R>,
-    watch: &SharedWatch<u64, L, H, K>,
-    script: &mut Script<'_>,
-    output: &mut W,
-) -> Result<(), Fault> {
-    match Watching::new(stage.alloc, watch, stage.doors) {
-        Ok(form) => serve::<WatchWords<Capacity>, _, R, W>(stage, form, script, output),
-        Err(AllocError) => Err(Fault::OutOfMemory),
-    }
+fn mutex<R: Wait, W: Write>(stage: Stage<'_, R, W>, value: u64, part: u64) -> Result<(), Fault> {
+    let mutex: Mutex<_, u64, &Notes<'_, R>> = Mutex::new((value, part), stage.notes);
+    let form = Guarded { mutex: &mutex };
+    stage.serve(form)
 }
 
 // Plays the script over a watch with places for `N` receivers.
-fn value<const N: usize, R: Wait, W: Write>(
-    stage: Stage<'_, '_, R>,
+fn watch<const N: usize, R: Wait, W: Write>(
+    stage: Stage<'_, R, W>,
     value: Option<u64>,
-    script: &mut Script<'_>,
-    output: &mut W,
 ) -> Result<(), Fault>
     requires { N ≤ 8 }
 {
@@ -332,60 +208,44 @@ fn value<const N: usize, R: Wait, W: Write>(
         Some(value) => Watch::new_with(value, stage.notes),
         None => Watch::new(stage.notes),
     };
-    latest(stage, &watch, script, output)
+    latest(stage, &watch)
 }
 
-// Plays the script over a watch.
-fn watch<R: Wait, W: Write>(
-    stage: Stage<'_, '_, R>,
-    capacity: Capacity,
-    first: Option<u64>,
-    script: &mut Script<'_>,
-    output: &mut W,
-) -> Result<(), Fault> {
-    at_capacity!(capacity, [value::<] N [, R, W>(stage, first, script, output)])
-}
-
-fn slot(number: usize) -> Slot<Numbered> {
-    Slot::new(Numbered { number, value: 0 })
+// Plays the script over this watch, which has no receivers.
+fn latest<B: Watches, R: Wait, W: Write>(stage: Stage<'_, R, W>, watch: &B) -> Result<(), Fault> {
+    let form = Watching::new(stage.alloc, watch, stage.doors).map_err(|_| Fault::OutOfMemory)?;
+    stage.serve(form)
 }
 
 // Returns as many slots of value 0 as the capacity says.
-fn slots(alloc: Global, capacity: Capacity) -> Result<Vec<Slot<Numbered>>, AllocError>
-    ensures { IfOk result (λ slots. 0 < length slots.items) }
-{
-    match capacity {
-        Capacity::One => Ok(vec![in alloc; slot(0)]?),
-        Capacity::Two => Ok(vec![in alloc; slot(0), slot(1)]?),
-        Capacity::Three => Ok(vec![in alloc; slot(0), slot(1), slot(2)]?),
-        Capacity::Four => Ok(vec![in alloc; slot(0), slot(1), slot(2), slot(3)]?),
-        Capacity::Eight => {
-            Ok(vec![in alloc;
-                slot(0),
-                slot(1),
-                slot(2),
-                slot(3),
-                slot(4),
-                slot(5),
-                slot(6),
-                slot(7),
-            ]?)
-        }
+fn slots(alloc: Global, capacity: Capacity) -> Result<Vec<Slot<Numbered>>, AllocError> {
+    let mut slots = Vec::new(alloc);
+    for number in 0..capacity.places() {
+        slots.push(Slot::new(Numbered { number, value: 0 }))?;
     }
+    Ok(slots)
 }
 
 // Plays the script over a zero-copy channel.
-fn zerocopy<R: Wait, W: Write>(
-    stage: Stage<'_, '_, R>,
-    capacity: Capacity,
-    script: &mut Script<'_>,
-    output: &mut W,
+fn zerocopy<R: Wait, W: Write>(stage: Stage<'_, R, W>, capacity: Capacity) -> Result<(), Fault> {
+    let slots = slots(stage.alloc, capacity).map_err(|_| Fault::OutOfMemory)?;
+    // (each capacity has a slot)
+    if slots.is_empty() {
+        return Err(Fault::NotACommand(1));
+    }
+    let mut channel: SlotChannel<Numbered, u64, &Notes<'_, R>> = SlotChannel::new(
+        slots,
+        stage.notes,
+    );
+    sides(stage, &mut channel)
+}
+
+// Plays the script over the sides of this zero-copy channel, of which no slot is held or lent.
+fn sides<H: Hand<u64>, R: Wait, W: Write>(
+    stage: Stage<'_, R, W>,
+    channel: &mut SlotChannel<Numbered, u64, H>,
 ) -> Result<(), Fault> {
-    let Ok(slots) = slots(stage.alloc, capacity) else {
-        return Err(Fault::OutOfMemory);
-    };
-    let mut channel = SlotChannel::new(slots, stage.notes);
     let (sender, receiver) = channel.split();
     let form = Zerocopy::new(sender, receiver, stage.doors);
-    serve::<ZeroWords<Capacity>, _, R, W>(stage, form, script, output)
+    stage.serve(form)
 }

@@ -2,9 +2,9 @@
 use crate::bad_line::Reason;
 use crate::inputs::first_line;
 use crate::stopped::Stopped;
-use esync_forms::form::{Door, Doors};
 use esync_script::opening::Opening;
 use esync_shared::compare::compare;
+use esync_shared::form::{Door, Doors};
 use esync_shared::play::{opening_of, play};
 use std::alloc::Global;
 use std::io::Write;

@@ -1,10 +1,12 @@
 //! The signal: called by its own calls, by futures that are made for each wait, and by one future that waits again and
 //! again.
-use crate::form::{Door, Doors, Form};
+use crate::form::{Answered, Door, Doors, Form, heard};
 use esync_base::waitqueue::{Context, Hand, Poll};
 use esync_cells::signal::machine::{SignalCall, SignalHeard, Wait};
 use esync_cells::signal::{Signal, SignalWait};
-use esync_machine::primitive::{Answer, Turn};
+use esync_machine::primitive::Answer;
+use esync_script::capacity::Capacity;
+use esync_script::signal::SignalWords;
 
 /// A signal whose waits are polled in each way in turn.
 #[derive(Drop)]
@@ -27,11 +29,7 @@ pub enum Held<'s, H> {
 }
 
 impl<'s, H: Hand<u64>> Form for Signaling<'s, H> {
-    type Ask = Wait;
-
-    type Call = SignalCall<u64>;
-
-    type Heard = SignalHeard<u64>;
+    type Words = SignalWords<Capacity>;
 
     type Held = Held<'s, H>;
 
@@ -43,20 +41,17 @@ impl<'s, H: Hand<u64>> Form for Signaling<'s, H> {
         })
     }
 
-    fn poll(&mut self, held: Self::Held, cx: &Context<u64>) -> Turn<SignalHeard<u64>, Self::Held> {
-        match held {
-            Held::Own => has_waited(self.signal.poll_wait(cx), Held::Own),
-            Held::Future(future) => wait(future, cx),
-            Held::Again => has_waited(self.again.poll(cx), Held::Again),
-        }
+    fn poll(&mut self, held: &mut Self::Held, cx: &Context<u64>) -> Answered<Self> {
+        let polled = match held {
+            Held::Own => self.signal.poll_wait(cx),
+            Held::Future(future) => future.poll(cx),
+            Held::Again => self.again.poll(cx),
+        };
+        Some(heard!(polled, value => SignalHeard::Waited(value)))
     }
 
-    fn call(
-        &mut self,
-        call: SignalCall<u64>,
-        _place: &mut Option<Self::Held>,
-    ) -> Answer<SignalHeard<u64>> {
-        match call {
+    fn call(&mut self, call: SignalCall<u64>, _place: &mut Option<Self::Held>) -> Answered<Self> {
+        Some(match call {
             SignalCall::Signal(value) => {
                 self.signal.signal(value);
                 Answer::Done
@@ -67,7 +62,7 @@ impl<'s, H: Hand<u64>> Form for Signaling<'s, H> {
             }
             SignalCall::TryTake => Answer::Gives(SignalHeard::Taken(self.signal.try_take())),
             SignalCall::Signaled => Answer::Gives(SignalHeard::Signaled(self.signal.signaled())),
-        }
+        })
     }
 }
 
@@ -79,21 +74,5 @@ impl<'s, H: Hand<u64>> Signaling<'s, H> {
             again: signal.wait(),
             doors,
         }
-    }
-}
-
-fn wait<'s, H: Hand<u64>>(
-    mut future: SignalWait<'s, u64, u64, H>,
-    cx: &Context<u64>,
-) -> Turn<SignalHeard<u64>, Held<'s, H>> {
-    let polled = future.poll(cx);
-    has_waited(polled, Held::Future(future))
-}
-
-// Returns what a poll leaves of a wait for the value.
-fn has_waited<H: Drop>(polled: Poll<u64>, held: H) -> Turn<SignalHeard<u64>, H> {
-    match polled {
-        Poll::Ready(value) => Turn::over(SignalHeard::Waited(value)),
-        Poll::Pending => Turn::waits(held),
     }
 }

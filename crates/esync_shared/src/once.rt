@@ -1,9 +1,11 @@
 //! The value that is set once, by its own calls and by its future.
-use crate::form::{Door, Doors, Form};
+use crate::form::{Answered, Door, Doors, Form, heard};
 use esync_base::waitqueue::{Context, Hand, Poll};
 use esync_cells::once_lock::OnceLock;
 use esync_cells::once_lock::machine::{Get, OnceCall, OnceHeard};
-use esync_machine::primitive::{Answer, Turn};
+use esync_machine::primitive::Answer;
+use esync_script::capacity::Capacity;
+use esync_script::once::OnceWords;
 use std::mem;
 
 /// A value that is set once. A request for it borrows nothing between two polls, since a call takes the value from the
@@ -16,11 +18,7 @@ pub struct Once<H> {
 }
 
 impl<H: Hand<u64> + Copy> Form for Once<H> {
-    type Ask = Get;
-
-    type Call = OnceCall<u64>;
-
-    type Heard = OnceHeard<u64>;
+    type Words = OnceWords<Capacity>;
 
     type Held = Get;
 
@@ -28,21 +26,22 @@ impl<H: Hand<u64> + Copy> Form for Once<H> {
         Some(ask)
     }
 
-    fn poll(&mut self, held: Get, cx: &Context<u64>) -> Turn<OnceHeard<u64>, Get> {
-        match self.get(cx) {
-            Poll::Ready(value) => Turn::over(OnceHeard::Got(value)),
-            Poll::Pending => Turn::waits(held),
-        }
+    fn poll(&mut self, _held: &mut Get, cx: &Context<u64>) -> Answered<Self> {
+        Some(match self.doors.next() {
+            Door::Own => heard!(self.lock.poll_get(cx), value => OnceHeard::Got(*value)),
+            Door::Handle => heard!(self.lock.get().poll(cx), value => OnceHeard::Got(*value)),
+            Door::Dynamic => self.get_again(cx),
+        })
     }
 
-    fn call(&mut self, call: OnceCall<u64>, _place: &mut Option<Get>) -> Answer<OnceHeard<u64>> {
-        Answer::Gives(match call {
+    fn call(&mut self, call: OnceCall<u64>, _place: &mut Option<Get>) -> Answered<Self> {
+        Some(Answer::Gives(match call {
             OnceCall::TryGet => OnceHeard::Found(self.lock.try_get().copied()),
             OnceCall::Init(value) => OnceHeard::HasSet(self.lock.init(value)),
             OnceCall::GetOrInit(value) => OnceHeard::Shown(*self.lock.get_or_init(move || value)),
             OnceCall::Take => OnceHeard::Found(self.take()),
             OnceCall::IsSet => OnceHeard::IsSet(self.lock.is_set()),
-        })
+        }))
     }
 }
 
@@ -56,20 +55,12 @@ impl<H: Hand<u64> + Copy> Once<H> {
         }
     }
 
-    fn get(&mut self, cx: &Context<u64>) -> Poll<u64> {
-        match self.doors.next() {
-            Door::Own => copied(self.lock.poll_get(cx)),
-            Door::Handle => copied(self.lock.get().poll(cx)),
-            Door::Dynamic => self.get_again(cx),
-        }
-    }
-
-    // Gets the value once more: a future acts anew after it was ready.
-    fn get_again(&self, cx: &Context<u64>) -> Poll<u64> {
+    // Gives the value once more: a future acts anew after it was ready.
+    fn get_again(&self, cx: &Context<u64>) -> Answer<OnceHeard<u64>> {
         let mut get = self.lock.get();
         match get.poll(cx) {
-            Poll::Ready(_shown) => copied(get.poll(cx)),
-            Poll::Pending => Poll::Pending,
+            Poll::Ready(_shown) => heard!(get.poll(cx), value => OnceHeard::Got(*value)),
+            Poll::Pending => Answer::Pending,
         }
     }
 
@@ -79,13 +70,5 @@ impl<H: Hand<u64> + Copy> Once<H> {
             Door::Own | Door::Handle => self.lock.take(),
             Door::Dynamic => { mem::replace(&mut self.lock, OnceLock::new(self.hand)).into_inner() }
         }
-    }
-}
-
-// Returns a copy of the value that a poll lends.
-fn copied(polled: Poll<&u64>) -> Poll<u64> {
-    match polled {
-        Poll::Ready(value) => Poll::Ready(*value),
-        Poll::Pending => Poll::Pending,
     }
 }
