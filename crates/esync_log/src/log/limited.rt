@@ -43,11 +43,11 @@ impl<T: Drop, B: Limit, S: Limit, const CAP: usize, const ROOM: usize> LimitedLo
     /// number that `B` stands for, from 1 to `CAP`, and the number of its places the one that `S` stands for, at most
     /// `ROOM`.
     pub fn new_at(capacity: usize, places: usize, next: u64) -> Self
-        requires chosen { capacity ≡ B.limit }
+        requires capacity { capacity ≡ B.limit }
         requires some { 1 ≤ capacity }
-        requires room { capacity ≤ CAP }
-        requires placed { places ≡ S.limit }
-        requires places { places ≤ ROOM }
+        requires at_most { capacity ≤ CAP }
+        requires places { places ≡ S.limit }
+        requires room { places ≤ ROOM }
         ensures { result ≡ record { held = []; next = next; positions = replicate S.limit None } }
     {
         LimitedLog {
