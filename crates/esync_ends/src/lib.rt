@@ -13,7 +13,7 @@ use esync_words::copied::Copied;
 use esync_words::fault::Fault;
 use esync_words::lines::{ByteSource, Lines};
 use esync_words::play::Parts;
-use esync_words::vocabulary::{REQS, Vocabulary, read_command};
+use esync_words::vocabulary::{Vocabulary, read_command};
 use esync_words::words::Words;
 use std::alloc::{AllocError, Global};
 use std::fmt::{self, Debug, Display, Formatter};
@@ -240,7 +240,7 @@ impl<D: Delivery, P: Progress> Trial<D, P> {
         M::Reply: Parts<A> + Drop,
         W: Write,
     {
-        for request in 0..REQS {
+        for request in machine.numbers() {
             if machine.standing(request) == Standing::Free {
                 continue;
             }
@@ -272,7 +272,7 @@ impl<D: Delivery, P: Progress> Trial<D, P> {
         M::Reply: Parts<A> + Drop,
         W: Write,
     {
-        for request in 0..REQS {
+        for request in ended.numbers() {
             let Standing::Waits { waker, is_told } = ended.standing(request) else {
                 continue;
             };

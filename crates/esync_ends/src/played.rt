@@ -7,6 +7,7 @@ use esync_words::copied::Copied;
 use esync_words::play::Parts;
 use std::alloc::AllocError;
 use std::marker::PhantomData;
+use std::ops::Range;
 
 /// A machine of commands `Command<Q, u64, C>`, whose replies tell `A`, and the states of its requests.
 #[derive(Drop)]
@@ -30,6 +31,11 @@ where
             standings: Standings::new(),
             commands: PhantomData,
         }
+    }
+
+    // Returns the numbers that requests ever had, and those below them.
+    pub fn numbers(&self) -> Range<usize> {
+        self.standings.numbers()
     }
 
     // Returns the state of the request.

@@ -2,6 +2,7 @@
 use crate::Delivery;
 use esync_machine::primitive::{Answer, Command};
 use esync_words::vocabulary::REQS;
+use std::ops::Range;
 
 // The state of a request.
 #[derive(Clone, Copy, Debug, PartialEq, Eq)]
@@ -28,6 +29,8 @@ impl Standing {
 #[derive(Clone, Copy)]
 pub struct Standings {
     places: [Standing; REQS],
+    // One more than the greatest number that was ever in use, or 0.
+    used: usize,
 }
 
 impl Standings {
@@ -35,7 +38,13 @@ impl Standings {
     pub fn new() -> Self {
         Standings {
             places: [Standing::Free; REQS],
+            used: 0,
         }
+    }
+
+    // Returns the numbers that were ever in use, and those below them.
+    pub fn numbers(&self) -> Range<usize> {
+        0..self.used
     }
 
     // Returns the state of the request.
@@ -64,7 +73,7 @@ impl Standings {
             | (Command::End(r), Answer::Done) => self.put(*r, Standing::Free),
             _ => {}
         }
-        for standing in self.places.iter_mut() {
+        for standing in self.places.iter_mut().take(self.used) {
             standing.hear(delivery, wakers);
         }
     }
@@ -72,6 +81,7 @@ impl Standings {
     fn put(&mut self, request: usize, standing: Standing) {
         if let Some(place) = self.places.get_mut(request) {
             *place = standing;
+            self.used = self.used.max(request.saturating_add(1));
         }
     }
 }

@@ -1,4 +1,4 @@
--- The numbers that line 1 of a script can say: of places, of subscribers and of publishers.
+-- The numbers that line 1 of a script can say: capacities, and how many subscribers and publishers there may be.
 use Rattle.std.specs.Prelude.{ℕ, ◌==◌, nat_lt, Option, Some, None, if◌then◌else◌, refl}
 use Rattle.std.specs.Coded.{Coded, code_by, coded×, coded_ℕ}
 use Rattle.esync_script.specs.declared.capacity.Capacity.{Capacity}
@@ -34,11 +34,11 @@ pub record Handles : Type 0 where
 abbrev pub handles_code : Coded Handles
 handles_code = code_by (ℕ × ℕ) (coded× coded_ℕ coded_ℕ) (λ h. (h.subscribers, h.publishers)) (λ p. record { subscribers = p.0; publishers = p.1 }) (λ _. refl)
 
--- the numbers where line 1 says none
+-- how many there may be where line 1 says neither number
 abbrev pub four_and_four : Handles
 four_and_four = record { subscribers = 4; publishers = 4 }
 
--- the numbers that a script says, which none of `syncrun` can say
+-- what two numbers of line 1 say, in any language but that of `syncrun`, which has no words for them
 abbrev pub handles : ℕ → ℕ → Option Handles
 handles s p = if nat_lt 16 s then None else if nat_lt 16 p then None else Some (record { subscribers = s; publishers = p })
 

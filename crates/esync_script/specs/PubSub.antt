@@ -83,7 +83,7 @@ a_new_topic places first = record {
 abbrev pub no_lists : Lists ℕ
 no_lists = record { subscribers = []; publishers = [] }
 
--- a channel of `places` messages for so many subscribers and publishers, at most 16 of each, so that a step hands out 16
--- wakers at most
+-- a channel of at most cap messages, each value of k bits, with these subscribers and publishers: at most 16 of each, so
+-- that a step hands out 16 wakers at most
 abbrev pub pubsub_setting : ℕ → ℕ → Handles → ℕ → Setting
-pubsub_setting k places h first = setting_of 16 (pubsub_rules IsSame NeedsNone places h.publishers) (pubsub_wakings nat_eq h.subscribers h.publishers) (pubsub_asks k) (pubsub_calls k) pubsub_text (a_new_topic h.subscribers first) no_lists
+pubsub_setting k cap h first = setting_of 16 (pubsub_rules IsSame NeedsNone cap h.publishers) (pubsub_wakings nat_eq h.subscribers h.publishers) (pubsub_asks k) (pubsub_calls k) pubsub_text (a_new_topic h.subscribers first) no_lists

@@ -47,7 +47,7 @@ impl Model for Handles {
 }
 
 impl Handles {
-    /// Four subscribers and four publishers, as a channel has where line 1 says nothing of them.
+    /// Returns four subscribers and four publishers, which a channel may have where line 1 doesn't say how many.
     pub fn four() -> Self
         ensures { result ≡ four_and_four }
     {
@@ -57,7 +57,7 @@ impl Handles {
         }
     }
 
-    /// Returns these numbers, if none is too large.
+    /// Returns these numbers, if none is above 16.
     pub fn of(subscribers: u64, publishers: u64) -> Option<Self>
         ensures { result ≡ handles subscribers publishers }
     {

@@ -63,17 +63,8 @@ impl<C: Size> Vocabulary for MutexWords<C> {
         }
     }
 
-    fn questions() -> &'static [&'static str] {
-        &[
-            "read 0", "read 1", "read 2", "read 3", "read 4", "read 5", "read 6", "read 7",
-            "read 8", "read 9", "read 10", "read 11", "read 12", "read 13", "read 14", "read 15",
-            "read 16", "read 17", "read 18", "read 19", "read 20", "read 21", "read 22", "read 23",
-            "read 24", "read 25", "read 26", "read 27", "read 28", "read 29", "read 30", "read 31",
-            "read 32", "read 33", "read 34", "read 35", "read 36", "read 37", "read 38", "read 39",
-            "read 40", "read 41", "read 42", "read 43", "read 44", "read 45", "read 46", "read 47",
-            "read 48", "read 49", "read 50", "read 51", "read 52", "read 53", "read 54", "read 55",
-            "read 56", "read 57", "read 58", "read 59", "read 60", "read 61", "read 62", "read 63",
-        ]
+    fn question_of(request: usize) -> Option<(&'static str, MutexCall<(u64, u64), u64>)> {
+        Some(("read", MutexCall::Read(request)))
     }
 
     fn place(number: usize) -> Option<Place> {

@@ -143,7 +143,8 @@ pub type Topic<C, L, S, Q> = Numbered<
     NAMES,
 >;
 
-/// Returns a pub-sub channel over this log, which has no messages and no subscribers, for so many publishers.
+/// Returns a pub-sub channel over this log, for so many subscribers and publishers, of which there are none yet. The log
+/// holds no message, and has a place for each subscriber that may come.
 ///
 /// A topic isn't `Scripted`: over an open log it can't be shown that the machine which `serve` makes fits in memory.
 pub fn topic<C: Size, L: LogStore<Message = u64>, S: Limit, Q: Limit>(

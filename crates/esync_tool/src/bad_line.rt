@@ -237,7 +237,11 @@ fn shaped(
             if letter.is_ascii_uppercase() {
                 return Ok(None);
             }
-            return told(alloc, column, name, "a word is missing behind it");
+            let why = match letter {
+                b'h' => "the number of publishers is missing behind it",
+                _ => "a word is missing behind it",
+            };
+            return told(alloc, column, name, why);
         };
         let (word, rest) = split_word(words);
         if let Some(why) = odd_word(alloc, language, letter.to_ascii_lowercase(), word)? {
@@ -304,7 +308,9 @@ fn odd_word(
             format!(in alloc; "another capacity: it is {}", language.capacities())?
         }
         (b'h', Ok(count)) if count > NAMES as u64 => {
-            format!(in alloc; "too large: a pubsub has at most {NAMES} of each")?
+            format!(in alloc;
+                "too large: a pubsub has at most {NAMES} subscribers and {NAMES} publishers"
+            )?
         }
         (b'1', Ok(places)) if places != 1 => {
             String::from_str(alloc, "another capacity: it is 1")?

@@ -87,8 +87,11 @@ pub fn unjudged_as_json<O: Write>(
     Ok(())
 }
 
-// How many characters of a reply are shown. No primitive has a longer one.
+// How many characters of a reply are shown.
 const SHOWN: usize = 1000;
+
+// How many of them stand before the first one that differs, where the replies begin with as many that are alike as are shown.
+const BEFORE: usize = 100;
 
 // A reply that isn't the primitive's, as it is shown.
 #[derive(Drop)]
@@ -109,11 +112,26 @@ impl Shown {
 }
 
 fn shortened(alloc: Global, difference: &Difference<'_>) -> Result<Shown, AllocError> {
+    // (a part of a text between line feeds and arrows is a text)
+    let recorded = str::from_utf8(difference.recorded).unwrap_or("");
+    let given = str::from_utf8(difference.given).unwrap_or("");
+    let first = first_shown(recorded, given);
     Ok(Shown {
         line: difference.line,
-        recorded: beginning(alloc, difference.recorded)?,
-        given: beginning(alloc, difference.given)?,
+        recorded: part(alloc, recorded, first)?,
+        given: part(alloc, given, first)?,
     })
+}
+
+// Which character of both replies is the first that is shown, so that the first one that differs is shown.
+fn first_shown(recorded: &str, given: &str) -> usize {
+    let pairs = recorded.chars().zip(given.chars());
+    let alike = pairs.take_while(|(one, other)| one == other).count();
+    if alike < SHOWN {
+        0
+    } else {
+        alike.saturating_sub(BEFORE)
+    }
 }
 
 // As people are shown it, with no control character.
@@ -131,15 +149,21 @@ fn printable(alloc: Global, shown: Shown) -> Result<Shown, AllocError> {
     })
 }
 
-// The beginning of a reply, and how long it is where that isn't all. (A part of a text between line feeds and arrows is a text.)
-fn beginning(alloc: Global, reply: &[u8]) -> Result<String, AllocError> {
-    let reply = str::from_utf8(reply).unwrap_or("");
+// What is shown of a reply from this character on, and how long the reply is where that isn't all.
+fn part(alloc: Global, reply: &str, first: usize) -> Result<String, AllocError> {
     let mut text = String::new(alloc);
-    for character in reply.chars().take(SHOWN) {
+    if first > 0 {
+        write!(text, ".. ")?;
+    }
+    for character in reply.chars().skip(first).take(SHOWN) {
         text.push(character)?;
     }
-    if text.len() < reply.len() {
-        write!(text, ".. ({} bytes)", reply.len())?;
+    let is_cut = reply.chars().skip(first).nth(SHOWN).is_some();
+    if is_cut {
+        write!(text, "..")?;
+    }
+    if first > 0 || is_cut {
+        write!(text, " ({} bytes)", reply.len())?;
     }
     Ok(text)
 }

@@ -10,7 +10,7 @@
 //! | `b` | bytes, at most 4096, as `1,2,255`, or `-` | at most 16 |
 //! | `c` | a capacity: 1 to 4096 | 1, 2, 3, 4 or 8 |
 //! | `1` | the capacity 1 | |
-//! | `h` | a number of subscribers or publishers, at most 16 | none |
+//! | `h` | a number of subscribers, or behind it of publishers, at most 16 | none |
 //! | `K`, `V`, `H` | as `k`, `v` or `h`, and may be missing | |
 
 use esync_script::capacity::{AnyCapacity, Capacity, Size};

@@ -16,6 +16,7 @@ use arrayvec::ArrayVec;
 use esync_base::waitqueue::Registered;
 use esync_machine::primitive::{Answer, Command};
 use esync_machine::run::Machine;
+use std::fmt::{self, Display, Formatter};
 use std::io::{self, Write};
 
 // A waker that is registered at a place.
@@ -359,9 +360,27 @@ where
     ensures { IfErr result (λ fault. IsJudged (Err fault) → ⊥) }
 {
     let mut is_first = true;
-    for question in V::questions() {
-        if let Some(command) = read_command::<V>(Words::of(question)) {
+    for name in V::questions() {
+        if let Some(command) = read_command::<V>(Words::of(name)) {
+            let question = Question {
+                name: *name,
+                request: None,
+            };
             let reply = reply_of::<V, M>(machine, command)?;
+            if note_question::<V, N>(is_first, question, reply.answer(), notes)? {
+                is_first = false;
+            }
+        }
+    }
+    for r in 0..REQS {
+        if let Some((name, call)) = V::question_of(r)
+            && machine.stands(r)
+        {
+            let question = Question {
+                name,
+                request: Some(r),
+            };
+            let reply = reply_of::<V, M>(machine, Command::Call(call))?;
             if note_question::<V, N>(is_first, question, reply.answer(), notes)? {
                 is_first = false;
             }
@@ -373,10 +392,26 @@ where
     Ok(())
 }
 
+// A question by its name, and the request of which it is asked, if it is asked of one.
+#[derive(Clone, Copy)]
+struct Question {
+    name: &'static str,
+    request: Option<usize>,
+}
+
+impl Display for Question {
+    fn fmt<W: fmt::Write>(&self, f: &mut Formatter<W>) -> fmt::Result {
+        match self.request {
+            Some(request) => write!(f, "{} {request}", self.name),
+            None => write!(f, "{}", self.name),
+        }
+    }
+}
+
 // Notes the answer that a question would get, behind the question before it. Returns `false` if the answer is NoSuch.
 fn note_question<V: Vocabulary, N: Write + Drop>(
     is_first: bool,
-    question: &str,
+    question: Question,
     answer: &Answer<V::Heard>,
     notes: &mut Notes<N>,
 ) -> Result<bool, Fault>

@@ -11,14 +11,15 @@ use crate::diagram::{print_head, print_step};
 use crate::fault::Fault;
 use crate::lines::LONGEST;
 use crate::play::{Giver, Telling};
+use crate::printing::is_empty;
 use crate::vocabulary::{REQS, Vocabulary};
 use arrayvec::ArrayString;
 use esync_machine::primitive::Answer;
 use std::io::{self, Write};
 use std::marker::Model;
 
-/// A telling as diagrams in a document of Markdown, each in a fence, of at most 50 lines. Viewers of Mermaid take no
-/// more than 50,000 bytes of a diagram. A line is drawn by at most 840, and a request that waits is noted by at most 48.
+/// A telling as diagrams in a document of Markdown, each in a fence and of at most 50 lines, since viewers of Mermaid
+/// take a limited diagram: 50,000 bytes by default. A page with long lines or hundreds of waiting requests can be longer.
 ///
 /// Each page names the primitive as line 1 does, and begins with a note for each request that waits: its last poll was
 /// answered Pending, and its waker wasn't handed out since. A request that ended when its subscriber or its publisher
@@ -149,6 +150,9 @@ fn put(waits: &mut [Option<u64>; REQS], request: usize, waker: Option<u64>)
 fn hear_wakers(waits: &mut [Option<u64>; REQS], wakers: &[Option<u64>])
     ensures { waits.new ≡ waits_still waits.old (items_of wakers.now) }
 {
+    if is_empty(wakers) {
+        return;
+    }
     for r in 0..REQS {
         waits[r] = unless_woken(waits[r], wakers);
     }

@@ -89,8 +89,8 @@ fn print_list<W: Write>(bytes: &[u8], output: &mut W) -> io::Result<()>
     Ok(())
 }
 
-// Returns whether the row has no waker.
-fn is_empty(wakers: &[Option<u64>]) -> bool
+/// Returns whether the row has no waker.
+pub fn is_empty(wakers: &[Option<u64>]) -> bool
     ensures { IsTrue result ↔ (items_of wakers.now ≡ []) }
 {
     are_free(wakers)

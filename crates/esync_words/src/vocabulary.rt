@@ -74,6 +74,12 @@ pub trait Vocabulary {
         &[]
     }
 
+    /// Returns the call, with its name, by which an explanation asks a copy of the machine what the request of this
+    /// number holds, if there is such a call. Its words are the name and the number.
+    fn question_of(_request: usize) -> Option<(&'static str, Self::Call)> {
+        None
+    }
+
     /// Returns the place of this number at which wakers are registered, if there is one. The numbers have no gap.
     fn place(_number: usize) -> Option<Place> {
         None

@@ -146,7 +146,7 @@ impl<'a> Words<'a> {
         }
     }
 
-    // Returns a number, and two more if there are words for them. Or nothing, if there are no words.
+    // Returns no number, one or three: as many as there are words, which write nothing else.
     fn one_or_three_numbers_if_any(mut self) -> Option<Option<(u64, Option<(u64, u64)>)>>
         ensures { result ≡ perhaps_one_or_three 64 self.entry }
     {
@@ -160,7 +160,7 @@ impl<'a> Words<'a> {
         }
     }
 
-    /// Returns a number; a second one, if there is a word for it; and behind that two more, if there are words for them.
+    /// Returns one number, two or four: as many as there are words, which write nothing else.
     pub fn one_two_or_four_numbers(mut self) -> Option<(u64, Option<(u64, Option<(u64, u64)>)>)>
         ensures { result ≡ one_two_or_four 64 self.entry }
     {

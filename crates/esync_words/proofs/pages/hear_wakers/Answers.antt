@@ -1,4 +1,4 @@
-use Rattle.std.proofs.Common.{◌≡◌, ℕ, ◌+◌, ◌<◌, suc, Bool, List, Option, Some, None, length, get_or, sym, ap, ◌∙◌, arith}
+use Rattle.std.proofs.Common.{◌≡◌, ℕ, ◌+◌, ◌<◌, suc, Bool, List, [], ◌∷◌, Option, Some, None, length, get_or, refl, sym, ap, ◌∙◌, arith}
 use Rattle.std.specs.Prelude.{slice_set, slice_get}
 use Rattle.std.proofs.lemmas.Option.{slice_get-get_or}
 use Rattle.esync_base.specs.Rows.{items_of}
@@ -22,6 +22,17 @@ pub loop-r-preserved : goal.loop-r-preserved
 loop-r-preserved c =
     let below : c.loop-r.r < length c.args.waits.now = omega (arith, c.told-waits) in
     one_more (is_woken (items_of c.args.wakers.now)) c.args.waits.now c.loop-r.waits c.loop-r.r c.unless_woken.result c.loop-r.invariant below c.unless_woken.ensures
+
+-- without wakers nothing is swept
+none_swept : (q : List (Option ℕ)) → swept (is_woken []) q ≡ q
+none_swept [] = refl
+none_swept (Some w ∷ q) = ap (λ l. Some w ∷ l) (none_swept q)
+none_swept (None ∷ q) = ap (λ l. None ∷ l) (none_swept q)
+
+pub returns-then-is_empty : goal.returns-then-is_empty
+returns-then-is_empty c =
+    let none : items_of c.args.wakers.now ≡ [] = c.is_empty.ensures.0 c.if-is_empty.true in
+    rw none (sym (none_swept c.args.waits.now))
 
 pub returns : goal.returns
 returns c =
