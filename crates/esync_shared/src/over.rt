@@ -204,7 +204,7 @@ fn watch<const N: usize, R: Wait, W: Write>(
 ) -> Result<(), Fault>
     requires { N ≤ 8 }
 {
-    let watch: Watch<u64, u64, &Notes<'_, R>, N, N> = match value {
+    let watch: Watch<u64, u64, &Notes<'_, R>, N> = match value {
         Some(value) => Watch::new_with(value, stage.notes),
         None => Watch::new(stage.notes),
     };

@@ -66,7 +66,7 @@ fn read_watch<R: Wait, B: WatchBehavior<Value = u32, Waker = TaskId>>(
 fn a_watch(rt: HostRuntime) -> Result<(), Fail> {
     let parking: Parking<'_, HostRuntime, 1> = Parking::new(&rt);
     let mut seat = parking.seat(0).expect(&rt, "the seat is free");
-    let watch: Watch<u32, TaskId, _, 1, 1> = Watch::new(&parking);
+    let watch: Watch<u32, TaskId, _, 1> = Watch::new(&parking);
     let mut receiver = watch.receiver().expect(&rt, "a receiver has room");
     let values = read_watch(&mut seat, &watch.sender(), &mut receiver)?;
     same!(rt; values, [1, 1, 2, 3]);

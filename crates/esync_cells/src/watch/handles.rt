@@ -10,7 +10,7 @@ use std::alloc::AllocError;
 use std::marker::Model;
 
 /// A sender of a watch with at most `N` receivers.
-pub type Sender<'a, T, W, H, const N: usize, const K: usize> = Snd<'a, Watch<T, W, H, N, K>>;
+pub type Sender<'a, T, W, H, const N: usize> = Snd<'a, Watch<T, W, H, N>>;
 
 /// A sender whose type doesn't say how many receivers the watch has room for.
 pub type DynSender<'a, B> = Snd<'a, B>;
@@ -116,7 +116,7 @@ impl<'a, B: WatchBehavior> Snd<'a, B> {
 }
 
 /// A receiver of a watch with at most `N` receivers.
-pub type Receiver<'a, T, W, H, const N: usize, const K: usize> = Rcv<'a, Watch<T, W, H, N, K>>;
+pub type Receiver<'a, T, W, H, const N: usize> = Rcv<'a, Watch<T, W, H, N>>;
 
 /// A receiver whose type doesn't say how many receivers the watch has room for.
 pub type DynReceiver<'a, B> = Rcv<'a, B>;
@@ -269,10 +269,7 @@ impl<'a, B: WatchBehavior> Rcv<'a, B> {
 }
 
 /// A receiver that never waits, of a watch with at most `N` counted receivers.
-pub type AnonReceiver<'a, T, W, H, const N: usize, const K: usize> = AnonRcv<
-    'a,
-    Watch<T, W, H, N, K>,
->;
+pub type AnonReceiver<'a, T, W, H, const N: usize> = AnonRcv<'a, Watch<T, W, H, N>>;
 
 /// A receiver that never waits, whose type doesn't say how many receivers the watch has room for.
 pub type DynAnonReceiver<'a, B> = AnonRcv<'a, B>;

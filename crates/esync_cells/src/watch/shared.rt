@@ -137,13 +137,13 @@ pub trait WatchBehavior {
     fn drop_receiver(&self);
 }
 
-/// A watch with at most `N` counted receivers. `K` is the room for the wakers of a step: the greater of `N` and 1.
-pub type Watch<T, W, H, const N: usize, const K: usize> = SharedWatch<T, Wakes<W, N>, H, K>;
+/// A watch with at most `N` counted receivers, where `N` is below 65536.
+pub type Watch<T, W, H, const N: usize> = SharedWatch<T, Wakes<W, N>, H, N>;
 
 /// The latest value, for several receivers, that tasks on several threads share by reference.
 ///
 /// Each call takes the lock, makes the call of its name on the state, and releases the lock. Then it gives each waker
-/// that the step handed out to the hand, in order.
+/// that the step handed out to the hand, in order. `K` is the room for the wakers of a step.
 #[derive(Drop)]
 pub struct SharedWatch<T, L: WakerList, H, const K: usize> {
     inner: Shared<WatchOver<T, L>, L::Waker, H>,
@@ -155,7 +155,7 @@ impl<T: Clone + Drop, L: FixedList, H: Hand<L::Waker>, const K: usize> SharedWat
     /// Returns a watch without a value, at version 0.
     ///
     /// A call hands out at most `K` wakers. So the list of wakers has to fit in `K`, and `K` has to be below 65536. A
-    /// caller that takes `K` as a number of its own compares it, as by `N <= K && K < 65536`.
+    /// caller that takes the `N` of a `Watch` as a number of its own compares it, as by `N < 65536`.
     pub fn new(hand: H) -> Self
         requires room { L.room ≤ K }
         requires small { K < 65536 }

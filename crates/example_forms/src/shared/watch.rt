@@ -7,7 +7,7 @@ use std::sync::Wait;
 /// A value whose changes two receivers hear. They may read it at any time.
 pub fn example<R: Print + Wait>(rt: &R) -> io::Result<()> {
     let bell = Bell::new(rt);
-    let watch: Watch<u8, u64, _, 2, 2> = Watch::new(&bell);
+    let watch: Watch<u8, u64, _, 2> = Watch::new(&bell);
     hear_and_read(rt, &watch.sender(), watch.receiver(), watch.dyn_receiver())
 }
 

@@ -30,7 +30,7 @@ impl Clone for Scarce {
 #[test]
 fn a_refused_clone_marks_nothing(rt: HostRuntime) {
     let notes = Notes::new(&rt);
-    let watch: Watch<Scarce, u64, _, 1, 1> = Watch::new(&notes);
+    let watch: Watch<Scarce, u64, _, 1> = Watch::new(&notes);
     let Some(mut receiver) = watch.receiver() else {
         rt.abort()
     };

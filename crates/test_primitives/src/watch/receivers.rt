@@ -5,7 +5,7 @@ use std::sync::Wait;
 #[test]
 fn a_watch_without_places_has_anonymous_receivers_alone(rt: HostRuntime) {
     let notes = Notes::new(&rt);
-    let watch: Watch<u32, u64, _, 0, 0> = Watch::new(&notes);
+    let watch: Watch<u32, u64, _, 0> = Watch::new(&notes);
     holds!(rt; watch.receiver().is_none());
     let mut anonymous = watch.anon_receiver();
     holds!(rt; watch.sender().send(10) == Ok(()));
@@ -15,11 +15,11 @@ fn a_watch_without_places_has_anonymous_receivers_alone(rt: HostRuntime) {
     holds!(rt; anonymous.try_get() == Ok(Some(10)));
 }
 
-// A watch that two receivers wait at, if there may be one whose calls hand out so many wakers.
-fn with_room<'n, R: Wait, const K: usize>(
+// A watch that so many receivers wait at, if there may be one whose calls hand out so many wakers.
+fn with_room<'n, R: Wait, const N: usize>(
     notes: &'n Notes<'n, R>,
-) -> Option<Watch<u32, u64, &'n Notes<'n, R>, 2, K>> {
-    if 2 <= K && K < 65536 {
+) -> Option<Watch<u32, u64, &'n Notes<'n, R>, N>> {
+    if N < 65536 {
         return Some(Watch::new(notes));
     }
     None

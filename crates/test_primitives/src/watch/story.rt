@@ -8,7 +8,7 @@ use esync_notes::{Notes, holds};
 use std::process::Abort;
 use std::sync::Wait;
 
-type Two<'a, R> = Watch<u32, u64, &'a Notes<'a, R>, 2, 2>;
+type Two<'a, R> = Watch<u32, u64, &'a Notes<'a, R>, 2>;
 
 /// A watch.
 #[derive(Drop)]
