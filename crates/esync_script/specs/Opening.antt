@@ -84,19 +84,8 @@ module _ {C : Type 0} where
   -- How many requests the primitive has at a time, where n is the language's number. Those of a pipe have rows of bytes,
   -- and there are 16.
   abbrev pub numbers : ℕ → OpeningOf C → ℕ
-  numbers n (Channel c) = n
-  numbers n (Max c) = n
-  numbers n (Min c) = n
-  numbers n Signal = n
-  numbers n (Greedy permits) = n
-  numbers n (Fair c permits) = n
   numbers n (Pipe c) = 16
-  numbers n (PubSub c first h) = n
-  numbers n Once = n
-  numbers n (Lazy v) = n
-  numbers n (Mutex v x) = n
-  numbers n (Watch c value) = n
-  numbers n (Zerocopy c) = n
+  numbers n other = n
 
 -- What line 1 can say, the setting of each primitive that it names, the greatest number of bytes of a line, and how many
 -- requests a primitive has at a time.

@@ -360,17 +360,8 @@ where
     ensures { IfErr result (λ fault. IsJudged (Err fault) → ⊥) }
 {
     let mut is_first = true;
-    for name in V::questions() {
-        if let Some(command) = read_command::<V>(Words::of(name)) {
-            let question = Question {
-                name: *name,
-                request: None,
-            };
-            let reply = reply_of::<V, M>(machine, command)?;
-            if note_question::<V, N>(is_first, question, reply.answer(), notes)? {
-                is_first = false;
-            }
-        }
+    if !V::questions().is_empty() {
+        is_first = note_all::<V, M, N>(machine, notes)?;
     }
     for r in 0..REQS {
         if let Some((name, call)) = V::question_of(r)
@@ -390,6 +381,33 @@ where
         writeln!(notes.output)?;
     }
     Ok(())
+}
+
+// Notes the answers to the questions that name no request. Returns whether none was noted. One copy hears them all,
+// since only the last may change it.
+fn note_all<V, M, N>(machine: &M, notes: &mut Notes<N>) -> Result<bool, Fault>
+where
+    V: Vocabulary,
+    M: Machine<Command = Command<V::Ask, u64, V::Call>> + Copied + Drop,
+    M::Reply: Parts<V::Heard> + Drop,
+    N: Write + Drop,
+    ensures { IfErr result (λ fault. IsJudged (Err fault) → ⊥) }
+{
+    let mut copy = machine.copied().map_err(|_| Fault::OutOfMemory)?;
+    let mut is_first = true;
+    for name in V::questions() {
+        if let Some(command) = read_command::<V>(Words::of(name)) {
+            let question = Question {
+                name: *name,
+                request: None,
+            };
+            let reply = copy.step(command);
+            if note_question::<V, N>(is_first, question, reply.answer(), notes)? {
+                is_first = false;
+            }
+        }
+    }
+    Ok(is_first)
 }
 
 // A question by its name, and the request of which it is asked, if it is asked of one.

@@ -69,7 +69,8 @@ pub trait Vocabulary {
     fn print<W: Write>(heard: &Self::Heard, output: &mut W) -> io::Result<()>
         ensures { OnOk result (Appends (W.contents output.old) (W.contents output.new) (text heard.now)) };
 
-    /// Returns the questions, in these words, that an explanation asks a copy of the machine after each line.
+    /// Returns the questions, in these words, that an explanation asks a copy of the machine after each line, one after
+    /// another. Only the last may change the machine.
     fn questions() -> &'static [&'static str] {
         &[]
     }
