@@ -10,10 +10,6 @@ mod mutexes;
 #[cfg(test)]
 mod philosophers;
 #[cfg(test)]
-mod semaphores;
-#[cfg(test)]
-mod signals;
-#[cfg(test)]
 mod slots;
 #[cfg(test)]
 mod thinkers;

@@ -1,4 +1,4 @@
-//! Tasks that take one mutex, or two.
+//! Tasks that take one mutex, or two: their numbers, and limits. `test_tool` explores systems of mutexes as text.
 
 use crate::schedule;
 use esync_base::waitqueue::TaskId;
@@ -17,8 +17,8 @@ use std::alloc::{AllocError, Global};
 
 type Mutex = MutexRun<(u64, u64), u64, Second, TaskId, 4, 1>;
 
-// A mutex with room for one request.
-type Narrow = MutexRun<(u64, u64), u64, Second, TaskId, 1, 1>;
+// A mutex with room for two requests.
+type Narrow = MutexRun<(u64, u64), u64, Second, TaskId, 2, 1>;
 
 type OneCommand = MutexCommand<(u64, u64), u64, TaskId>;
 
@@ -34,23 +34,24 @@ fn mutex() -> Mutex {
     Requests::new(Guarded::new((0, 0), Second {}))
 }
 
-// So many tasks, each of which locks the mutex and unlocks it so many times, always under its own number.
-fn lockers(alloc: Global, count: usize, times: u8) -> Result<Vec<Vec<OneAct>>, AllocError> {
+// So many tasks, each of which locks the mutex and unlocks it.
+fn lockers(alloc: Global, count: usize) -> Result<Vec<Vec<OneAct>>, AllocError> {
     let mut tasks = Vec::new(alloc);
     for r in 0..count {
-        let mut task = Vec::new(alloc);
-        for _time in 0..times {
-            task.push(Act::Await(r, Lock {}))?;
-            task.push(Act::Call(Command::End(r)))?;
-        }
-        tasks.push(task)?;
+        tasks.push(vec![in alloc; Act::Await(r, Lock {}), Act::Call(Command::End(r))]?)?;
     }
     Ok(tasks)
 }
 
-fn explore_one(alloc: Global, count: usize, times: u8, limit: usize) -> Result<Verdict, NewError> {
-    let tasks = lockers(alloc, count, times)?;
-    explore(alloc, &MUTEX, mutex(), &Plan::in_order(&tasks, &[]), limit)
+fn explore_one(
+    alloc: Global,
+    count: usize,
+    priorities: &[Option<u8>],
+    limit: usize,
+) -> Result<Verdict, NewError> {
+    let tasks = lockers(alloc, count)?;
+    let plan = Plan::in_order(&tasks, priorities);
+    explore(alloc, &MUTEX, mutex(), &plan, limit)
 }
 
 // A task that takes the left mutex first, or the right one.
@@ -75,14 +76,15 @@ fn takers(alloc: Global, orders: &[bool]) -> Result<Vec<Vec<BothAct>>, AllocErro
     Ok(tasks)
 }
 
+// Each task takes both mutexes. The left one has numbers for two of them.
 fn explore_both(
     alloc: Global,
     orders: &[bool],
     priorities: &[Option<u8>],
     limit: usize,
 ) -> Result<Verdict, NewError> {
-    let both: Pair<Mutex, Mutex> = Pair {
-        left: mutex(),
+    let both: Pair<Narrow, Mutex> = Pair {
+        left: Requests::new(Guarded::new((0, 0), Second {})),
         right: mutex(),
     };
     let compares = ComparesBoth {
@@ -92,21 +94,6 @@ fn explore_both(
     let tasks = takers(alloc, orders)?;
     let plan = Plan::in_order(&tasks, priorities);
     explore_pair(alloc, &compares, both, &plan, limit)
-}
-
-// Two tasks, where the left mutex has no number for the second one's request.
-fn explore_narrow(alloc: Global) -> Result<Verdict, NewError> {
-    let both: Pair<Narrow, Mutex> = Pair {
-        left: Requests::new(Guarded::new((0, 0), Second {})),
-        right: mutex(),
-    };
-    let compares = ComparesBoth {
-        left: MUTEX,
-        right: MUTEX,
-    };
-    let tasks = takers(alloc, &[true, false])?;
-    let plan = Plan::in_order(&tasks, &[]);
-    explore_pair(alloc, &compares, both, &plan, 1000)
 }
 
 // A task that locks the mutex under one number, and again while its guard stays there.
@@ -124,21 +111,18 @@ fn lock_under_one(alloc: Global) -> Result<Vec<Vec<OneAct>>, AllocError> {
 
 #[test]
 fn no_task_has_ended(rt: HostRuntime) -> Result<(), NewError> {
-    assert!(&rt; explore_one(rt.alloc(), 0, 1, 1)? == Verdict::AllEnd(0));
+    assert!(&rt; explore_one(rt.alloc(), 0, &[], 1)? == Verdict::AllEnd(0));
     Ok(())
 }
 
+// (a task without a priority runs on a thread of its own)
 #[test]
 fn two_tasks_of_one_mutex_end(rt: HostRuntime) -> Result<(), NewError> {
-    assert!(&rt; explore_one(rt.alloc(), 2, 1, 11)? == Verdict::TooMany(11));
-    assert!(&rt; explore_one(rt.alloc(), 2, 1, 12)? == Verdict::AllEnd(5));
-    Ok(())
-}
-
-#[test]
-fn two_tasks_use_their_numbers_again(rt: HostRuntime) -> Result<(), NewError> {
-    assert!(&rt; explore_one(rt.alloc(), 2, 2, 40)? == Verdict::TooMany(40));
-    assert!(&rt; explore_one(rt.alloc(), 2, 2, 41)? == Verdict::AllEnd(11));
+    let threads = [None, None];
+    assert!(&rt; explore_one(rt.alloc(), 2, &[], 11)? == Verdict::TooMany(11));
+    assert!(&rt; explore_one(rt.alloc(), 2, &[], 12)? == Verdict::AllEnd(5));
+    assert!(&rt; explore_one(rt.alloc(), 2, &threads, 11)? == Verdict::TooMany(11));
+    assert!(&rt; explore_one(rt.alloc(), 2, &threads, 12)? == Verdict::AllEnd(5));
     Ok(())
 }
 
@@ -157,7 +141,7 @@ impl Budget for Counted {
 }
 
 fn explore_counted(alloc: Global, counted: &mut Counted) -> Result<Verdict, NewError> {
-    let tasks = lockers(alloc, 2, 1)?;
+    let tasks = lockers(alloc, 2)?;
     explore(
         alloc,
         &MUTEX,
@@ -182,56 +166,6 @@ fn a_budget_hears_how_many_states_there_are(rt: HostRuntime) -> Result<(), NewEr
     Ok(())
 }
 
-#[test]
-fn three_tasks_of_one_mutex_may_displace_one_another(rt: HostRuntime) -> Result<(), NewError> {
-    assert!(&rt; explore_one(rt.alloc(), 3, 1, 55)? == Verdict::TooMany(55));
-    assert!(&rt; explore_one(rt.alloc(), 3, 1, 56)? == Verdict::AllCanEnd);
-    Ok(())
-}
-
-#[test]
-fn one_order_ends(rt: HostRuntime) -> Result<(), NewError> {
-    let two = [true, true];
-    assert!(&rt; explore_both(rt.alloc(), &two, &[], 23)? == Verdict::TooMany(23));
-    assert!(&rt; explore_both(rt.alloc(), &two, &[], 24)? == Verdict::AllEnd(9));
-    Ok(())
-}
-
-#[test]
-fn opposite_orders_stall(rt: HostRuntime) -> Result<(), NewError> {
-    let orders = [true, false];
-    let stalls = Verdict::Stalls(schedule(rt.alloc(), &[0, 1, 0, 1])?);
-    assert!(&rt; explore_both(rt.alloc(), &orders, &[], 1000)? == stalls);
-    assert!(&rt; explore_both(rt.alloc(), &orders, &[None, None], 1000)? == stalls);
-    Ok(())
-}
-
-// Neither waits while it has one mutex, so neither stops there.
-#[test]
-fn opposite_orders_on_one_executor_end(rt: HostRuntime) -> Result<(), NewError> {
-    let (orders, one) = ([true, false], [Some(0), Some(0)]);
-    assert!(&rt; explore_both(rt.alloc(), &orders, &one, 15)? == Verdict::TooMany(15));
-    assert!(&rt; explore_both(rt.alloc(), &orders, &one, 16)? == Verdict::AllEnd(8));
-    Ok(())
-}
-
-#[test]
-fn opposite_orders_on_an_executor_that_preempts_stall(rt: HostRuntime) -> Result<(), NewError> {
-    let stalls = Verdict::Stalls(schedule(rt.alloc(), &[0, 1, 1, 0])?);
-    let (orders, two) = ([true, false], [Some(3), Some(7)]);
-    assert!(&rt; explore_both(rt.alloc(), &orders, &two, 1000)? == stalls);
-    Ok(())
-}
-
-// The thread takes turns between those of the task, and the task between those of the thread.
-#[test]
-fn opposite_orders_on_an_executor_and_a_thread_stall(rt: HostRuntime) -> Result<(), NewError> {
-    let stalls = Verdict::Stalls(schedule(rt.alloc(), &[0, 1, 0, 1])?);
-    let (orders, mixed) = ([true, false], [Some(0), None]);
-    assert!(&rt; explore_both(rt.alloc(), &orders, &mixed, 1000)? == stalls);
-    Ok(())
-}
-
 // Its second start is answered NoSuch, so it ends.
 #[test]
 fn a_number_under_which_a_guard_stays_starts_nothing(rt: HostRuntime) -> Result<(), NewError> {
@@ -253,6 +187,40 @@ fn a_number_that_two_tasks_use_is_refused(rt: HostRuntime) -> Result<(), NewErro
 
 #[test]
 fn a_number_that_one_part_lacks_is_refused(rt: HostRuntime) -> Result<(), NewError> {
-    assert!(&rt; matches!(explore_narrow(rt.alloc()), Err(NewError::NoSuch)));
+    let refused = explore_both(rt.alloc(), &[true, true, true], &[], 1000);
+    assert!(&rt; matches!(refused, Err(NewError::NoSuch)));
+    Ok(())
+}
+
+#[test]
+fn one_order_of_a_pair_ends(rt: HostRuntime) -> Result<(), NewError> {
+    assert!(&rt; explore_both(rt.alloc(), &[true, true], &[], 23)? == Verdict::TooMany(23));
+    assert!(&rt; explore_both(rt.alloc(), &[true, true], &[], 24)? == Verdict::AllEnd(9));
+    Ok(())
+}
+
+#[test]
+fn opposite_orders_of_a_pair_stall(rt: HostRuntime) -> Result<(), NewError> {
+    let (orders, threads) = ([true, false], [None, None]);
+    let stalls = Verdict::Stalls(schedule(rt.alloc(), &[0, 1, 0, 1])?);
+    assert!(&rt; explore_both(rt.alloc(), &orders, &[], 1000)? == stalls);
+    assert!(&rt; explore_both(rt.alloc(), &orders, &threads, 1000)? == stalls);
+    Ok(())
+}
+
+// The thread takes turns between those of the task, and the task between those of the thread.
+#[test]
+fn opposite_orders_on_an_executor_and_a_thread_stall(rt: HostRuntime) -> Result<(), NewError> {
+    let (orders, mixed) = ([true, false], [Some(0), None]);
+    let stalls = Verdict::Stalls(schedule(rt.alloc(), &[0, 1, 0, 1])?);
+    assert!(&rt; explore_both(rt.alloc(), &orders, &mixed, 1000)? == stalls);
+    Ok(())
+}
+
+#[test]
+fn opposite_orders_on_an_executor_that_preempts_stall(rt: HostRuntime) -> Result<(), NewError> {
+    let (orders, two) = ([true, false], [Some(3), Some(7)]);
+    let stalls = Verdict::Stalls(schedule(rt.alloc(), &[0, 1, 1, 0])?);
+    assert!(&rt; explore_both(rt.alloc(), &orders, &two, 1000)? == stalls);
     Ok(())
 }

@@ -1,6 +1,5 @@
-//! Three philosophers, who share three forks: a row of mutexes.
+//! Numbers of a row of mutexes. `test_tool` explores philosophers, who share such a row, as text.
 
-use crate::schedule;
 use esync_base::waitqueue::TaskId;
 use esync_compared::mutex::MutexStates;
 use esync_guards::mutex::Second;
@@ -34,30 +33,6 @@ fn put_down(philosopher: u8, fork: u8) -> ForkAct {
     })
 }
 
-// Takes the one fork and then the other, and puts both down.
-fn dines(
-    alloc: Global,
-    philosopher: u8,
-    first: u8,
-    second: u8,
-) -> Result<Vec<ForkAct>, AllocError> {
-    Ok(vec![in alloc;
-        take(philosopher, first),
-        take(philosopher, second),
-        put_down(philosopher, second),
-        put_down(philosopher, first),
-    ]?)
-}
-
-// The last of the philosophers takes these forks, in this order.
-fn table(alloc: Global, first: u8, second: u8) -> Result<Vec<Vec<ForkAct>>, AllocError> {
-    Ok(vec![in alloc;
-        dines(alloc, 0, 0, 1)?,
-        dines(alloc, 1, 1, 2)?,
-        dines(alloc, 2, first, second)?,
-    ]?)
-}
-
 fn forks(alloc: Global) -> Result<Several<Fork, 3>, AllocError> {
     let others = vec![in alloc; fork(), fork()]?;
     Ok(Several {
@@ -80,22 +55,6 @@ fn explore_table(alloc: Global, tasks: &[Vec<ForkAct>], limit: usize) -> Result<
 fn alone(alloc: Global, act: ForkAct) -> Result<Vec<Vec<ForkAct>>, AllocError> {
     let task = vec![in alloc; act]?;
     Ok(vec![in alloc; task]?)
-}
-
-#[test]
-fn each_with_one_fork_in_hand_they_stall(rt: HostRuntime) -> Result<(), NewError> {
-    let tasks = table(rt.alloc(), 2, 0)?;
-    let schedule = schedule(rt.alloc(), &[0, 1, 0, 2, 1, 2])?;
-    assert!(&rt; explore_table(rt.alloc(), &tasks, 1000)? == Verdict::Stalls(schedule));
-    Ok(())
-}
-
-#[test]
-fn if_one_takes_the_other_fork_first_they_end(rt: HostRuntime) -> Result<(), NewError> {
-    let tasks = table(rt.alloc(), 0, 2)?;
-    assert!(&rt; explore_table(rt.alloc(), &tasks, 151)? == Verdict::TooMany(151));
-    assert!(&rt; explore_table(rt.alloc(), &tasks, 152)? == Verdict::AllEnd(15));
-    Ok(())
 }
 
 #[test]
