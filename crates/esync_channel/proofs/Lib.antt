@@ -1,3 +1,2 @@
 mod Kept
 mod Order
-pub mod Lives

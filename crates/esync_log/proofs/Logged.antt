@@ -49,13 +49,6 @@ live_test ps (suc s) e = (let t : nat_lt 0 (suc s) ≡ true = grind (arith, nat_
 pub live_number : (ps : List (Option ℕ)) (s : ℕ) → s ≡ count_by is_some ps → list_any is_some ps ≡ true → 0 < s
 live_number ps s e h = omega (arith, e, live_counted ps h)
 
--- what the test for room tells
-pub room_tells : (n cap : ℕ) → false ≡ not (nat_lt n cap) → n < cap
-room_tells n cap e = elim (true_or_false (nat_lt n cap)) [
-  | inl t ↦ grind (arith, nat_tests)
-  | inr t ↦ absurd (let k : false ≡ true = rw t at e in cc)
-]
-
 -- a list that has a first item
 pub has_first : {T : Type 0} (xs : List T) → slice_get xs 0 ≡ None → 0 < length xs → ⊥
 has_first [] e l = omega (arith, l)
@@ -369,33 +362,3 @@ module _ {T : Type 0} (cap subs : ℕ) where
 
         pub shared_more : is_read p (slice_set ps i None) ≡ false → 1 < slice_index cs (p - (next - length ms))
         shared_more t = (let e : (slice_index cs (p - (next - length ms)) == 1) ≡ false = last_test ∙ t in let z : 0 < slice_index cs (p - (next - length ms)) = read_some in grind (arith, nat_tests))
-
--- what is trimmed is no longer than before
-pub length_trimmed : {T : Type 0} (n : ℕ) (ps : List (Option ℕ)) (ms : List T) → length (trimmed n ps ms) ≤ length ms
-length_trimmed n ps [] = omega arith
-length_trimmed n ps (m ∷ ms) = elim (true_or_false (is_read n ps)) [
-  | inl t ↦ rw t (omega (arith, length_trimmed (suc n) ps ms))
-  | inr t ↦ rw t (omega arith)
-]
-
--- a read leaves no more messages than there were
-pub length_read : {T : Type 0} (IsClone : T → T → Type 0) (place : ℕ) (l l2 : Log T) (answer : Option (WaitResult T)) → Reads IsClone place l answer l2 → length l2.held ≤ length l.held
-length_read IsClone place l l2 None r = rw r.1 (omega arith)
-length_read IsClone place l l2 (Some (Lagged k)) r = rw r.2 (omega arith)
-length_read IsClone place l l2 (Some (Message given)) r = rw r.after (length_trimmed (oldest l) (moved place (position place l + 1) l).positions l.held)
-
-pub length_read_on : {T : Type 0} (IsClone : T → T → Type 0) (place : ℕ) (l l2 : Log T) (answer : Option T) → ReadsOn IsClone place l answer l2 → length l2.held ≤ length l.held
-length_read_on IsClone place l l2 answer r = elim (true_or_false (lags place l)) [
-  | inl t ↦ length_read IsClone place (moved place (oldest l) l) l2 (found answer) (rw t at r)
-  | inr t ↦ length_read IsClone place l l2 (found answer) (rw t at r)
-]
-
--- nor does a read that may be refused
-module _ {T : Type 0} (IsClone : T → T → Type 0) (place : ℕ) (l l2 : Log T) where
-  pub length_tried : (r : Result (Option (WaitResult T)) AllocError) → IfOk r (λ answer. Reads IsClone place l answer l2) → OnErr r (l2 ≡ l) → length l2.held ≤ length l.held
-  length_tried (Ok answer) ok err = length_read IsClone place l l2 answer ok
-  length_tried (Err e) ok err = rw err (omega arith)
-
-  pub length_tried_on : (r : Result (Option T) AllocError) → IfOk r (λ answer. ReadsOn IsClone place l answer l2) → OnErr r (l2 ≡ l) → length l2.held ≤ length l.held
-  length_tried_on (Ok answer) ok err = length_read_on IsClone place l l2 answer ok
-  length_tried_on (Err e) ok err = rw err (omega arith)

@@ -1,22 +1,21 @@
 //! Messages with consecutive numbers, and how far each subscriber has read.
-ghost use Rattle.std.specs.Prelude.{◌≡◌, ℕ, true, false, not, nat_lt, ◌+◌, ◌-◌, ◌<◌, ◌≤◌, ◌↔◌, [], Some, None, length, is_some, IsTrue, replicate, slice_get, slice_set, slice_index_or, IfOk, OnOk, OnErr, IfSome, IfNone};
-ghost use Rattle.std.specs.List.{list_all};
+ghost use Rattle.std.specs.Prelude.{◌≡◌, true, false, ◌+◌, ◌-◌, ◌<◌, ◌≤◌, [], Some, None, length, IsTrue, replicate, slice_get, slice_index_or, IfOk, OnOk, OnErr};
 ghost use Rattle.std.specs.Option.{option_copied};
-ghost use Rattle.esync_log.specs.Counts.{readers_of};
-ghost use Rattle.esync_log.specs.Log.{IsLeastFree, oldest, has_subscribers, last_number, published, with_room, is_last, settled, moved, is_live, position, left, cleared, Joins, Publishes, PublishesAtOnce, ClonesAt, MayFailAt, Takes, IsRefused, Reads, ReadsOn, caught, found};
+ghost use Rattle.esync_log.specs.Log.{oldest, has_subscribers, last_number, published, with_room, is_last, settled, moved, is_live, position, ClonesAt, MayFailAt, Takes, IsRefused, Reads, caught, found};
 
-use esync_base::extent::{Extent, Fixed};
-use held::Held;
-pub use limited::LimitedLog;
+use esync_base::extent::{Chosen, Fixed};
+use esync_base::limited::Limit;
+pub use held::{Held, Holds};
+pub use positions::{Places, Positions};
 use std::alloc::AllocError;
 use std::fmt::{self, Debug};
-use std::marker::Model;
+use std::marker::{Model, PhantomData};
 pub use store::{FixedLog, LogStore};
 use thiserror::Error;
 
 mod held;
 mod kept;
-mod limited;
+mod positions;
 mod store;
 
 /// Why a message was not published. The message is in the error.
@@ -46,191 +45,92 @@ pub enum WaitResult<T> {
     Message(T),
 }
 
-// The number that each subscriber reads next, at its place. `E` says how many places there are, for which the row has
-// `ROOM`.
-#[derive_where(Debug; E: fmt::Debug)]
-#[derive(Drop)]
-struct Positions<E: Extent, const ROOM: usize> {
-    places: E,
-    row: [Option<u64>; ROOM],
-}
-
-impl<E: Extent, const ROOM: usize> Model for Positions<E, ROOM> {
-    ghost use Rattle.std.specs.Prelude.{ℕ, List, Option, length, take, ◌≤◌};
-    ghost use Rattle.std.specs.Coded.{coded_ℕ, coded_list, coded_option};
-
-    ghost Value = { List (Option ℕ) };
-
-    ghost coded = { coded_list (coded_option coded_ℕ) };
-
-    ghost view = { λ a. take E.extent a.row };
-
-    ghost invariant = { λ a. E.extent ≤ length a.row };
-}
-
-impl<E: Extent, const ROOM: usize> Positions<E, ROOM> {
-    fn new(places: E) -> Self
-        requires { E.extent ≤ ROOM }
-        ensures { result ≡ replicate E.extent None }
-    {
-        Positions {
-            places,
-            row: [None; ROOM],
-        }
-    }
-
-    fn as_slice(&self) -> &[Option<u64>]
-        ensures value { result.now ≡ self.now }
-        ensures room { E.extent ≤ ROOM }
-    {
-        &self.row[..self.places.get()]
-    }
-
-    fn get(&self, place: usize) -> Option<u64>
-        ensures { result ≡ slice_index_or self.now place None }
-    {
-        match self.as_slice().get(place) {
-            Some(position) => *position,
-            None => None,
-        }
-    }
-
-    fn put(&mut self, place: usize, position: Option<u64>)
-        requires { place < E.extent }
-        ensures { self.new ≡ slice_set self.old place position }
-    {
-        let row: &mut [Option<u64>] = &mut self.row;
-        row[place] = position;
-    }
-
-    // The least place without a subscriber.
-    fn free_place(&self) -> Option<usize>
-        ensures found { IfSome result (λ place. IsLeastFree place self.now) }
-        ensures none { IfNone result (list_all is_some self.now ≡ true) }
-        ensures room { E.extent ≤ ROOM }
-    {
-        let row = self.as_slice();
-        for place in 0..row.len() {
-            if row[place].is_none() {
-                return Some(place);
-            }
-        }
-        None
-    }
-}
-
 /// At most `CAP` messages, and at most `SUBS` subscribers, known by their places.
-pub type Log<T, const CAP: usize, const SUBS: usize> = LogOver<T, Fixed<SUBS>, CAP, SUBS>;
+pub type Log<T, const CAP: usize, const SUBS: usize> = LogOver<
+    Held<T, Fixed<CAP>, CAP>,
+    Positions<Fixed<SUBS>, SUBS>,
+>;
 
-/// At most `CAP` messages, and subscribers, known by their places. `E` says how many places there are, for which the
-/// log has `ROOM`.
-#[derive_where(Debug; T: fmt::Debug + Drop, E: fmt::Debug)]
+/// A log whose capacity and number of places are chosen when it is made: `B.limit` messages, even where `CAP` is greater,
+/// and `S.limit` places for subscribers, even where `ROOM` is greater.
+pub type LimitedLog<T, B, S, const CAP: usize, const ROOM: usize> = LogOver<
+    Held<T, Chosen<B>, CAP>,
+    Positions<Chosen<S>, ROOM>,
+>;
+
+/// Messages in any ring, and subscribers, known by their places in any row.
+#[derive_where(Debug; H: fmt::Debug, P: fmt::Debug)]
 #[derive(Drop)]
-pub struct LogOver<T, E: Extent, const CAP: usize, const ROOM: usize> {
+pub struct LogOver<H: Holds, P: Places> {
     next: u64,
     subscribers: usize,
-    positions: Positions<E, ROOM>,
-    held: Held<T, CAP>,
+    // Names what a message borrows, which the checker looks for in the type of a field.
+    #[derive_where(skip)]
+    message: PhantomData<H::Message>,
+    positions: P,
+    held: H,
 }
 
-impl<T, E: Extent, const CAP: usize, const ROOM: usize> Model for LogOver<T, E, CAP, ROOM> {
+impl<H: Holds, P: Places> Model for LogOver<H, P> {
     ghost use Rattle.esync_log.specs.Log.{Log as Logged, log_code};
     ghost use Rattle.esync_log.specs.Counts.{IsLog};
 
-    ghost Value = { Logged T };
+    ghost Value = { Logged H.Message };
 
-    ghost coded = { log_code T.code };
+    ghost coded = { log_code H.Message.code };
 
-    ghost view = { λ a. record { held = a.held.messages; next = a.next; positions = a.positions } };
+    ghost view = { λ a. record { held = (H.held a.held).messages; next = a.next; positions = P.numbers a.positions } };
 
-    ghost invariant = { λ a. IsLog CAP E.extent a.held.messages a.held.counts a.next a.positions a.subscribers };
+    ghost invariant = { λ a. IsLog H.capacity P.extent (H.held a.held).messages (H.held a.held).counts a.next (P.numbers a.positions) a.subscribers };
 }
 
-impl<T: Drop, const CAP: usize, const SUBS: usize> Log<T, CAP, SUBS> {
-    /// Returns a log without messages and subscribers. Its first message gets the number `next`.
-    pub fn new_at(next: u64) -> Self
-        requires { 1 ≤ CAP }
-        ensures { result ≡ record { held = []; next = next; positions = replicate SUBS None } }
+impl<T: Drop, B: Limit, S: Limit, const CAP: usize, const ROOM: usize> LimitedLog<
+    T,
+    B,
+    S,
+    CAP,
+    ROOM,
+> {
+    /// Returns a log without messages and subscribers. Its first message gets the number `next`. Its capacity is the
+    /// number that `B` stands for, from 1 to `CAP`, and the number of its places the one that `S` stands for, at most
+    /// `ROOM`.
+    pub fn new_at(capacity: usize, places: usize, next: u64) -> Self
+        requires capacity { capacity ≡ B.limit }
+        requires some { 1 ≤ capacity }
+        requires at_most { capacity ≤ CAP }
+        requires places { places ≡ S.limit }
+        requires room { places ≤ ROOM }
+        ensures { result ≡ record { held = []; next = next; positions = replicate S.limit None } }
     {
-        LogOver::over(Fixed {}, next)
+        let held = Held::new(Chosen::new(capacity));
+        let positions = Positions::new(Chosen::new(places));
+        LogOver::over(held, positions, next)
     }
 }
 
-impl<T: Drop, E: Extent, const CAP: usize, const ROOM: usize> LogOver<T, E, CAP, ROOM> {
-    /// Returns a log with so many places, and without messages and subscribers. Its first message gets the number
-    /// `next`.
-    pub fn over(places: E, next: u64) -> Self
-        requires messages { 1 ≤ CAP }
-        requires places { E.extent ≤ ROOM }
-        ensures { result ≡ record { held = []; next = next; positions = replicate E.extent None } }
+impl<H: Holds, P: Places> LogOver<H, P>
+where
+    H::Message: Drop,
+{
+    /// Returns a log of a ring and a row that are empty. Its first message gets the number `next`.
+    pub fn over(held: H, positions: P, next: u64) -> Self
+        requires messages { 1 ≤ H.capacity }
+        requires held { H.held held ≡ record { messages = []; counts = [] } }
+        requires positions { P.numbers positions ≡ replicate P.extent None }
+        ensures { result ≡ record { held = []; next = next; positions = replicate P.extent None } }
     {
         LogOver {
-            held: Held::new(),
+            held,
             next,
-            positions: Positions::new(places),
+            message: PhantomData,
+            positions,
             subscribers: 0,
-        }
-    }
-
-    /// Returns how many messages are held.
-    pub fn len(&self) -> usize
-        ensures value { result ≡ length self.now.held }
-        ensures within { result ≤ CAP }
-        ensures numbered { length self.now.held ≤ self.now.next }
-    {
-        self.held.len()
-    }
-
-    /// Returns whether no message is held.
-    pub fn is_empty(&self) -> bool
-        ensures { IsTrue result ↔ (self.now.held ≡ []) }
-    {
-        self.held.is_empty()
-    }
-
-    /// Returns whether as many messages are held as there is room for.
-    pub fn is_full(&self) -> bool
-        ensures answer { result ≡ not (nat_lt (length self.now.held) CAP) }
-        ensures within { length self.now.held ≤ CAP }
-    {
-        self.held.is_full()
-    }
-
-    /// Returns whether a subscriber is at the place.
-    pub fn is_live(&self, place: usize) -> bool
-        ensures { result ≡ is_live place self.now }
-    {
-        self.positions.get(place).is_some()
-    }
-
-    /// Returns how many messages were published that the subscriber at the place hasn't read, whether held or not.
-    pub fn available(&self, place: usize) -> u64
-        requires { IsTrue (is_live place self.now) }
-        ensures { result ≡ self.now.next - position place self.now }
-    {
-        match self.positions.get(place) {
-            Some(position) => self.next - position,
-            None => 0,
-        }
-    }
-
-    /// Returns how many subscribers have still to read message `index`, counted from the oldest that is held. Returns
-    /// `None` if no more than `index` messages are held.
-    pub fn reader_count(&self, index: usize) -> Option<usize>
-        ensures held { index < length self.now.held → result ≡ Some (readers_of (oldest self.now + index) self.now.positions) }
-        ensures none { length self.now.held ≤ index → result ≡ None }
-    {
-        let len = self.held.len();
-        if index < len {
-            Some(self.held.count(index))
-        } else {
-            None
         }
     }
 
     /// Returns message `index`, counted from the oldest that is held. Returns `None` if no more than `index` messages are
     /// held.
-    pub fn message(&self, index: usize) -> Option<&T>
+    pub fn message(&self, index: usize) -> Option<&H::Message>
         ensures { option_copied result ≡ slice_get self.now.held index }
     {
         if index < self.held.len() {
@@ -261,20 +161,13 @@ impl<T: Drop, E: Extent, const CAP: usize, const ROOM: usize> LogOver<T, E, CAP,
         self.next - self.held.len() as u64
     }
 
-    // The number of the next message.
-    fn next(&self) -> u64
-        ensures { result ≡ self.now.next }
-    {
-        self.next
-    }
-
     // The number that the subscriber at this place reads next.
     fn position(&self, place: usize) -> u64
         requires { IsTrue (is_live place self.now) }
         ensures value { result ≡ position place self.now }
         ensures live { slice_index_or self.now.positions place None ≡ Some result }
         ensures within { result ≤ self.now.next }
-        ensures place { place < E.extent }
+        ensures place { place < P.extent }
     {
         let Some(position) = self.positions.get(place) else {
             unreachable!()
@@ -305,13 +198,6 @@ impl<T: Drop, E: Extent, const CAP: usize, const ROOM: usize> LogOver<T, E, CAP,
         }
     }
 
-    /// Returns whether there are subscribers.
-    pub fn has_subscribers(&self) -> bool
-        ensures { result ≡ has_subscribers self.now }
-    {
-        self.subscribers > 0
-    }
-
     // How many held messages are below the number: none if a subscriber at the number lags.
     fn first_unread(&self, number: u64) -> usize
         ensures { result ≡ number - oldest self.now }
@@ -319,47 +205,9 @@ impl<T: Drop, E: Extent, const CAP: usize, const ROOM: usize> LogOver<T, E, CAP,
         number.saturating_sub(self.oldest()) as usize
     }
 
-    /// Adds a subscriber at the least free place, and returns the place. The subscriber reads what is published from
-    /// now on. Returns `None` if all places are taken.
-    pub fn join(&mut self) -> Option<usize>
-        ensures { Joins self.old result self.new }
-    {
-        let Some(place) = self.positions.free_place() else {
-            return None;
-        };
-        self.positions.put(place, Some(self.next));
-        self.subscribers += 1;
-        Some(place)
-    }
-
-    /// Removes the subscriber at the place. The messages in front that no subscriber has still to read leave with it.
-    pub fn leave(&mut self, place: usize)
-        requires { IsTrue (is_live place self.old) }
-        ensures { self.new ≡ left place self.old }
-    {
-        let Some(position) = self.positions.get(place) else {
-            unreachable!()
-        };
-        let from = self.first_unread(position);
-        self.positions.put(place, None);
-        self.subscribers -= 1;
-        self.held.lower_from(from);
-        self.held.free();
-    }
-
-    // Returns the capacity, which isn't 0, and which the messages don't exceed.
-    fn most(&self) -> usize
-        ensures value { result ≡ CAP }
-        ensures some { 1 ≤ CAP }
-        ensures held { length self.now.held ≤ CAP }
-    {
-        let _ = self.held.len();
-        CAP
-    }
-
     // Appends a message for all subscribers.
-    fn hold(&mut self, message: T)
-        requires room { length self.old.held < CAP }
+    fn hold(&mut self, message: H::Message)
+        requires room { length self.old.held < H.capacity }
         requires number { self.old.next < last_number }
         requires live { has_subscribers self.old ≡ true }
         ensures { self.new ≡ published message self.old }
@@ -367,81 +215,22 @@ impl<T: Drop, E: Extent, const CAP: usize, const ROOM: usize> LogOver<T, E, CAP,
         self.held.push(message, self.subscribers);
         self.next += 1;
     }
+}
 
-    /// Publishes a message for all subscribers. Without subscribers the message is dropped. After an error nothing has
-    /// changed, and the message is in the error.
-    pub fn publish(&mut self, message: T) -> Result<(), TryPublishError<T>>
-        ensures { Publishes CAP message self.old result self.new }
+impl<H: Holds, P: Places> LogOver<H, P>
+where
+    H::Message: Clone,
+{
+    // Drops the oldest message if the log is full.
+    fn make_room(&mut self)
+        ensures state { self.new ≡ with_room H.capacity self.old }
+        ensures room { length self.new.held < H.capacity }
     {
-        self.publish_within(self.most(), message)
-    }
-
-    // Publishes a message in a log that holds no more messages than `most`.
-    fn publish_within(&mut self, most: usize, message: T) -> Result<(), TryPublishError<T>>
-        requires held { length self.old.held ≤ most }
-        requires room { most ≤ CAP }
-        ensures { Publishes most message self.old result self.new }
-    {
-        if !self.has_subscribers() {
-            return Ok(());
-        }
-        if self.len() == most {
-            return Err(TryPublishError::Full(message));
-        }
-        if self.next == u64::MAX {
-            return Err(TryPublishError::Exhausted(message));
-        }
-        self.hold(message);
-        Ok(())
-    }
-
-    // Drops the oldest message if as many as `most` are held.
-    fn make_room(&mut self, most: usize)
-        requires some { 1 ≤ most }
-        requires held { length self.old.held ≤ most }
-        ensures state { self.new ≡ with_room most self.old }
-        ensures room { length self.new.held < most }
-    {
-        if self.len() == most {
+        if self.is_full() {
             self.held.pop();
         }
     }
 
-    /// Publishes a message at once: a full log drops its oldest message. Without subscribers the message is dropped.
-    /// After an error nothing has changed, and the message is in the error.
-    pub fn publish_immediate(&mut self, message: T) -> Result<(), Exhausted<T>>
-        ensures { PublishesAtOnce CAP message self.old result self.new }
-    {
-        self.publish_immediate_within(self.most(), message)
-    }
-
-    // Publishes a message at once in a log that holds no more messages than `most`.
-    fn publish_immediate_within(&mut self, most: usize, message: T) -> Result<(), Exhausted<T>>
-        requires some { 1 ≤ most }
-        requires held { length self.old.held ≤ most }
-        requires room { most ≤ CAP }
-        ensures { PublishesAtOnce most message self.old result self.new }
-    {
-        if !self.has_subscribers() {
-            return Ok(());
-        }
-        if self.next == u64::MAX {
-            return Err(Exhausted(message));
-        }
-        self.make_room(most);
-        self.hold(message);
-        Ok(())
-    }
-
-    /// Drops all messages. A subscriber that hadn't read them lags.
-    pub fn clear(&mut self)
-        ensures { self.new ≡ cleared self.old }
-    {
-        self.held.clear();
-    }
-}
-
-impl<T: Clone, E: Extent, const CAP: usize, const ROOM: usize> LogOver<T, E, CAP, ROOM> {
     // Whether only the subscriber at the place has still to read the message at the position.
     fn is_last(&self, place: usize, position: u64) -> bool
         requires live { slice_index_or self.now.positions place None ≡ Some position }
@@ -453,7 +242,7 @@ impl<T: Clone, E: Extent, const CAP: usize, const ROOM: usize> LogOver<T, E, CAP
     }
 
     // Takes the message at the position, which is the oldest, for its last reader.
-    fn take_last(&mut self, place: usize, position: u64) -> T
+    fn take_last(&mut self, place: usize, position: u64) -> H::Message
         requires live { slice_index_or self.old.positions place None ≡ Some position }
         requires from { oldest self.old ≤ position }
         requires held { position < self.old.next }
@@ -469,14 +258,14 @@ impl<T: Clone, E: Extent, const CAP: usize, const ROOM: usize> LogOver<T, E, CAP
     }
 
     // Clones the message at the position for the subscriber at the place. The message stays for its other readers.
-    fn take_clone(&mut self, place: usize, position: u64) -> Result<T, AllocError>
+    fn take_clone(&mut self, place: usize, position: u64) -> Result<H::Message, AllocError>
         requires live { slice_index_or self.old.positions place None ≡ Some position }
         requires from { oldest self.old ≤ position }
         requires held { position < self.old.next }
         requires shared { is_last place position self.old ≡ false }
-        ensures ok { IfOk result (λ given. ClonesAt T.is_clone (position - oldest self.old) self.old.held given) }
+        ensures ok { IfOk result (λ given. ClonesAt H.Message.is_clone (position - oldest self.old) self.old.held given) }
         ensures state { OnOk result (self.new ≡ settled (moved place (position + 1) self.old)) }
-        ensures refused { OnErr result (MayFailAt T.is_infallible (position - oldest self.old) self.old.held) }
+        ensures refused { OnErr result (MayFailAt H.Message.is_infallible (position - oldest self.old) self.old.held) }
         ensures err { OnErr result (self.new ≡ self.old) }
     {
         let index = (position - self.oldest()) as usize;
@@ -487,12 +276,12 @@ impl<T: Clone, E: Extent, const CAP: usize, const ROOM: usize> LogOver<T, E, CAP
     }
 
     // Reads the message at the position of the subscriber at this place.
-    fn take(&mut self, place: usize, position: u64) -> Result<T, AllocError>
+    fn take(&mut self, place: usize, position: u64) -> Result<H::Message, AllocError>
         requires live { slice_index_or self.old.positions place None ≡ Some position }
         requires from { oldest self.old ≤ position }
         requires held { position < self.old.next }
-        ensures ok { IfOk result (λ given. Takes T.is_clone place position self.old given self.new) }
-        ensures refused { OnErr result (IsRefused T.is_infallible place position self.old) }
+        ensures ok { IfOk result (λ given. Takes H.Message.is_clone place position self.old given self.new) }
+        ensures refused { OnErr result (IsRefused H.Message.is_infallible place position self.old) }
         ensures err { OnErr result (self.new ≡ self.old) }
     {
         if self.is_last(place, position) {
@@ -503,30 +292,125 @@ impl<T: Clone, E: Extent, const CAP: usize, const ROOM: usize> LogOver<T, E, CAP
     }
 
     // Reads for the subscriber at the place, which doesn't lag.
-    fn take_next(&mut self, place: usize) -> Result<Option<T>, AllocError>
+    fn take_next(&mut self, place: usize) -> Result<Option<H::Message>, AllocError>
         requires live { IsTrue (is_live place self.old) }
         requires from { oldest self.old ≤ position place self.old }
-        ensures ok { IfOk result (λ answer. Reads T.is_clone place self.old (found answer) self.new) }
-        ensures refused { OnErr result (IsRefused T.is_infallible place (position place self.old) self.old) }
+        ensures ok { IfOk result (λ answer. Reads H.Message.is_clone place self.old (found answer) self.new) }
+        ensures refused { OnErr result (IsRefused H.Message.is_infallible place (position place self.old) self.old) }
         ensures err { OnErr result (self.new ≡ self.old) }
     {
         let position = self.position(place);
-        if position == self.next() {
+        if position == self.next_number() {
             return Ok(None);
         }
         let message = self.take(place, position)?;
         Ok(Some(message))
     }
+}
 
-    /// Reads for the subscriber at the place, and returns its next message or how many it missed. Returns `None` if it
-    /// has read all. After a refused clone nothing has changed.
-    pub fn read(&mut self, place: usize) -> Result<Option<WaitResult<T>>, AllocError>
-        requires { IsTrue (is_live place self.old) }
-        ensures ok { IfOk result (λ answer. Reads T.is_clone place self.old answer self.new) }
-        ensures refused { OnErr result (IsRefused T.is_infallible place (position place self.old) self.old) }
-        ensures err { OnErr result (self.new ≡ self.old) }
-        ensures place { place < E.extent }
-    {
+impl<H: Holds, P: Places> LogStore for LogOver<H, P>
+where
+    H::Message: Clone,
+{
+    type Message = H::Message;
+
+    ghost capacity = { H.capacity };
+
+    ghost places = { P.extent };
+
+    ghost log = { λ log. log };
+
+    fn capacity(&self) -> usize {
+        self.held.capacity()
+    }
+
+    fn len(&self) -> usize {
+        self.held.len()
+    }
+
+    fn is_empty(&self) -> bool {
+        self.held.is_empty()
+    }
+
+    fn is_full(&self) -> bool {
+        self.held.len() >= self.held.capacity()
+    }
+
+    fn is_live(&self, place: usize) -> bool {
+        self.positions.get(place).is_some()
+    }
+
+    fn available(&self, place: usize) -> u64 {
+        match self.positions.get(place) {
+            Some(position) => self.next - position,
+            None => 0,
+        }
+    }
+
+    fn reader_count(&self, index: usize) -> Option<usize> {
+        let len = self.held.len();
+        if index < len {
+            Some(self.held.count(index))
+        } else {
+            None
+        }
+    }
+
+    fn has_subscribers(&self) -> bool {
+        self.subscribers > 0
+    }
+
+    fn join(&mut self) -> Option<usize> {
+        let Some(place) = self.positions.free_place() else {
+            return None;
+        };
+        self.positions.put(place, Some(self.next));
+        self.subscribers += 1;
+        Some(place)
+    }
+
+    fn leave(&mut self, place: usize) {
+        let Some(position) = self.positions.get(place) else {
+            unreachable!()
+        };
+        let from = self.first_unread(position);
+        self.positions.put(place, None);
+        self.subscribers -= 1;
+        self.held.lower_from(from);
+        self.held.free();
+    }
+
+    fn publish(&mut self, message: H::Message) -> Result<(), TryPublishError<H::Message>> {
+        if !self.has_subscribers() {
+            return Ok(());
+        }
+        if self.is_full() {
+            return Err(TryPublishError::Full(message));
+        }
+        if self.next == u64::MAX {
+            return Err(TryPublishError::Exhausted(message));
+        }
+        self.hold(message);
+        Ok(())
+    }
+
+    fn publish_immediate(&mut self, message: H::Message) -> Result<(), Exhausted<H::Message>> {
+        if !self.has_subscribers() {
+            return Ok(());
+        }
+        if self.next == u64::MAX {
+            return Err(Exhausted(message));
+        }
+        self.make_room();
+        self.hold(message);
+        Ok(())
+    }
+
+    fn clear(&mut self) {
+        self.held.clear();
+    }
+
+    fn read(&mut self, place: usize) -> Result<Option<WaitResult<H::Message>>, AllocError> {
         let position = self.position(place);
         let oldest = self.oldest();
         if position < oldest {
@@ -539,15 +423,7 @@ impl<T: Clone, E: Extent, const CAP: usize, const ROOM: usize> LogOver<T, E, CAP
         }
     }
 
-    /// Reads on for the subscriber at the place, and returns its next message. If it lags, it goes on from the oldest
-    /// message. Returns `None` if it has read all. After a refused clone nothing has changed.
-    pub fn read_on(&mut self, place: usize) -> Result<Option<T>, AllocError>
-        requires { IsTrue (is_live place self.old) }
-        ensures ok { IfOk result (λ answer. ReadsOn T.is_clone place self.old answer self.new) }
-        ensures refused { OnErr result (IsRefused T.is_infallible place (position place (caught place self.old)) self.old) }
-        ensures err { OnErr result (self.new ≡ self.old) }
-        ensures place { place < E.extent }
-    {
+    fn read_on(&mut self, place: usize) -> Result<Option<H::Message>, AllocError> {
         let position = self.position(place);
         let oldest = self.oldest();
         self.catch_up(place);
@@ -560,5 +436,15 @@ impl<T: Clone, E: Extent, const CAP: usize, const ROOM: usize> LogOver<T, E, CAP
                 Err(error)
             }
         }
+    }
+}
+
+impl<T: Clone, const CAP: usize, const SUBS: usize> FixedLog for Log<T, CAP, SUBS> {
+    fn new_at(next: u64) -> Self {
+        LogOver::over(Held::new(Fixed {}), Positions::new(Fixed {}), next)
+    }
+
+    fn messages() -> usize {
+        CAP
     }
 }

@@ -8,7 +8,7 @@ mod eithers;
 #[cfg(test)]
 mod mutexes;
 #[cfg(test)]
-mod philosophers;
+mod rows;
 #[cfg(test)]
 mod slots;
 #[cfg(test)]

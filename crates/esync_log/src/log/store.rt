@@ -3,8 +3,7 @@ ghost use Rattle.std.specs.Prelude.{◌≡◌, ℕ, ◌+◌, ◌-◌, ◌<◌, �
 ghost use Rattle.esync_log.specs.Counts.{readers_of};
 ghost use Rattle.esync_log.specs.Log.{oldest, has_subscribers, left, cleared, is_live, position, Joins, Publishes, PublishesAtOnce, IsRefused, Reads, ReadsOn, caught};
 
-use super::{Exhausted, Log, LogOver, TryPublishError, WaitResult};
-use esync_base::extent::Extent;
+use super::{Exhausted, TryPublishError, WaitResult};
 use std::alloc::AllocError;
 
 /// Messages with consecutive numbers, of which a fixed number can be held, and a fixed number of places for
@@ -115,85 +114,4 @@ pub trait FixedLog: LogStore {
     /// Returns how many messages each log of this type has room for.
     fn messages() -> usize
         ensures { result ≡ Self.capacity };
-}
-
-impl<T: Clone, const CAP: usize, const SUBS: usize> FixedLog for Log<T, CAP, SUBS> {
-    fn new_at(next: u64) -> Self {
-        Log::new_at(next)
-    }
-
-    fn messages() -> usize {
-        CAP
-    }
-}
-
-impl<T: Clone, E: Extent, const CAP: usize, const ROOM: usize> LogStore
-    for LogOver<T, E, CAP, ROOM> {
-    type Message = T;
-
-    ghost capacity = { CAP };
-
-    ghost places = { E.extent };
-
-    ghost log = { λ log. log };
-
-    fn capacity(&self) -> usize {
-        CAP
-    }
-
-    fn len(&self) -> usize {
-        LogOver::len(self)
-    }
-
-    fn is_empty(&self) -> bool {
-        LogOver::is_empty(self)
-    }
-
-    fn is_full(&self) -> bool {
-        LogOver::is_full(self)
-    }
-
-    fn is_live(&self, place: usize) -> bool {
-        LogOver::is_live(self, place)
-    }
-
-    fn available(&self, place: usize) -> u64 {
-        LogOver::available(self, place)
-    }
-
-    fn reader_count(&self, index: usize) -> Option<usize> {
-        LogOver::reader_count(self, index)
-    }
-
-    fn has_subscribers(&self) -> bool {
-        LogOver::has_subscribers(self)
-    }
-
-    fn join(&mut self) -> Option<usize> {
-        LogOver::join(self)
-    }
-
-    fn leave(&mut self, place: usize) {
-        LogOver::leave(self, place)
-    }
-
-    fn publish(&mut self, message: T) -> Result<(), TryPublishError<T>> {
-        LogOver::publish(self, message)
-    }
-
-    fn publish_immediate(&mut self, message: T) -> Result<(), Exhausted<T>> {
-        LogOver::publish_immediate(self, message)
-    }
-
-    fn clear(&mut self) {
-        LogOver::clear(self)
-    }
-
-    fn read(&mut self, place: usize) -> Result<Option<WaitResult<T>>, AllocError> {
-        LogOver::read(self, place)
-    }
-
-    fn read_on(&mut self, place: usize) -> Result<Option<T>, AllocError> {
-        LogOver::read_on(self, place)
-    }
 }

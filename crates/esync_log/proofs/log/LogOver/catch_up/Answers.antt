@@ -17,6 +17,3 @@ returns-then-position-oldest-clause-from g c = rw c.lag_at.ensures (moved_up c.a
 
 pub returns-else-position-oldest-clause-state : goal.returns-else-position-oldest-clause-state
 returns-else-position-oldest-clause-state g c = sym (caught_up c.args.place c.args.self.now (omega (arith, c.if-position-oldest.false, c.oldest-oldest.ensures, c.position.ensures.value)))
-
-pub oldest-oldest-requires : goal.oldest-oldest-requires
-oldest-oldest-requires g c = c.requires-raw.1.1.1.1.0

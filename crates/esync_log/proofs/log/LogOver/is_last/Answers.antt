@@ -10,7 +10,4 @@ returns g c =
     let from = rw (← c.self.view_is) at c.requires.from in
     let held = rw (← c.self.view_is) at c.requires.held in
     let o = rw (← c.self.view_is) at c.oldest.ensures in
-    rw (← c.self.view_is) (ap (λ n. n == 1) (c.count.ensures ∙ ap (λ x. slice_index a.held.counts (c.args.position - x)) o) ∙ last_test g.row.CAP g.E.Extent.extent a.held.messages a.held.counts a.next a.positions a.subscribers c.self.invariant c.args.place c.args.position at from held)
-
-pub oldest-requires : goal.oldest-requires
-oldest-requires g c = c.requires-raw.1.1.1.1.0
+    rw (← c.self.view_is) (ap (λ n. n == 1) (c.count.ensures ∙ ap (λ x. slice_index (g.H.Holds.held a.held).counts (c.args.position - x)) o) ∙ last_test g.H.Holds.capacity g.P.Places.extent (g.H.Holds.held a.held).messages (g.H.Holds.held a.held).counts a.next (g.P.Places.numbers a.positions) a.subscribers c.self.invariant c.args.place c.args.position at from held)

@@ -11,8 +11,8 @@ invariant_of-self g c =
     let live = rw (← c.self.view_is) at c.requires.live in
     let lags = rw (← c.self.view_is) at c.requires.lags in
     let within = rw (← c.self.view_is) at c.requires.within in
-    let at = log_position g.row.CAP g.E.Extent.extent a.held.messages a.held.counts a.next a.positions a.subscribers c.self.invariant c.args.place live in
-    rw (c.put.ensures) (log_lag g.row.CAP g.E.Extent.extent a.held.messages a.held.counts a.next a.positions a.subscribers c.self.invariant c.args.place (number_of (slice_index_or a.positions c.args.place None)) c.args.number at lags within)
+    let at = log_position g.H.Holds.capacity g.P.Places.extent (g.H.Holds.held a.held).messages (g.H.Holds.held a.held).counts a.next (g.P.Places.numbers a.positions) a.subscribers c.self.invariant c.args.place live in
+    rw (c.put.ensures) (log_lag g.H.Holds.capacity g.P.Places.extent (g.H.Holds.held a.held).messages (g.H.Holds.held a.held).counts a.next (g.P.Places.numbers a.positions) a.subscribers c.self.invariant c.args.place (number_of (slice_index_or (g.P.Places.numbers a.positions) c.args.place None)) c.args.number at lags within)
 
 pub put-requires : goal.put-requires
-put-requires g c = omega (arith, place_below c.self.inside.positions c.args.place (rw (← c.self.view_is) at c.requires.live), c.self.invariant.places)
+put-requires g c = omega (arith, place_below (g.P.Places.numbers c.self.inside.positions) c.args.place (rw (← c.self.view_is) at c.requires.live), c.self.invariant.places)

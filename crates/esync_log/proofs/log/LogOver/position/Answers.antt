@@ -1,6 +1,5 @@
 use Rattle.std.proofs.Common.{rules, arith, sym, ◌∙◌}
 use Rattle.esync_log.specs.LogLaws.{place_below}
-use Rattle.esync_log.proofs.Parts.{positions_fit}
 use Rattle.esync_log.proofs.log.LogOver.position.Goals as goal
 
 pub returns : goal.returns
@@ -11,8 +10,5 @@ returns g c = record {
   place = (
       let a = c.self.inside in
       let live = rw (← c.self.view_is) at c.requires in
-      omega (arith, place_below a.positions c.args.place live, c.self.invariant.places));
+      omega (arith, place_below (g.P.Places.numbers a.positions) c.args.place live, c.self.invariant.places));
 }
-
-pub get-requires : goal.get-requires
-get-requires g c = positions_fit g.row.T g.row.E g.E.Extent g.row.CAP g.row.ROOM c.requires-raw.1.1.1.1.0

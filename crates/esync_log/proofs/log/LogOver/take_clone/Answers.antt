@@ -3,7 +3,6 @@ use Rattle.esync_log.specs.LogLaws.{place_below}
 use Rattle.std.proofs.Common.{ap, ◌<◌, ◌-◌, arith, length, rules, subst, sym}
 use Rattle.std.specs.Prelude.{slice_index}
 use Rattle.esync_log.proofs.Logged.{shared_more, log_take, log_took}
-use Rattle.esync_log.proofs.Parts.{held_fits, positions_fit}
 use Rattle.esync_log.proofs.log.LogOver.take_clone.Goals as goal
 
 pub lower-requires : goal.lower-requires
@@ -14,9 +13,9 @@ lower-requires g c =
     let held = rw (← c.self.view_is) at c.requires.held in
     let o = rw (← c.self.view_is) at c.oldest.ensures in
     let shared = rw (← c.self.view_is) at c.requires.shared in
-    let more = shared_more g.row.CAP g.E.Extent.extent a.held.messages a.held.counts a.next a.positions a.subscribers c.self.invariant c.args.place c.args.position at from held shared in
-    let some : 0 < slice_index a.held.counts (c.args.position - (a.next - length a.held.messages)) = omega (arith, more) in
-    (held_fits g.row.T g.row.E g.E.Extent g.row.CAP g.row.ROOM c.requires-raw.1.1.1.1.0, (omega (arith, o, held, from, c.self.invariant.numbered), subst (λ n. 0 < slice_index a.held.counts (c.args.position - n)) (sym o) some))
+    let more = shared_more g.H.Holds.capacity g.P.Places.extent (g.H.Holds.held a.held).messages (g.H.Holds.held a.held).counts a.next (g.P.Places.numbers a.positions) a.subscribers c.self.invariant c.args.place c.args.position at from held shared in
+    let some : 0 < slice_index (g.H.Holds.held a.held).counts (c.args.position - (a.next - length (g.H.Holds.held a.held).messages)) = omega (arith, more) in
+    record { place = omega (arith, o, held, from, c.self.invariant.numbered); some = subst (λ n. 0 < slice_index (g.H.Holds.held a.held).counts (c.args.position - n)) (sym o) some }
 
 pub invariant_of-self : goal.invariant_of-self
 invariant_of-self g c =
@@ -26,7 +25,7 @@ invariant_of-self g c =
     let held = rw (← c.self.view_is) at c.requires.held in
     let o = rw (← c.self.view_is) at c.oldest.ensures in
     let shared = rw (← c.self.view_is) at c.requires.shared in
-    rw (c.lower.ensures.messages, c.lower.ensures.counts, c.put.ensures, o) (log_take g.row.CAP g.E.Extent.extent a.held.messages a.held.counts a.next a.positions a.subscribers c.self.invariant c.args.place c.args.position at from held (shared_more g.row.CAP g.E.Extent.extent a.held.messages a.held.counts a.next a.positions a.subscribers c.self.invariant c.args.place c.args.position at from held shared))
+    rw (c.lower.ensures.messages, c.lower.ensures.counts, c.put.ensures, o) (log_take g.H.Holds.capacity g.P.Places.extent (g.H.Holds.held a.held).messages (g.H.Holds.held a.held).counts a.next (g.P.Places.numbers a.positions) a.subscribers c.self.invariant c.args.place c.args.position at from held (shared_more g.H.Holds.capacity g.P.Places.extent (g.H.Holds.held a.held).messages (g.H.Holds.held a.held).counts a.next (g.P.Places.numbers a.positions) a.subscribers c.self.invariant c.args.place c.args.position at from held shared))
 
 pub returns : goal.returns
 returns g c = record {
@@ -38,30 +37,18 @@ returns g c = record {
       let held = rw (← c.self.view_is) at c.requires.held in
       let o = rw (← c.self.view_is) at c.oldest.ensures in
       let shared = rw (← c.self.view_is) at c.requires.shared in
-      rw (c.lower.ensures.messages, c.put.ensures, ← c.self.view_is) (log_took g.row.CAP g.E.Extent.extent a.held.messages a.held.counts a.next a.positions a.subscribers c.self.invariant c.args.place c.args.position at from held (shared_more g.row.CAP g.E.Extent.extent a.held.messages a.held.counts a.next a.positions a.subscribers c.self.invariant c.args.place c.args.position at from held shared)));
+      rw (c.lower.ensures.messages, c.put.ensures, ← c.self.view_is) (log_took g.H.Holds.capacity g.P.Places.extent (g.H.Holds.held a.held).messages (g.H.Holds.held a.held).counts a.next (g.P.Places.numbers a.positions) a.subscribers c.self.invariant c.args.place c.args.position at from held (shared_more g.H.Holds.capacity g.P.Places.extent (g.H.Holds.held a.held).messages (g.H.Holds.held a.held).counts a.next (g.P.Places.numbers a.positions) a.subscribers c.self.invariant c.args.place c.args.position at from held shared)));
   refused = search rules;
   err = search rules;
 }
 
-pub oldest-requires : goal.oldest-requires
-oldest-requires g c = c.requires-raw.1.1.1.1.0
-
 pub message-requires : goal.message-requires
-message-requires g c = (held_fits g.row.T g.row.E g.E.Extent g.row.CAP g.row.ROOM c.requires-raw.1.1.1.1.0, search rules)
-
-pub clone-requires : goal.clone-requires
-clone-requires g c = search rules
-
-pub branch-message-requires : goal.branch-message-requires
-branch-message-requires g c = search rules
-
-pub from_residual-requires : goal.from_residual-requires
-from_residual-requires g c = search rules
+message-requires g c = (search rules)
 
 pub put-requires : goal.put-requires
 put-requires g c =
     let at = rw (← c.self.view_is) at c.requires.live in
-    (positions_fit g.row.T g.row.E g.E.Extent g.row.CAP g.row.ROOM c.requires-raw.1.1.1.1.0, omega (arith, place_below c.self.inside.positions c.args.place (ap is_some at), c.self.invariant.places))
+    (omega (arith, place_below (g.P.Places.numbers c.self.inside.positions) c.args.place (ap is_some at), c.self.invariant.places))
 
 pub overflow_add-position : goal.overflow_add-position
 overflow_add-position g c = (let held = rw (← c.self.view_is) at c.requires.held in search rules)

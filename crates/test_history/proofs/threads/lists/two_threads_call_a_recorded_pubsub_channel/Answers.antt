@@ -5,7 +5,7 @@ use Rattle.esync_base.proofs.waitqueue.Wakes.TheSendSync as wakes
 use Rattle.esync_base.proofs.waitqueue.multi_waker.WakerRegistrations.TheSendSync as registrations
 use Rattle.esync_base.proofs.extent.Fixed.TheSendSync as fixed
 use Rattle.esync_log.proofs.log.LogOver.TheSendSync as log
-use Rattle.esync_log.proofs.log.Positions.TheSendSync as positions
+use Rattle.esync_log.proofs.log.positions.Positions.TheSendSync as positions
 use Rattle.esync_log.proofs.log.held.Held.TheSendSync as held
 use Rattle.esync_pubsub.proofs.pubsub.PubSubOver.TheSendSync as state
 use Rattle.esync_pubsub.proofs.pubsub.machine.Events.TheSendSync as events

@@ -1,8 +1,0 @@
-use Rattle.esync_log.proofs.Parts.{held_fits}
-use Rattle.esync_log.proofs.log.LogOver.is_empty.Goals as goal
-
-pub returns : goal.returns
-returns g c = rw (← c.self.view_is) c.is_empty.ensures
-
-pub is_empty-requires : goal.is_empty-requires
-is_empty-requires g c = held_fits g.row.T g.row.E g.E.Extent g.row.CAP g.row.ROOM c.requires-raw.1.1.1.1
