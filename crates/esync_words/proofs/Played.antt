@@ -78,19 +78,6 @@ module _ {S C A W : Type 0} (X : Semantics S C A W) (command : List ℕ → Opti
   read_none None = tt
   read_none (Some text) = (text, refl, refl)
 
-  pub nothing_so_far : (was : T.Notes) (old : S) (n : ℕ) (left before : Option (List ℕ)) → SoFar was was old old n left n left before before
-  nothing_so_far was old n left before = record {
-    lines = [];
-    commands = [];
-    replies = [];
-    said = tt;
-    history = no_history old;
-    read = read_none left;
-    numbered = refl;
-    printed = appends_nothing before;
-    remembered = refl;
-  }
-
   said_more : (ls : List (List ℕ)) (cs : List C) (l : List ℕ) (c : C) → AreSaid X.meaning command T ls cs → command l ≡ Some c → AreSaid X.meaning command T (ls ++ l ∷ []) (cs ++ c ∷ [])
   said_more [] [] l c h e = (e, tt)
   said_more (m ∷ ls) (d ∷ cs) l c h e = (h.0, said_more ls cs l c h.1 e)
@@ -121,69 +108,86 @@ module _ {S C A W : Type 0} (X : Semantics S C A W) (command : List ℕ → Opti
       let w = read_whole most h.0 s j l in
       (other_lines h.0, w.1, rw w.0 (reads_more text ls h.0 h.2 j.0))
 
-  -- another line was read, and is a command, which the machine has answered
-  pub more_so_far : (most : ℕ) (was is then : T.Notes) (old mid now : S) (n : ℕ) (left : Option (List ℕ)) (number : ℕ) (rest before after written : Option (List ℕ)) (s : Source) (line : List ℕ) (c : C) (a : A) → SoFar was is old mid n left number rest before after → s.number ≡ next_number number → IfSome rest (λ text. IsRead most text true s) → line ≡ s.line → length line ≤ most → command line ≡ Some c → Turn X mid c a now → Appends after written (T.tells is s.number line c a) → then ≡ T.next_notes is c a → SoFar was then old now n left s.number s.left before written
-  more_so_far most was is then old mid now n left number rest before after written s line c a f k i e l is_said turn p m = record {
-    lines = f.lines ++ line ∷ [];
-    commands = f.commands ++ c ∷ [];
-    replies = f.replies ++ a ∷ [];
-    said = said_more f.lines f.commands line c f.said is_said;
-    history = longer f.history turn;
-    read = rw e (read_more most left rest f.lines s f.read i (rw e at l));
-    numbered = k ∙ rw f.numbered (sym (line_number-more n f.lines line));
-    printed = rw (told_more was n f.lines f.commands f.replies line c a f.said (same_length f.history), ← f.numbered, ← k, ← f.remembered) (appends_more before after written _ _ f.printed p);
-    remembered = m ∙ rw (noted_more was f.commands f.replies c a (same_length f.history), ← f.remembered) refl;
-  }
-
-  pub kept_so_far : (was is : T.Notes) (old now : S) (n : ℕ) (left : Option (List ℕ)) (number : ℕ) (rest before after written : Option (List ℕ)) → SoFar was is old now n left number rest before after → Keeps after written → SoFar was is old now n left number rest before written
-  kept_so_far was is old now n left number rest before after written f k = record {
-    lines = f.lines;
-    commands = f.commands;
-    replies = f.replies;
-    said = f.said;
-    history = f.history;
-    read = f.read;
-    numbered = f.numbered;
-    printed = appends_kept before after written _ f.printed k;
-    remembered = f.remembered;
-  }
-
   ended : (n : ℕ) (left rest : Option (List ℕ)) (ls : List (List ℕ)) (outcome : Result (Unit {0}) Fault) → IfSome left (λ text. (r : List ℕ) × (rest ≡ Some r) × Reads text ls r) → ((r : List ℕ) → rest ≡ Some r → Ends X.meaning command T (line_number n ls) r outcome) → IfSome left (λ text. (r : List ℕ) × Reads text ls r × Ends X.meaning command T (line_number n ls) r outcome)
   ended n None rest ls outcome h e = tt
   ended n (Some text) rest ls outcome h e = (h.0, h.2, e h.0 h.1)
 
-  -- the script ends so
-  pub ends_so : OwedAreIdle X → (was is : T.Notes) (old now : S) (n : ℕ) (left : Option (List ℕ)) (number : ℕ) (rest before after : Option (List ℕ)) (outcome : Result (Unit {0}) Fault) → SoFar was is old now n left number rest before after → ((r : List ℕ) → rest ≡ Some r → Ends X.meaning command T number r outcome) → Played X.meaning command T was is (X.object old) (X.registrations old) n left before after outcome
-  ends_so law was is old now n left number rest before after outcome f e = record {
-    lines = f.lines;
-    commands = f.commands;
-    replies = f.replies;
-    new = X.object now;
-    registered2 = X.registrations now;
-    said = f.said;
-    run = good_run_of law f.history;
-    read = ended n left rest f.lines outcome f.read (λ r g. subst (λ k. Ends X.meaning command T k r outcome) f.numbered (e r g));
-    printed = λ _. f.printed;
-    remembered = λ _. f.remembered;
+module _ {S C A W : Type 0} {X : Semantics S C A W} {command : List ℕ → Option C} {T : Transcript C A} where
+  pub nothing_so_far : {was : T.Notes} {old : S} {n : ℕ} {left before : Option (List ℕ)} → SoFar X command T was was old old n left n left before before
+  nothing_so_far {was} {old} {n} {left} {before} = record {
+    lines = [];
+    commands = [];
+    replies = [];
+    said = tt;
+    history = no_history old;
+    read = read_none X command T left;
+    numbered = refl;
+    printed = appends_nothing before;
+    remembered = refl;
   }
 
-  -- the last reply was told in part, or not at all
-  pub ends_untold : OwedAreIdle X → (most : ℕ) (was is then : T.Notes) (old mid now : S) (n : ℕ) (left : Option (List ℕ)) (number : ℕ) (rest before after written : Option (List ℕ)) (s : Source) (line : List ℕ) (c : C) (a : A) (fault : Fault) → SoFar was is old mid n left number rest before after → IfSome rest (λ text. IsRead most text true s) → line ≡ s.line → length line ≤ most → command line ≡ Some c → Turn X mid c a now → (IsJudged (Err fault) → ⊥) → Played X.meaning command T was then (X.object old) (X.registrations old) n left before written (Err fault)
-  ends_untold law most was is then old mid now n left number rest before after written s line c a fault f i e l is_said turn u = record {
-    lines = f.lines ++ line ∷ [];
-    commands = f.commands ++ c ∷ [];
-    replies = f.replies ++ a ∷ [];
-    new = X.object now;
-    registered2 = X.registrations now;
-    said = said_more f.lines f.commands line c f.said is_said;
-    run = good_run_of law (longer f.history turn);
-    read = ended n left s.left (f.lines ++ line ∷ []) (Err fault) (rw e (read_more most left rest f.lines s f.read i (rw e at l))) (λ r g. ends_unjudged X.meaning command T _ r fault u);
-    printed = λ j. absurd (u j);
-    remembered = λ j. absurd (u j);
-  }
+  module _ {was is : T.Notes} {old now : S} {n number : ℕ} {left rest before after : Option (List ℕ)} (f : SoFar X command T was is old now n left number rest before after) where
+    -- nothing more was written
+    pub kept_so_far : (written : Option (List ℕ)) → Keeps after written → SoFar X command T was is old now n left number rest before written
+    kept_so_far written k = record {
+      lines = f.lines;
+      commands = f.commands;
+      replies = f.replies;
+      said = f.said;
+      history = f.history;
+      read = f.read;
+      numbered = f.numbered;
+      printed = appends_kept before after written _ f.printed k;
+      remembered = f.remembered;
+    }
+
+    -- the script ends so
+    pub ends_so : OwedAreIdle X → {outcome : Result (Unit {0}) Fault} → ((r : List ℕ) → rest ≡ Some r → Ends X.meaning command T number r outcome) → Played X.meaning command T was is (X.object old) (X.registrations old) n left before after outcome
+    ends_so law {outcome} e = record {
+      lines = f.lines;
+      commands = f.commands;
+      replies = f.replies;
+      new = X.object now;
+      registered2 = X.registrations now;
+      said = f.said;
+      run = good_run_of law f.history;
+      read = ended X command T n left rest f.lines outcome f.read (λ r g. subst (λ k. Ends X.meaning command T k r outcome) f.numbered (e r g));
+      printed = λ _. f.printed;
+      remembered = λ _. f.remembered;
+    }
+
+    -- Another line was read, and is a command, which the machine has answered.
+    module _ (most : ℕ) (s : Source) (line : List ℕ) (i : IfSome rest (λ text. IsRead most text true s)) (e : line ≡ s.line) (l : length line ≤ most) {c : C} {a : A} (is_said : command line ≡ Some c) {next : S} (turn : Turn X now c a next) where
+      pub more_so_far : {then : T.Notes} (written : Option (List ℕ)) → s.number ≡ next_number number → Appends after written (T.tells is s.number line c a) → then ≡ T.next_notes is c a → SoFar X command T was then old next n left s.number s.left before written
+      more_so_far written k p m = record {
+        lines = f.lines ++ line ∷ [];
+        commands = f.commands ++ c ∷ [];
+        replies = f.replies ++ a ∷ [];
+        said = said_more X command T f.lines f.commands line c f.said is_said;
+        history = longer f.history turn;
+        read = rw e (read_more X command T most left rest f.lines s f.read i (rw e at l));
+        numbered = k ∙ rw f.numbered (sym (line_number-more n f.lines line));
+        printed = rw (told_more X command T was n f.lines f.commands f.replies line c a f.said (same_length f.history), ← f.numbered, ← k, ← f.remembered) (appends_more before after written _ _ f.printed p);
+        remembered = m ∙ rw (noted_more X command T was f.commands f.replies c a (same_length f.history), ← f.remembered) refl;
+      }
+
+      -- its reply was told in part, or not at all
+      pub ends_untold : OwedAreIdle X → {then : T.Notes} {written : Option (List ℕ)} {fault : Fault} → (IsJudged (Err fault) → ⊥) → Played X.meaning command T was then (X.object old) (X.registrations old) n left before written (Err fault)
+      ends_untold law {then} {written} {fault} u = record {
+        lines = f.lines ++ line ∷ [];
+        commands = f.commands ++ c ∷ [];
+        replies = f.replies ++ a ∷ [];
+        new = X.object next;
+        registered2 = X.registrations next;
+        said = said_more X command T f.lines f.commands line c f.said is_said;
+        run = good_run_of law (longer f.history turn);
+        read = ended X command T n left s.left (f.lines ++ line ∷ []) (Err fault) (rw e (read_more X command T most left rest f.lines s f.read i (rw e at l))) (λ r g. ends_unjudged X.meaning command T _ r fault u);
+        printed = λ j. absurd (u j);
+        remembered = λ j. absurd (u j);
+      }
 
 -- What is left of a script is this, and a line was read of it, or none.
-module _ {C : Type 0} (most : ℕ) (said : List ℕ → List (List ℕ) → Option C) (s : Source) where
+module _ (most : ℕ) (s : Source) where
   pub at_end : (left : Option (List ℕ)) (b : Bool) → IfSome left (λ text. IsRead most text b s) → b ≡ false → (r : List ℕ) → left ≡ Some r → r ≡ []
   at_end left true h n r e = absurd cc
   at_end left false h n r e = subst (λ o. IfSome o (λ text. IsRead most text false s)) e h
@@ -195,19 +199,20 @@ module _ {C : Type 0} (most : ℕ) (said : List ℕ → List (List ℕ) → Opti
   read_of : (left : Option (List ℕ)) (b : Bool) → IfSome left (λ text. IsRead most text b s) → b ≡ true → (r : List ℕ) → left ≡ Some r → IsRead most r true s
   read_of left b h n r e = subst (λ o. IfSome o (λ text. IsRead most text true s)) e (is_there left b h n)
 
+module _ {C : Type 0} (most : ℕ) (said : List ℕ → List (List ℕ) → Option C) (s : Source) where
   pub unreadable : (left : Option (List ℕ)) (b : Bool) → IfSome left (λ text. IsRead most text b s) → b ≡ true → (IsUtf8 s.line → most < length s.line) → (r : List ℕ) → left ≡ Some r → (r ≡ [] → ⊥) × (says most said (first_line r) ≡ None)
-  unreadable left b h n u r e = (let j = read_of left b h n r e in (j.0, says_nothing most said r s j u))
+  unreadable left b h n u r e = (let j = read_of most s left b h n r e in (j.0, says_nothing most said r s j u))
 
   pub unsaid : (left : Option (List ℕ)) (b : Bool) → IfSome left (λ text. IsRead most text b s) → b ≡ true → (line : List ℕ) → line ≡ s.line → IsUtf8 line → length line ≤ most → named said (words_of line) ≡ None → (r : List ℕ) → left ≡ Some r → (r ≡ [] → ⊥) × (says most said (first_line r) ≡ None)
   unsaid left b h n line f u l e r g =
-      let j = read_of left b h n r g in
+      let j = read_of most s left b h n r g in
       let w = read_whole most r s j (rw f at l) in
       (j.0, rw (← w.0, ← f) (says_words most said line u l ∙ e))
 
   -- line 1 was read, or there is none
   pub no_line : (left : Option (List ℕ)) (b : Bool) → IfSome left (λ text. IsRead most text b s) → b ≡ false → IfSome left (λ all. (all ≡ []) ⊎ (says most said (first_line all) ≡ None))
   no_line None b h n = tt
-  no_line (Some text) b h n = inl (at_end (Some text) b h n text refl)
+  no_line (Some text) b h n = inl (at_end most s (Some text) b h n text refl)
 
   pub bad_line : (left : Option (List ℕ)) (b : Bool) → IfSome left (λ text. IsRead most text b s) → b ≡ true → (IsUtf8 s.line → most < length s.line) → IfSome left (λ all. (all ≡ []) ⊎ (says most said (first_line all) ≡ None))
   bad_line None b h n u = tt
@@ -220,7 +225,7 @@ module _ {C : Type 0} (most : ℕ) (said : List ℕ → List (List ℕ) → Opti
   pub good_line : (left : Option (List ℕ)) (b : Bool) → IfSome left (λ text. IsRead most text b s) → b ≡ true → (line : List ℕ) → line ≡ s.line → length line ≤ most → IfSome left (λ all. (all ≡ [] → ⊥) × (line ≡ first_line all) × (s.left ≡ Some (other_lines all)))
   good_line None b h n line f l = tt
   good_line (Some text) b h n line f l =
-      let j = read_of (Some text) b h n text refl in
+      let j = read_of most s (Some text) b h n text refl in
       let w = read_whole most text s j (rw f at l) in
       (j.0, f ∙ w.0, w.1)
 

@@ -2,16 +2,16 @@
 ghost use Rattle.std.specs.Prelude.{◌≡◌, ℕ, ◌+◌, ◌-◌, ◌<◌, ◌≤◌, IsTrue, [], true, Some, None, is_some, length, slice_set, IfSome, IfOk, OnErr};
 ghost use Rattle.std.proofs.Math.ListN.{replicate};
 ghost use Rattle.esync_machine.specs.Numbers.{at_number};
-ghost use Rattle.esync_machine.specs.Names.{is_free, Where};
+ghost use Rattle.esync_machine.specs.Names.{is_free};
 ghost use Rattle.esync_machine.specs.Object.{GoodRunOver};
 ghost use Rattle.esync_machine.specs.Wakings.{IsHanded, unless_refused};
 ghost use Rattle.esync_pubsub.specs.Events.{AreNamed};
-ghost use Rattle.esync_log.specs.Log.{Log, is_live, position, left};
+ghost use Rattle.esync_log.specs.Log.{Log, is_live};
 ghost use Rattle.esync_pubsub.specs.Order.{ReadsInOrder, CountsAreTrue, topic_in};
 ghost use Rattle.esync_pubsub.specs.Sizes.{SizesAddUp};
 ghost use Rattle.esync_pubsub.specs.PubSub.{fresh, frees};
 ghost use Rattle.esync_pubsub.specs.Steps.{most_wakes};
-ghost use Rattle.esync_pubsub.specs.PubSubRules.{topic_of, is_subscriber, is_publisher, is_of_subscriber, is_of_publisher, leaves, place_at, names_it, departed, WithLog, Comes, Counts, TriesPublish, AtOnce, Tries, TriesPure, Calls, Polls, room_hands, immediate_of, immediate_hands, call_hands, reach, rest_of, publish_of, read_of, pure_of, stream_of, publish_hands, read_hands, pure_hands, stream_hands, poll_hands, pubsub_rules, pubsub_wakings, PollsPublish, PollsMessage, PollsPure, PollsStream, PollsLog};
+ghost use Rattle.esync_pubsub.specs.PubSubRules.{topic_of, is_of_subscriber, is_of_publisher, leaves, names_it, AtOnce, Tries, TriesPure, Calls, Polls, immediate_of, immediate_hands, call_hands, reach, rest_of, publish_of, read_of, pure_of, stream_of, publish_hands, read_hands, pure_hands, stream_hands, poll_hands, pubsub_rules, pubsub_wakings, PollsPublish, PollsMessage, PollsPure, PollsStream, PollsLog};
 
 use super::{Error, Exhausted, PubSubOver, PublishRequest, SubId, TryPublishError, WaitResult};
 use esync_base::waitqueue::{Context, FixedList, Poll, Registered, WakerList, Wakes};
@@ -399,7 +399,7 @@ impl<G: LogStore, S: WakerList, P: WakerList<Waker = S::Waker>> PubSubOver<G, S,
         s: usize,
     ) -> Answer<PubSubHeard<G::Message>>
         requires named { AreNamed G.capacity P.room NAMES self.old tables.old }
-        ensures allowed { Where (is_free s tables.old.subscribers) (topic_of self.old tables.old) (Comes s (topic_of self.old tables.old) result (topic_of self.new tables.new)) result (topic_of self.new tables.new) }
+        ensures allowed { Calls G.Message.is_clone G.Message.is_infallible G.capacity P.room (topic_of self.old tables.old) (PubSubCall.Join s) result (topic_of self.new tables.new) }
         ensures named { AreNamed G.capacity P.room NAMES self.new tables.new }
         ensures lists { self.new.lists ≡ self.old.lists }
     {
@@ -425,8 +425,8 @@ impl<G: LogStore, S: WakerList, P: WakerList<Waker = S::Waker>> PubSubOver<G, S,
         requires empty { wakes.old ≡ [] }
         requires room { most_wakes S.room P.room ≤ K }
         requires named { AreNamed G.capacity P.room NAMES self.old tables.old }
-        ensures allowed { Where (is_subscriber s (topic_of self.old tables.old)) (topic_of self.old tables.old) ((result ≡ Answer.Done) × (topic_of self.new tables.new ≡ departed s (topic_of self.old tables.old))) result (topic_of self.new tables.new) }
-        ensures exact { IsHanded (unless_refused result self.old.lists (room_hands (frees self.old.log (left (place_at s (topic_of self.old tables.old)) self.old.log)) self.old.lists)) wakes.new self.new.lists }
+        ensures allowed { Calls G.Message.is_clone G.Message.is_infallible G.capacity P.room (topic_of self.old tables.old) (PubSubCall.Leave s) result (topic_of self.new tables.new) }
+        ensures exact { IsHanded (unless_refused result self.old.lists (call_hands S.Waker.eq S.room P.room (topic_of self.old tables.old) self.old.lists (PubSubCall.Leave s) result)) wakes.new self.new.lists }
         ensures named { AreNamed G.capacity P.room NAMES self.new tables.new }
     {
         let Some(id) = self.subscriber(tables, s) else {
@@ -444,7 +444,7 @@ impl<G: LogStore, S: WakerList, P: WakerList<Waker = S::Waker>> PubSubOver<G, S,
         p: usize,
     ) -> Answer<PubSubHeard<G::Message>>
         requires named { AreNamed G.capacity P.room NAMES self.old tables.old }
-        ensures allowed { Where (is_free p tables.old.publishers) (topic_of self.old tables.old) (Counts P.room p (topic_of self.old tables.old) result (topic_of self.new tables.new)) result (topic_of self.new tables.new) }
+        ensures allowed { Calls G.Message.is_clone G.Message.is_infallible G.capacity P.room (topic_of self.old tables.old) (PubSubCall.Publisher p) result (topic_of self.new tables.new) }
         ensures named { AreNamed G.capacity P.room NAMES self.new tables.new }
         ensures lists { self.new.lists ≡ self.old.lists }
     {
@@ -467,7 +467,7 @@ impl<G: LogStore, S: WakerList, P: WakerList<Waker = S::Waker>> PubSubOver<G, S,
         p: usize,
     ) -> Answer<PubSubHeard<G::Message>>
         requires named { AreNamed G.capacity P.room NAMES self.old tables.old }
-        ensures allowed { Where (is_publisher p (topic_of self.old tables.old)) (topic_of self.old tables.old) ((result ≡ Answer.Done) × (topic_of self.new tables.new ≡ record { log = self.old.log; subscribers = tables.old.subscribers; publishers = slice_set tables.old.publishers p None })) result (topic_of self.new tables.new) }
+        ensures allowed { Calls G.Message.is_clone G.Message.is_infallible G.capacity P.room (topic_of self.old tables.old) (PubSubCall.Retire p) result (topic_of self.new tables.new) }
         ensures named { AreNamed G.capacity P.room NAMES self.new tables.new }
         ensures lists { self.new.lists ≡ self.old.lists }
     {
@@ -488,8 +488,8 @@ impl<G: LogStore, S: WakerList, P: WakerList<Waker = S::Waker>> PubSubOver<G, S,
     ) -> Answer<PubSubHeard<G::Message>>
         requires empty { wakes.old ≡ [] }
         requires room { most_wakes S.room P.room ≤ K }
-        ensures allowed { Where (is_publisher p (topic_of self.old tables.now)) (topic_of self.old tables.now) (TriesPublish G.capacity message self.old.log result self.new.log × WithLog (topic_of self.old tables.now) (topic_of self.new tables.now)) result (topic_of self.new tables.now) }
-        ensures exact { IsHanded (unless_refused result self.old.lists (publish_hands S.Waker.eq S.room P.room self.old.log None (publish_of message result) self.old.lists)) wakes.new self.new.lists }
+        ensures allowed { Calls G.Message.is_clone G.Message.is_infallible G.capacity P.room (topic_of self.old tables.now) (PubSubCall.TryPublish p message) result (topic_of self.new tables.now) }
+        ensures exact { IsHanded (unless_refused result self.old.lists (call_hands S.Waker.eq S.room P.room (topic_of self.old tables.now) self.old.lists (PubSubCall.TryPublish p message) result)) wakes.new self.new.lists }
         ensures publishers { self.new.publishers ≡ self.old.publishers }
     {
         if !tables.is_publisher(p) {
@@ -521,8 +521,8 @@ impl<G: LogStore, S: WakerList, P: WakerList<Waker = S::Waker>> PubSubOver<G, S,
         requires empty { wakes.old ≡ [] }
         requires room { most_wakes S.room P.room ≤ K }
         requires named { AreNamed G.capacity P.room NAMES self.old tables.now }
-        ensures allowed { Where (is_subscriber s (topic_of self.old tables.now)) (topic_of self.old tables.now) (Tries G.Message.is_clone G.Message.is_infallible (place_at s (topic_of self.old tables.now)) self.old.log result self.new.log × WithLog (topic_of self.old tables.now) (topic_of self.new tables.now)) result (topic_of self.new tables.now) }
-        ensures exact { IsHanded (unless_refused result self.old.lists (read_hands S.Waker.eq S.room P.room (place_at s (topic_of self.old tables.now)) self.old.log None (read_of result) self.old.lists)) wakes.new self.new.lists }
+        ensures allowed { Calls G.Message.is_clone G.Message.is_infallible G.capacity P.room (topic_of self.old tables.now) (PubSubCall.Next s) result (topic_of self.new tables.now) }
+        ensures exact { IsHanded (unless_refused result self.old.lists (call_hands S.Waker.eq S.room P.room (topic_of self.old tables.now) self.old.lists (PubSubCall.Next s) result)) wakes.new self.new.lists }
         ensures publishers { self.new.publishers ≡ self.old.publishers }
     {
         let Some(id) = self.subscriber(tables, s) else {
@@ -559,8 +559,8 @@ impl<G: LogStore, S: WakerList, P: WakerList<Waker = S::Waker>> PubSubOver<G, S,
         requires empty { wakes.old ≡ [] }
         requires room { most_wakes S.room P.room ≤ K }
         requires named { AreNamed G.capacity P.room NAMES self.old tables.now }
-        ensures allowed { Where (is_subscriber s (topic_of self.old tables.now)) (topic_of self.old tables.now) (TriesPure G.Message.is_clone G.Message.is_infallible (place_at s (topic_of self.old tables.now)) self.old.log result self.new.log × WithLog (topic_of self.old tables.now) (topic_of self.new tables.now)) result (topic_of self.new tables.now) }
-        ensures exact { IsHanded (unless_refused result self.old.lists (pure_hands S.Waker.eq S.room P.room (place_at s (topic_of self.old tables.now)) self.old.log None (pure_of result) self.old.lists)) wakes.new self.new.lists }
+        ensures allowed { Calls G.Message.is_clone G.Message.is_infallible G.capacity P.room (topic_of self.old tables.now) (PubSubCall.NextPure s) result (topic_of self.new tables.now) }
+        ensures exact { IsHanded (unless_refused result self.old.lists (call_hands S.Waker.eq S.room P.room (topic_of self.old tables.now) self.old.lists (PubSubCall.NextPure s) result)) wakes.new self.new.lists }
         ensures publishers { self.new.publishers ≡ self.old.publishers }
     {
         let Some(id) = self.subscriber(tables, s) else {
@@ -594,7 +594,7 @@ impl<G: LogStore, S: WakerList, P: WakerList<Waker = S::Waker>> PubSubOver<G, S,
         s: usize,
     ) -> Answer<PubSubHeard<G::Message>>
         requires named { AreNamed G.capacity P.room NAMES self.now tables.now }
-        ensures { Where (is_subscriber s (topic_of self.now tables.now)) (topic_of self.now tables.now) ((result ≡ Answer.Gives (PubSubHeard.Unread (self.now.log.next - position (place_at s (topic_of self.now tables.now)) self.now.log))) × (topic_of self.now tables.now ≡ topic_of self.now tables.now)) result (topic_of self.now tables.now) }
+        ensures { Calls G.Message.is_clone G.Message.is_infallible G.capacity P.room (topic_of self.now tables.now) (PubSubCall.Available s) result (topic_of self.now tables.now) }
     {
         let Some(id) = self.subscriber(tables, s) else {
             return Answer::NoSuch;
