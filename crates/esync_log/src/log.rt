@@ -58,7 +58,7 @@ pub type LimitedLog<T, B, S, const CAP: usize, const ROOM: usize> = LogOver<
     Positions<Chosen<S>, ROOM>,
 >;
 
-/// Messages in any ring, and subscribers, known by their places in any row.
+/// Messages with their counts, and how far each subscriber has read, in any two parts.
 #[derive_where(Debug; H: fmt::Debug, P: fmt::Debug)]
 #[derive(Drop)]
 pub struct LogOver<H: Holds, P: Places> {
@@ -112,7 +112,7 @@ impl<H: Holds, P: Places> LogOver<H, P>
 where
     H::Message: Drop,
 {
-    /// Returns a log of a ring and a row that are empty. Its first message gets the number `next`.
+    /// Returns a log of two parts that are empty. Its first message gets the number `next`.
     pub fn over(held: H, positions: P, next: u64) -> Self
         requires messages { 1 ≤ H.capacity }
         requires held { H.held held ≡ record { messages = []; counts = [] } }

@@ -199,6 +199,7 @@ module _ (most : ℕ) (s : Source) where
   read_of : (left : Option (List ℕ)) (b : Bool) → IfSome left (λ text. IsRead most text b s) → b ≡ true → (r : List ℕ) → left ≡ Some r → IsRead most r true s
   read_of left b h n r e = subst (λ o. IfSome o (λ text. IsRead most text true s)) e (is_there left b h n)
 
+-- What a line says that was read so, or that it says nothing.
 module _ {C : Type 0} (most : ℕ) (said : List ℕ → List (List ℕ) → Option C) (s : Source) where
   pub unreadable : (left : Option (List ℕ)) (b : Bool) → IfSome left (λ text. IsRead most text b s) → b ≡ true → (IsUtf8 s.line → most < length s.line) → (r : List ℕ) → left ≡ Some r → (r ≡ [] → ⊥) × (says most said (first_line r) ≡ None)
   unreadable left b h n u r e = (let j = read_of most s left b h n r e in (j.0, says_nothing most said r s j u))
