@@ -61,6 +61,19 @@ ends_unjudged M command T n rest (NotACommand k) h = absurd (h tt)
 ends_unjudged M command T n rest InputOutput h = tt
 ends_unjudged M command T n rest OutOfMemory h = tt
 
+-- What is left of a script is this, and a line was read of it, or none.
+module _ (most : ℕ) (s : Source) where
+  pub at_end : (left : Option (List ℕ)) (b : Bool) → IfSome left (λ text. IsRead most text b s) → b ≡ false → (r : List ℕ) → left ≡ Some r → r ≡ []
+  at_end left true h n r e = absurd cc
+  at_end left false h n r e = subst (λ o. IfSome o (λ text. IsRead most text false s)) e h
+
+  is_there : (left : Option (List ℕ)) (b : Bool) → IfSome left (λ text. IsRead most text b s) → b ≡ true → IfSome left (λ text. IsRead most text true s)
+  is_there left true h n = h
+  is_there left false h n = absurd cc
+
+  read_of : (left : Option (List ℕ)) (b : Bool) → IfSome left (λ text. IsRead most text b s) → b ≡ true → (r : List ℕ) → left ≡ Some r → IsRead most r true s
+  read_of left b h n r e = subst (λ o. IfSome o (λ text. IsRead most text true s)) e (is_there left b h n)
+
 module _ {S C A W : Type 0} (X : Semantics S C A W) (command : List ℕ → Option C) (T : Transcript C A) where
   -- the commands so far, and what was written
   pub record SoFar (was is : T.Notes) (old now : S) (n : ℕ) (left : Option (List ℕ)) (number : ℕ) (rest : Option (List ℕ)) (before after : Option (List ℕ)) : Type 0 where
@@ -157,7 +170,7 @@ module _ {S C A W : Type 0} {X : Semantics S C A W} {command : List ℕ → Opti
     }
 
     -- Another line was read, and is a command, which the machine has answered.
-    module _ (most : ℕ) (s : Source) (line : List ℕ) (i : IfSome rest (λ text. IsRead most text true s)) (e : line ≡ s.line) (l : length line ≤ most) {c : C} {a : A} (is_said : command line ≡ Some c) {next : S} (turn : Turn X now c a next) where
+    module _ (most : ℕ) (s : Source) (line : List ℕ) {b : Bool} (i : IfSome rest (λ text. IsRead most text b s)) (t : b ≡ true) (e : line ≡ s.line) (l : length line ≤ most) {c : C} {a : A} (is_said : command line ≡ Some c) {next : S} (turn : Turn X now c a next) where
       pub more_so_far : {then : T.Notes} (written : Option (List ℕ)) → s.number ≡ next_number number → Appends after written (T.tells is s.number line c a) → then ≡ T.next_notes is c a → SoFar X command T was then old next n left s.number s.left before written
       more_so_far written k p m = record {
         lines = f.lines ++ line ∷ [];
@@ -165,7 +178,7 @@ module _ {S C A W : Type 0} {X : Semantics S C A W} {command : List ℕ → Opti
         replies = f.replies ++ a ∷ [];
         said = said_more X command T f.lines f.commands line c f.said is_said;
         history = longer f.history turn;
-        read = rw e (read_more X command T most left rest f.lines s f.read i (rw e at l));
+        read = rw e (read_more X command T most left rest f.lines s f.read (is_there most s rest b i t) (rw e at l));
         numbered = k ∙ rw f.numbered (sym (line_number-more n f.lines line));
         printed = rw (told_more X command T was n f.lines f.commands f.replies line c a f.said (same_length f.history), ← f.numbered, ← k, ← f.remembered) (appends_more before after written _ _ f.printed p);
         remembered = m ∙ rw (noted_more X command T was f.commands f.replies c a (same_length f.history), ← f.remembered) refl;
@@ -181,23 +194,10 @@ module _ {S C A W : Type 0} {X : Semantics S C A W} {command : List ℕ → Opti
         registered2 = X.registrations next;
         said = said_more X command T f.lines f.commands line c f.said is_said;
         run = good_run_of law (longer f.history turn);
-        read = ended X command T n left s.left (f.lines ++ line ∷ []) (Err fault) (rw e (read_more X command T most left rest f.lines s f.read i (rw e at l))) (λ r g. ends_unjudged X.meaning command T _ r fault u);
+        read = ended X command T n left s.left (f.lines ++ line ∷ []) (Err fault) (rw e (read_more X command T most left rest f.lines s f.read (is_there most s rest b i t) (rw e at l))) (λ r g. ends_unjudged X.meaning command T _ r fault u);
         printed = λ j. absurd (u j);
         remembered = λ j. absurd (u j);
       }
-
--- What is left of a script is this, and a line was read of it, or none.
-module _ (most : ℕ) (s : Source) where
-  pub at_end : (left : Option (List ℕ)) (b : Bool) → IfSome left (λ text. IsRead most text b s) → b ≡ false → (r : List ℕ) → left ≡ Some r → r ≡ []
-  at_end left true h n r e = absurd cc
-  at_end left false h n r e = subst (λ o. IfSome o (λ text. IsRead most text false s)) e h
-
-  pub is_there : (left : Option (List ℕ)) (b : Bool) → IfSome left (λ text. IsRead most text b s) → b ≡ true → IfSome left (λ text. IsRead most text true s)
-  is_there left true h n = h
-  is_there left false h n = absurd cc
-
-  read_of : (left : Option (List ℕ)) (b : Bool) → IfSome left (λ text. IsRead most text b s) → b ≡ true → (r : List ℕ) → left ≡ Some r → IsRead most r true s
-  read_of left b h n r e = subst (λ o. IfSome o (λ text. IsRead most text true s)) e (is_there left b h n)
 
 -- What a line says that was read so, or that it says nothing.
 module _ {C : Type 0} (most : ℕ) (said : List ℕ → List (List ℕ) → Option C) (s : Source) where
@@ -219,10 +219,6 @@ module _ {C : Type 0} (most : ℕ) (said : List ℕ → List (List ℕ) → Opti
   bad_line None b h n u = tt
   bad_line (Some text) b h n u = inr (unreadable (Some text) b h n u text refl).1
 
-  pub unsaid_line : (left : Option (List ℕ)) (b : Bool) → IfSome left (λ text. IsRead most text b s) → b ≡ true → (line : List ℕ) → line ≡ s.line → IsUtf8 line → length line ≤ most → named said (words_of line) ≡ None → IfSome left (λ all. (all ≡ []) ⊎ (says most said (first_line all) ≡ None))
-  unsaid_line None b h n line f u l e = tt
-  unsaid_line (Some text) b h n line f u l e = inr (unsaid (Some text) b h n line f u l e text refl).1
-
   pub good_line : (left : Option (List ℕ)) (b : Bool) → IfSome left (λ text. IsRead most text b s) → b ≡ true → (line : List ℕ) → line ≡ s.line → length line ≤ most → IfSome left (λ all. (all ≡ [] → ⊥) × (line ≡ first_line all) × (s.left ≡ Some (other_lines all)))
   good_line None b h n line f l = tt
   good_line (Some text) b h n line f l =
@@ -231,10 +227,6 @@ module _ {C : Type 0} (most : ℕ) (said : List ℕ → List (List ℕ) → Opti
       (j.0, f ∙ w.0, w.1)
 
 -- what a `?` hands on
-pub handed_on : (o : Result (Unit {0}) Fault) (fault : Fault) → IsErr o × IsErrAnd o (λ x. x ≡ fault) → o ≡ Err fault
+pub handed_on : {T : Type 0} (o : Result T Fault) (fault : Fault) → IsErr o × IsErrAnd o (λ x. x ≡ fault) → o ≡ Err fault
 handed_on (Ok x) fault h = absurd cc
 handed_on (Err e) fault h = ap (λ x. Err x) h.1
-
-pub handed_on_by : {T : Type 0} (o : Result T Fault) (fault : Fault) → IsErr o × IsErrAnd o (λ x. x ≡ fault) → o ≡ Err fault
-handed_on_by (Ok x) fault h = absurd cc
-handed_on_by (Err e) fault h = ap (λ x. Err x) h.1

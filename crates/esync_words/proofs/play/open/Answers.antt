@@ -1,6 +1,6 @@
 use Rattle.std.proofs.Common.{sym, ◌∙◌, ap, arith}
 use Rattle.esync_words.specs.declared.fault.Fault.TheVariants.{NotACommand}
-use Rattle.esync_words.proofs.Played.{says_words, no_line, bad_line, good_line, handed_on_by}
+use Rattle.esync_words.proofs.Played.{says_words, no_line, bad_line, good_line, handed_on}
 use Rattle.esync_words.proofs.Known.{appends_kept_before}
 use Rattle.esync_words.proofs.play.open.Goals as goal
 
@@ -13,7 +13,7 @@ returns-then-not-branch-clause-err g c j = record {
 
 pub returns-in_err-line-clause-err : goal.returns-in_err-line-clause-err
 returns-in_err-line-clause-err g c =
-    rw (handed_on_by c.from_residual-in_err-line.result c.in_err-line.field-0.0 c.from_residual-in_err-line.ensures) (λ j. record {
+    rw (handed_on c.from_residual-in_err-line.result c.in_err-line.field-0.0 c.from_residual-in_err-line.ensures) (λ j. record {
       is_line = c.in_err-line.ensures.0 ∙ ap NotACommand (rw c.requires at c.read.ensures.number);
       read = bad_line g.R.ByteSource.longest g.O.Opens.opens c.read.new.self _ _ c.in_ok-read.ensures.line c.if-not-branch.false c.in_err-line.ensures.1;
       printed = c.read.ensures.output;

@@ -1,6 +1,6 @@
 use Rattle.std.proofs.Common.{sym, ◌∙◌}
 use Rattle.esync_words.specs.Commands.{command}
-use Rattle.esync_words.proofs.Played.{nothing_so_far, more_so_far, kept_so_far, ends_so, ends_untold, handed_on, says_words, at_end, is_there, unreadable, unsaid}
+use Rattle.esync_words.proofs.Played.{nothing_so_far, more_so_far, kept_so_far, ends_so, ends_untold, handed_on, says_words, at_end, unreadable, unsaid}
 use Rattle.esync_words.proofs.play.play.Goals as goal
 
 pub loop-init : goal.loop-init
@@ -34,16 +34,14 @@ pub returns-in_err-tell-clause-played : goal.returns-in_err-tell-clause-played
 returns-in_err-tell-clause-played g c =
     let l = c.in_ok-line.ensures in
     let o = handed_on c.from_residual-in_err-tell.result c.in_err-tell.field-0.0 c.from_residual-in_err-tell.ensures in
-    let there = is_there g.R.ByteSource.longest c.read.new.self _ _ c.in_ok-read.ensures.line c.if-not-branch.false in
     let said = says_words g.R.ByteSource.longest (command g.V.Vocabulary.asks g.V.Vocabulary.calls) c.in_ok-line.line.now l.1 l.2 ∙ rw c.of.ensures at (sym c.read_command.ensures ∙ c.in-Some.is) in
-    rw o (ends_untold (kept_so_far c.loop.invariant _ c.read.ensures.output) g.R.ByteSource.longest c.read.new.self c.in_ok-line.line.now there l.0 l.2 said c.step-reply.ensures g.met.M.Machine.idle c.in_err-tell.ensures.err)
+    rw o (ends_untold (kept_so_far c.loop.invariant _ c.read.ensures.output) g.R.ByteSource.longest c.read.new.self c.in_ok-line.line.now c.in_ok-read.ensures.line c.if-not-branch.false l.0 l.2 said c.step-reply.ensures g.met.M.Machine.idle c.in_err-tell.ensures.err)
 
 pub loop-preserved : goal.loop-preserved
 loop-preserved g c =
     let l = c.in_ok-line.ensures in
-    let there = is_there g.R.ByteSource.longest c.read.new.self _ _ c.in_ok-read.ensures.line c.if-not-branch.false in
     let said = says_words g.R.ByteSource.longest (command g.V.Vocabulary.asks g.V.Vocabulary.calls) c.in_ok-line.line.now l.1 l.2 ∙ rw c.of.ensures at (sym c.read_command.ensures ∙ c.in-Some.is) in
-    more_so_far (kept_so_far c.loop.invariant _ c.read.ensures.output) g.R.ByteSource.longest c.read.new.self c.in_ok-line.line.now there l.0 l.2 said c.step-reply.ensures _ c.read.ensures.number (rw (← c.number-number.ensures, ← c.given_by-giver.ensures, ← c.answer.ensures, ← c.wakers.ensures) c.in_ok-tell.ensures.ok) (c.in_ok-look.ensures.noted ∙ rw (← c.given_by-giver.ensures, ← c.answer.ensures, ← c.wakers.ensures) c.in_ok-tell.ensures.noted)
+    more_so_far (kept_so_far c.loop.invariant _ c.read.ensures.output) g.R.ByteSource.longest c.read.new.self c.in_ok-line.line.now c.in_ok-read.ensures.line c.if-not-branch.false l.0 l.2 said c.step-reply.ensures _ c.read.ensures.number (rw (← c.number-number.ensures, ← c.given_by-giver.ensures, ← c.answer.ensures, ← c.wakers.ensures) c.in_ok-tell.ensures.ok) (c.in_ok-look.ensures.noted ∙ rw (← c.given_by-giver.ensures, ← c.answer.ensures, ← c.wakers.ensures) c.in_ok-tell.ensures.noted)
 
 pub returns-clause-played : goal.returns-clause-played
 returns-clause-played g c = ends_so c.loop.invariant g.met.M.Machine.idle (λ r e. tt)
@@ -52,6 +50,5 @@ pub returns-in_err-look-clause-played : goal.returns-in_err-look-clause-played
 returns-in_err-look-clause-played g c =
     let l = c.in_ok-line.ensures in
     let o = handed_on c.from_residual-in_err-look.result c.in_err-look.field-0.0 c.from_residual-in_err-look.ensures in
-    let there = is_there g.R.ByteSource.longest c.read.new.self _ _ c.in_ok-read.ensures.line c.if-not-branch.false in
     let said = says_words g.R.ByteSource.longest (command g.V.Vocabulary.asks g.V.Vocabulary.calls) c.in_ok-line.line.now l.1 l.2 ∙ rw c.of.ensures at (sym c.read_command.ensures ∙ c.in-Some.is) in
-    rw o (ends_untold (kept_so_far c.loop.invariant _ c.read.ensures.output) g.R.ByteSource.longest c.read.new.self c.in_ok-line.line.now there l.0 l.2 said c.step-reply.ensures g.met.M.Machine.idle c.in_err-look.ensures.err)
+    rw o (ends_untold (kept_so_far c.loop.invariant _ c.read.ensures.output) g.R.ByteSource.longest c.read.new.self c.in_ok-line.line.now c.in_ok-read.ensures.line c.if-not-branch.false l.0 l.2 said c.step-reply.ensures g.met.M.Machine.idle c.in_err-look.ensures.err)
